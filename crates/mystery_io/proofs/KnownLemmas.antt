@@ -1,0 +1,41 @@
+-- Pieces of told bytes, one after another.
+use Rattle.std.proofs.Common.{◌≡◌, ℕ, ◌+◌, ◌++◌, List, length, take, drop, Option, Some, None, refl, ap, append_assoc, sym, ◌∙◌, arith, ◌<◌, ◌≤◌}
+use Rattle.std.proofs.Math.Seq.{take-add}
+use Rattle.std.specs.Prelude.{IfSome, Result, Ok, Err, OnOk, OnErr}
+use Rattle.mystery_io.specs.Counts.{HasCause}
+use Rattle.mystery_io.specs.Fronts.{AppendsFront, Sends}
+use Rattle.std.proofs.lemmas.List.{take_all, append-nil, length-append}
+use Rattle.std.specs.Io.KnownBytes.{append_known, prepend_known, IsAtEnd}
+
+-- two pieces are one
+pub known_append_twice : (w : Option (List ℕ)) (a b : List ℕ) → append_known (append_known w a) b ≡ append_known w (a ++ b)
+known_append_twice None a b = refl
+known_append_twice (Some xs) a b = ap Some (append_assoc xs a b)
+
+-- after n bytes of xs, the next m
+pub known_append_more : (old mid new : Option (List ℕ)) (xs rest : List ℕ) (n m : ℕ) → new ≡ append_known mid (take m rest) → mid ≡ append_known old (take n xs) → rest ≡ drop n xs → new ≡ append_known old (take (n + m) xs)
+known_append_more old mid new xs rest n m last before left =
+    last ∙ ap (λ w. append_known w (take m rest)) before ∙ known_append_twice old (take n xs) (take m rest)
+    ∙ ap (λ r. append_known old (take n xs ++ take m r)) left ∙ ap (append_known old) (sym (take-add n m xs))
+
+-- where nothing is left, all was read
+pub prepend_at_end : (a b : List ℕ) (l m : Option (List ℕ)) → prepend_known a l ≡ prepend_known b m → IsAtEnd m → IfSome l (λ xs. b ≡ a ++ xs)
+prepend_at_end a b None m e h = tt
+prepend_at_end a b (Some xs) None e h = cc
+prepend_at_end a b (Some xs) (Some ys) e h = let k : a ++ xs ≡ b ++ ys = cc in sym (append-nil b) ∙ sym (ap (λ ys. b ++ ys) h) ∙ sym k
+
+-- what was sent, whatever the call answered
+pub sends_by : {T E : Type 0} (r : Result T E) (old new : Option (List ℕ)) (bytes : List ℕ) (before now : ℕ) → OnOk r (new ≡ append_known old bytes)
+    → OnErr r (AppendsFront old new bytes) → HasCause before now r → Sends old new bytes before now
+sends_by (Ok x) old new bytes before now all part cause = record {
+  count = length bytes;
+  sent = all ∙ ap (append_known old) (sym (take_all (length bytes) bytes (omega arith)));
+  whole = λ h. absurd (omega (arith, h));
+  later = cause.later;
+}
+sends_by (Err e) old new bytes before now all part cause = record {
+  count = part.count;
+  sent = part.appended;
+  whole = λ h. cause.failed;
+  later = cause.later;
+}

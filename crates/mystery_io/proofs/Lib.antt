@@ -1,0 +1,4 @@
+pub mod FaultLemmas
+pub mod KnownLemmas
+pub mod NamedLemmas
+pub mod InputLemmas

@@ -1,0 +1,15 @@
+-- The input: the bytes of files, one file after another, each ending its last line.
+use Rattle.std.specs.Prelude.{ℕ, ◌-◌, List, [], ◌∷◌, ◌++◌, ◌==◌, ◌||◌, length, slice_index, Bool, if◌then◌else◌}
+use Rattle.std.specs.List.{flat_map}
+
+-- the bytes are none, or their last is a line feed
+abbrev pub ends_line : List ℕ → Bool
+ends_line bytes = length bytes == 0 || slice_index bytes (length bytes - 1) == 10
+
+-- the bytes, and a line feed where they end in an unfinished line
+abbrev pub ended : List ℕ → List ℕ
+ended bytes = if ends_line bytes then bytes else bytes ++ 10 ∷ []
+
+-- the input of a list of names: the ended contents of each, in this order
+abbrev pub input_of : (List ℕ → List ℕ) → List (List ℕ) → List ℕ
+input_of contents names = flat_map (λ name. ended (contents name)) names

@@ -1,0 +1,14 @@
+/// A gate that a worker passes before each trace that it offers.
+pub trait Gate {
+    /// Lets the worker pass, perhaps after waiting. `trace` is the number of the trace in the
+    /// worker's list, from 0.
+    fn turn(&self, worker: u32, trace: u32);
+}
+
+/// A gate that is always open.
+#[derive(Clone, Copy, Debug)]
+pub struct OpenGate;
+
+impl Gate for OpenGate {
+    fn turn(&self, _worker: u32, _trace: u32) {}
+}

@@ -1,0 +1,115 @@
+ghost use Rattle.std.specs.Prelude.{◌≡◌, ◌≤◌, ◌++◌, [], Some, None, length, take, drop, min, is_some, slice_get, MatchOption};
+ghost use Rattle.mystery_io.specs.NamedBytes.{file_named, bytes_named, bytes_at, size_at};
+
+use crate::MemFile;
+use std::marker::Model;
+
+/// Files in memory of which one may be open.
+#[derive(Debug, Drop)]
+pub(crate) struct NamedFiles {
+    files: Vec<MemFile>,
+    opened: Option<usize>,
+    left: usize,
+}
+
+impl Model for NamedFiles {
+    ghost use Rattle.mystery_io.specs.FilesState.{OpenState};
+    ghost use Rattle.mystery_io.specs.NamedBytes.{left_of, HasBytes};
+
+    ghost Value = { OpenState };
+
+    ghost view = { λ a. record {
+      files = a.files.items;
+      left = left_of a.files.items a.opened a.left;
+    } };
+
+    ghost invariant = { λ a. HasBytes a.files.items a.opened a.left };
+}
+
+impl NamedFiles {
+    /// Files of which none is open.
+    pub(crate) fn new(files: Vec<MemFile>) -> NamedFiles
+        ensures { result ≡ record { files = files.items; left = [] } }
+    {
+        NamedFiles {
+            files,
+            opened: None,
+            left: 0,
+        }
+    }
+
+    /// Opens the first file with this name, or none, and says whether there is one.
+    pub(crate) fn open(&mut self, name: &str) -> bool
+        ensures found { result ≡ is_some (file_named self.old.files name.now) }
+        ensures opened { self.new ≡ record self.old { left = bytes_named self.old.files name.now } }
+    {
+        self.opened = place_of(&self.files, name);
+        self.left = size_at(&self.files, self.opened);
+        self.opened.is_some()
+    }
+
+    /// Leaves no file open.
+    pub(crate) fn close(&mut self)
+        ensures { self.new ≡ record self.old { left = [] } }
+    {
+        self.opened = None;
+        self.left = 0;
+    }
+
+    /// Reads the next bytes, at most so many, into the front of `into`, and says how many.
+    pub(crate) fn read(&mut self, most: usize, into: &mut [u8]) -> usize
+        ensures count { result ≡ min (min most (length self.old.left)) (length into.old) }
+        ensures takes { take result into.new ≡ take result self.old.left }
+        ensures left { self.new ≡ record self.old { left = drop result self.old.left } }
+    {
+        let rest = self.rest();
+        let count = most.min(rest.len()).min(into.len());
+        into[..count].copy_from_slice(&rest[..count]);
+        self.skip(count);
+        count
+    }
+
+    // What is left of the file that is open.
+    fn rest(&self) -> &[u8]
+        ensures { result.now ≡ self.now.left }
+    {
+        let Some(place) = self.opened else {
+            return &[];
+        };
+        match self.files.get(place) {
+            None => &[],
+            Some(file) => {
+                let bytes = file.bytes.items();
+                &bytes[bytes.len() - self.left..]
+            }
+        }
+    }
+
+    fn skip(&mut self, count: usize)
+        requires { count ≤ length self.old.left }
+        ensures { self.new ≡ record self.old { left = drop count self.old.left } }
+    {
+        self.left -= count;
+    }
+}
+
+// The place of the first file with this name.
+fn place_of(files: &[MemFile], name: &str) -> Option<usize>
+    ensures { MatchOption result (file_named files.now name.now ≡ None) (λ i. (file : MemFile) × (slice_get files.now i ≡ Some file) × (file_named files.now name.now ≡ Some file)) }
+{
+    for (i, file) in files.iter().enumerate() {
+        if file.name.as_str() == name {
+            return Some(i);
+        }
+    }
+    None
+}
+
+// How many bytes the file that is open has.
+fn size_at(files: &[MemFile], place: Option<usize>) -> usize
+    ensures { result ≡ size_at files.now place }
+{
+    place
+        .and_then(|i| files.get(i))
+        .map_or(0, |file| file.bytes.items().len())
+}

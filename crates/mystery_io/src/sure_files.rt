@@ -1,0 +1,79 @@
+ghost use Rattle.std.specs.Prelude.{◌≡◌, ◌<◌, ◌≤◌, List, ℕ, [], Some, true, length, take, min, IfOk, OnOk, OnErr, is_ok};
+ghost use Rattle.std.specs.Io.KnownBytes.{prepend_known, IsAtEnd};
+ghost use Rattle.mystery_io.specs.Counts.{counted_up, HasCause};
+ghost use Rattle.mystery_io.specs.NamedBytes.{bytes_named};
+
+use crate::named_files::NamedFiles;
+use crate::{Failed, Files, MemFile};
+use std::marker::Model;
+
+/// Files in memory that tell what they hold and never fail: a name that is not there is an empty
+/// file.
+#[derive(Debug, Drop)]
+pub struct SureFiles {
+    files: NamedFiles,
+    opens: u64,
+}
+
+impl Model for SureFiles {
+    ghost use Rattle.mystery_io.specs.FilesState.{SureState};
+
+    ghost Value = { SureState };
+
+    ghost view = { λ a. record {
+      files = a.files.files;
+      left = a.files.left;
+      opens = a.opens;
+    } };
+}
+
+impl SureFiles {
+    /// These files, of which none is open.
+    pub fn new(files: Vec<MemFile>) -> SureFiles
+        ensures { result ≡ record { files = files.items; left = []; opens = 0 } }
+    {
+        SureFiles {
+            files: NamedFiles::new(files),
+            opens: 0,
+        }
+    }
+}
+
+impl Files for SureFiles {
+    ghost contents = { λ s. Some (bytes_named s.files) };
+
+    ghost left = { λ s. Some s.left };
+
+    ghost opens = { λ s. s.opens };
+
+    ghost faults = { λ _. 0 };
+
+    fn open(&mut self, name: &str) -> Result<(), Failed>
+        ensures contents { Some (bytes_named self.new.files) ≡ Some (bytes_named self.old.files) }
+        ensures opened { OnOk result (Some self.new.left ≡ Some (bytes_named self.old.files name.now)) }
+        ensures closed { OnErr result (Some self.new.left ≡ Some []) }
+        ensures counted { self.new.opens ≡ counted_up self.old.opens }
+        ensures cause { HasCause 0 0 result }
+        ensures sure { is_ok result ≡ true }
+        ensures same { self.new.files ≡ self.old.files }
+    {
+        self.opens = self.opens.saturating_add(1);
+        self.files.open(name);
+        Ok(())
+    }
+
+    fn read(&mut self, into: &mut [u8]) -> Result<usize, Failed>
+        requires { 0 < length into.old }
+        ensures contents { Some (bytes_named self.new.files) ≡ Some (bytes_named self.old.files) }
+        ensures within { IfOk result (λ n. n ≤ length into.new) }
+        ensures takes { IfOk result (λ n. Some self.old.left ≡ prepend_known (take n into.new) (Some self.new.left)) }
+        ensures end { IfOk result (λ n. n ≡ 0 → IsAtEnd (Some self.new.left)) }
+        ensures stays { OnErr result (Some self.new.left ≡ Some self.old.left) }
+        ensures counted { self.new.opens ≡ self.old.opens }
+        ensures cause { HasCause 0 0 result }
+        ensures sure { is_ok result ≡ true }
+        ensures same { self.new.files ≡ self.old.files }
+    {
+        Ok(self.files.read(into.len(), into))
+    }
+}
