@@ -1,0 +1,4 @@
+pub mod Reasons
+pub mod Cut
+pub mod Whole
+pub mod Blank
