@@ -1,5 +1,5 @@
 -- What a whole input says, by what each of its lines says.
-use Rattle.std.specs.Prelude.{ℕ, ◌+◌, ◌≡◌, List, [], ◌∷◌, ◌++◌, Result, Ok, Err, if◌then◌else◌, ⊤}
+use Rattle.std.specs.Prelude.{ℕ, ◌+◌, ◌≡◌, List, [], ◌∷◌, ◌++◌, Result, Ok, Err, MatchResult, if◌then◌else◌, ⊤}
 use Rattle.event_lines.specs.declared.why.Why.{Why}
 use Rattle.event_lines.specs.declared.line.Line.{Line}
 use Rattle.event_lines.specs.declared.line_error.LineError.{LineError}
@@ -38,3 +38,7 @@ whole judge bytes = reading judge 1 (lines_of bytes)
 abbrev pub TellsBad : Result (List Line) LineError → LineError → Type 0
 TellsBad said Memory = ⊤
 TellsBad said (Bad line why) = said ≡ Err (Bad line why)
+
+-- what is said stands behind what was there
+abbrev pub Adds : Result (List Line) LineError → List Line → List Line → Type 0
+Adds said old new = MatchResult said (λ lines. new ≡ old ++ lines) (λ _. ⊥)

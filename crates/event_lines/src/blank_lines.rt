@@ -1,27 +1,15 @@
 ghost use Rattle.std.specs.Prelude.{◌≡◌, ◌≤◌, length, Ok, IfOk, IfErr};
-ghost use Rattle.event_lines.specs.Cut.{is_feed, is_space};
 ghost use Rattle.event_lines.specs.Whole.{TellsBad};
 ghost use Rattle.event_lines.specs.Blank.{blank_lines_of};
 
+use crate::bytes::{is_feed, is_space};
 use crate::{Line, LineError, Why};
 use std::alloc::Global;
-
-fn is_feed(byte: u8) -> bool
-    ensures { result ≡ is_feed byte }
-{
-    byte == b'\n'
-}
-
-fn is_space(byte: u8) -> bool
-    ensures { result ≡ is_space byte }
-{
-    byte == b' ' || byte == b'\t' || byte == b'\r'
-}
 
 /// Reads an input of blank lines: every line that is not blank is bad, since it is not built.
 ///
 /// It takes no memory, so `Memory` does not come.
-pub fn read_lines(alloc: Global, bytes: &[u8]) -> Result<Vec<Line>, LineError>
+pub fn read_blank_lines(alloc: Global, bytes: &[u8]) -> Result<Vec<Line>, LineError>
     requires { length bytes.now ≤ 67108864 }
     ensures lines_read { IfOk result (λ v. blank_lines_of bytes.now ≡ Ok v.items) }
     ensures first_bad { IfErr result (TellsBad (blank_lines_of bytes.now)) }

@@ -2,7 +2,7 @@ use Rattle.std.proofs.Common.{◌≡◌, ◌+◌, ◌≤◌, drop}
 use Rattle.event_lines.specs.Cut.{lines_of}
 use Rattle.event_lines.specs.Whole.{reading}
 use Rattle.event_lines.specs.Blank.{not_built, blank_lines_of}
-use Rattle.event_lines.proofs.blank_lines.read_lines.Given as goal
+use Rattle.event_lines.proofs.blank_lines.read_blank_lines.Given as goal
 
 -- what the bytes to come say, the line that they begin in having this number, is what all say
 abbrev pub invariant-bytes : goal.invariant-bytes
