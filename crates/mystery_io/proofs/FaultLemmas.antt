@@ -1,5 +1,5 @@
 -- What a fault after some bytes tells of the whole.
-use Rattle.std.proofs.Common.{◌≡◌, ℕ, ◌+◌, ◌-◌, ◌^◌, ◌≤◌, ◌<◌, List, [], length, take, get_or, min, Option, None, Some, arith, ap, refl, sym, ◌∙◌}
+use Rattle.std.proofs.Common.{◌≡◌, ℕ, ◌+◌, ◌≤◌, ◌<◌, List, [], length, take, get_or, Option, None, Some, arith, ap, sym, ◌∙◌}
 use Rattle.std.specs.Prelude.{IfSome, option_map, ◌++◌}
 use Rattle.std.specs.Io.KnownBytes.{prepend_known}
 use Rattle.std.proofs.lemmas.List.{length-append, get_or_default}
@@ -7,7 +7,7 @@ use Rattle.mystery_io.specs.declared.reading.ReadFault.{ReadFault}
 use Rattle.mystery_io.specs.declared.reading.ReadFault.TheVariants.{Memory, File, TooBig}
 use Rattle.mystery_io.specs.declared.reading.TheConstants.{MAX_INPUT}
 use Rattle.mystery_io.specs.Counts.{CountsCalls, counted_up}
-use Rattle.mystery_io.specs.Input.{input_of, ended, ends_line}
+use Rattle.mystery_io.specs.Input.{input_of, ended}
 use Rattle.mystery_io.specs.ReadFaults.{PassesSize, FitsBefore, HasFileCause, HasEndedCause, HasReadCause, FilesSeen}
 use Rattle.mystery_io.proofs.InputLemmas.{input_more, input_front}
 

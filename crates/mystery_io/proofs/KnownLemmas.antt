@@ -1,10 +1,10 @@
 -- Pieces of told bytes, one after another.
-use Rattle.std.proofs.Common.{◌≡◌, ℕ, ◌+◌, ◌++◌, List, length, take, drop, Option, Some, None, refl, ap, append_assoc, sym, ◌∙◌, arith, ◌<◌, ◌≤◌}
+use Rattle.std.proofs.Common.{◌≡◌, ℕ, ◌+◌, ◌++◌, List, length, take, drop, Option, Some, None, refl, ap, append_assoc, sym, ◌∙◌, arith}
 use Rattle.std.proofs.Math.Seq.{take-add}
 use Rattle.std.specs.Prelude.{IfSome, Result, Ok, Err, OnOk, OnErr}
 use Rattle.mystery_io.specs.Counts.{HasCause}
 use Rattle.mystery_io.specs.Fronts.{AppendsFront, Sends}
-use Rattle.std.proofs.lemmas.List.{take_all, append-nil, length-append}
+use Rattle.std.proofs.lemmas.List.{take_all, append-nil}
 use Rattle.std.specs.Io.KnownBytes.{append_known, prepend_known, IsAtEnd}
 
 -- two pieces are one

@@ -1,5 +1,5 @@
 -- The bytes of files in memory by name.
-use Rattle.std.specs.Prelude.{ℕ, List, [], Bool, Option, find, drop, length, ◌-◌, ◌≤◌, ◌≡◌}
+use Rattle.std.specs.Prelude.{ℕ, List, [], Option, find, drop, length, ◌-◌, ◌≤◌, ◌≡◌}
 use Rattle.std.specs.Option.{option_map_or}
 use Rattle.std.specs.Prelude.{Some, None, slice_get}
 use Rattle.std.specs.Str.{bytes_eq}

@@ -1,0 +1,4 @@
+pub mod Blank
+pub mod Cut
+pub mod JsonOf
+pub mod Rows

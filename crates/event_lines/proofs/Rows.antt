@@ -1,0 +1,113 @@
+-- Single lines, and what the definition says of them.
+use Rattle.std.proofs.Common.{◌≡◌, ℕ, List, [], ◌∷◌, ◌++◌, map, replicate, Result, Ok, Err, codes, None, Some, refl}
+use Rattle.std.specs.Str.{is_utf8, chars}
+use Rattle.serde_json.proofs.OnLiterals.{serde_json_on_literals}
+use Rattle.event_lines.specs.declared.why.Why.{Why}
+use Rattle.event_lines.specs.declared.why.Why.TheVariants.{NotJson, Missing, WrongKind, OutOfRange, BadText, NotBuilt}
+use Rattle.event_lines.specs.declared.line.Line.{Line}
+use Rattle.event_lines.specs.declared.line.Line.TheVariants.{Event}
+use Rattle.event_lines.specs.Judged.{judged}
+
+-- an object with these members
+abbrev object : List ℕ → List ℕ
+object members = codes "{" ++ members ++ codes "}"
+
+-- an event line with four texts and these members
+abbrev line : List ℕ → List ℕ
+line members = object (codes "\"request\":\"r\",\"machine\":\"m\",\"task\":\"t\",\"event\":\"e\"" ++ members)
+
+-- an event line with this text as its task
+abbrev task : List ℕ → List ℕ
+task text = object (codes "\"request\":\"r\",\"machine\":\"m\",\"task\":\"" ++ text ++ codes "\",\"event\":\"e\",\"time\":0")
+
+abbrev said : List ℕ → Result Line Why
+said = judged 1
+
+no_objects : map said (codes "[]" ∷ codes "5" ∷ codes "{" ∷ codes "x" ∷ codes "{} {}" ∷ (codes "{\"a\":\"" ++ 255 ∷ codes "\"}") ∷ [])
+    ≡ replicate 6 (Err NotJson)
+unfolding serde_json_on_literals is_utf8 chars
+no_objects = refl
+
+missing : map said (
+    codes "{}"
+    ∷ object (codes "\"machine\":\"m\",\"task\":\"t\",\"event\":\"e\",\"time\":0")
+    ∷ object (codes "\"request\":\"r\",\"task\":\"t\",\"event\":\"e\",\"time\":0")
+    ∷ object (codes "\"request\":\"r\",\"machine\":\"m\",\"event\":\"e\",\"time\":0")
+    ∷ object (codes "\"request\":\"r\",\"machine\":\"m\",\"task\":\"t\",\"time\":0")
+    ∷ line []
+    ∷ line (codes ",\"nanos\":null")
+    ∷ object (codes "\"request\":5,\"machine\":\"\",\"task\":\"t\",\"time\":-1")
+    ∷ []) ≡ replicate 8 (Err Missing)
+unfolding serde_json_on_literals is_utf8 chars
+missing = refl
+
+wrong_kind : map said (
+    line (codes ",\"time\":\"5\"")
+    ∷ line (codes ",\"time\":true")
+    ∷ line (codes ",\"time\":null")
+    ∷ line (codes ",\"time\":18446744073709551616")
+    ∷ line (codes ",\"time\":5,\"nanos\":\"5\"")
+    ∷ line (codes ",\"time\":0,\"send\":5")
+    ∷ line (codes ",\"time\":0,\"recv\":[]")
+    ∷ object (codes "\"request\":null,\"machine\":\"m\",\"task\":\"t\",\"event\":\"e\",\"time\":0")
+    ∷ object (codes "\"request\":\"r\",\"machine\":5,\"task\":\"\",\"event\":\"e\",\"time\":-1")
+    ∷ []) ≡ replicate 9 (Err WrongKind)
+unfolding serde_json_on_literals is_utf8 chars
+wrong_kind = refl
+
+out_of_range : map said (
+    line (codes ",\"time\":-1")
+    ∷ line (codes ",\"time\":4102444800000001")
+    ∷ line (codes ",\"time\":18446744073709551615")
+    ∷ line (codes ",\"nanos\":4102444800000000001")
+    ∷ line (codes ",\"nanos\":-1,\"time\":0")
+    ∷ line (codes ",\"time\":-1,\"send\":\"\"")
+    ∷ []) ≡ replicate 6 (Err OutOfRange)
+unfolding serde_json_on_literals is_utf8 chars
+out_of_range = refl
+
+bad_text : map said (
+    task []
+    ∷ task (replicate 65 120)
+    ∷ task (replicate 63 120 ++ 195 ∷ 169 ∷ [])
+    ∷ task (127 ∷ [])
+    ∷ task (codes "\\u0000")
+    ∷ task (codes "\\n")
+    ∷ line (codes ",\"time\":0,\"send\":\"\"")
+    ∷ line (codes ",\"time\":0,\"recv\":\"\\u001f\"")
+    ∷ []) ≡ replicate 8 (Err BadText)
+unfolding serde_json_on_literals is_utf8 chars
+bad_text = refl
+
+not_built : map said (
+    object (codes "\"do\":\"add\"")
+    ∷ object (codes "\"do\":null")
+    ∷ object (codes "\"request\":\"r\",\"machine\":\"m\",\"task\":\"t\",\"event\":\"e@\",\"time\":0")
+    ∷ []) ≡ replicate 3 (Err NotBuilt)
+unfolding serde_json_on_literals is_utf8 chars
+not_built = refl
+
+-- the time of a good line
+abbrev at_time : ℕ → Result Line Why
+at_time t = Ok (Event (record { line = 1; request = codes "r"; machine = codes "m"; task = codes "t"; event = codes "e"; time = t; send = None; recv = None }))
+
+good : map said (
+    line (codes ",\"time\":0")
+    ∷ line (codes ",\"time\":4102444800000000,\"nanos\":null")
+    ∷ line (codes ",\"nanos\":4102444800000000000,\"time\":\"x\"")
+    ∷ line (codes ",\"nanos\":1500")
+    ∷ line (codes ",\"time\":5,\"send\":null,\"other\":[{}]")
+    ∷ [])
+    ≡ at_time 0 ∷ at_time 4102444800000000000 ∷ at_time 4102444800000000000 ∷ at_time 1500 ∷ at_time 5000 ∷ []
+unfolding serde_json_on_literals is_utf8 chars
+good = refl
+
+messages : judged 7 (line (codes ",\"time\":1,\"send\":\"x\",\"recv\":\"y\""))
+    ≡ Ok (Event (record { line = 7; request = codes "r"; machine = codes "m"; task = codes "t"; event = codes "e"; time = 1000; send = Some (codes "x"); recv = Some (codes "y") }))
+unfolding serde_json_on_literals is_utf8 chars
+messages = refl
+
+longest : said (task (replicate 62 120 ++ 195 ∷ 169 ∷ []))
+    ≡ Ok (Event (record { line = 1; request = codes "r"; machine = codes "m"; task = replicate 62 120 ++ 195 ∷ 169 ∷ []; event = codes "e"; time = 0; send = None; recv = None }))
+unfolding serde_json_on_literals is_utf8 chars
+longest = refl

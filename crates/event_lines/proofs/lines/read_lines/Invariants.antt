@@ -1,0 +1,16 @@
+use Rattle.std.proofs.Common.{◌≡◌, ◌+◌, ◌-◌, ◌≤◌, length, drop, Ok}
+use Rattle.event_lines.specs.Cut.{lines_of}
+use Rattle.event_lines.specs.Whole.{and_then, reading}
+use Rattle.event_lines.specs.Judged.{judged, lines_said}
+use Rattle.event_lines.proofs.lines.read_lines.Given as goal
+
+-- the lines so far and those of the rest are those of all
+abbrev pub invariant-lines : goal.invariant-lines
+invariant-lines l = record {
+  within : l.start ≤ length l.bytes;
+  few : l.number ≤ l.start + 1;
+  told : and_then (Ok l.lines.items) (reading judged l.number (lines_of (drop l.start l.bytes))) ≡ lines_said l.bytes;
+}
+
+abbrev pub decreases-lines : goal.decreases-lines
+decreases-lines l = length l.bytes - l.start
