@@ -1,0 +1,30 @@
+use Rattle.std.proofs.Common.{arith, ap, sym, ◌∙◌, Some, refl}
+use Rattle.mystery_cli.specs.CommandLines.{plain}
+use Rattle.mystery_cli.proofs.EndingLemmas.{in_grammar, files_named, front_of_nothing, cause_too_big, cause_of_ends, writes_of_ends, read_input}
+use Rattle.mystery_cli.proofs.program.perform.Goals as goal
+
+pub returns-in-Err-Memory-clause-writes : goal.returns-in-Err-Memory-clause-writes
+returns-in-Err-Memory-clause-writes g c = front_of_nothing (g.F.Files.contents c.args.files.now) c.args.words.now (g.S.Sink.written c.args.out.now) (g.S.Sink.written c.args.out.now) refl
+
+pub returns-in-Err-TooBig-clause-cause : goal.returns-in-Err-TooBig-clause-cause
+returns-in-Err-TooBig-clause-cause g c =
+    let call = plain c.in-Some.line in
+    let known = c.in-Some.ensures.call in (
+      in_grammar c.args.words.now call known,
+      cause_too_big (g.F.Files.contents c.args.files.now) c.args.words.now c.in-Some.line.files.now (in_grammar c.args.words.now call known) (files_named c.args.words.now call known)
+          (rw c.in-Err-TooBig.field-0-is at c.in-Err-TooBig.ensures.cause),
+    )
+
+pub returns-in-Ok-clause-cause : goal.returns-in-Ok-clause-cause
+returns-in-Ok-clause-cause g c =
+    let call = plain c.in-Some.line in
+    let known = c.in-Some.ensures.call in
+    cause_of_ends c.print_text.result _ c.in-Ok.input.items (in_grammar c.args.words.now call known) (rw (files_named c.args.words.now call known) c.in-Ok.ensures.opens) c.in-Ok.ensures.fits
+    (read_input (g.F.Files.contents c.args.files.now) c.args.words.now c.in-Some.line.files.now c.in-Ok.input.items (files_named c.args.words.now call known) c.in-Ok.ensures.input) (rw (← c.deref.ensures.value) c.print_text.ensures.ends)
+
+pub returns-in-Ok-clause-writes : goal.returns-in-Ok-clause-writes
+returns-in-Ok-clause-writes g c =
+    let call = plain c.in-Some.line in
+    let known = c.in-Some.ensures.call in
+    writes_of_ends c.print_text.result _ c.in-Ok.input.items (in_grammar c.args.words.now call known) c.in-Ok.ensures.fits
+    (read_input (g.F.Files.contents c.args.files.now) c.args.words.now c.in-Some.line.files.now c.in-Ok.input.items (files_named c.args.words.now call known) c.in-Ok.ensures.input) (rw (← c.deref.ensures.value) c.print_text.ensures.ends)

@@ -1,0 +1,48 @@
+//! The program `mystery`: it learns from logged events how the segments of requests depend on each
+//! other. `run` is the whole program over any files, sinks and gate; `main` gives it the real ones.
+#![tactic(auto)]
+
+mod command_line;
+mod outcome;
+mod program;
+
+use mystery_io::{OpenGate, RealFiles, RealSink, send_text};
+pub use outcome::Outcome;
+pub use program::run;
+use std::alloc::{AllocError, Global};
+use std::env;
+use std::io::ErrorKind;
+use std::process::ExitCode;
+use trace_types::Text;
+
+#[cfg(test)]
+mod tests;
+
+// The words after the program's name. Where an argument is not UTF-8, the words are one empty word.
+fn words_of(rt: &HostRuntime, alloc: Global) -> Result<Vec<Text>, AllocError> {
+    let mut words = Vec::new(alloc);
+    match env::args(rt) {
+        Ok(args) => {
+            for arg in args.skip(1) {
+                words.push(Text::new(alloc, arg.as_str())?)?;
+            }
+        }
+        Err(e) if e.kind() == ErrorKind::OutOfMemory => return Err(AllocError),
+        Err(_) => words.push(Text::new(alloc, "")?)?,
+    }
+    Ok(words)
+}
+
+fn main(rt: HostRuntime) -> ExitCode {
+    let alloc = rt.alloc();
+    let mut files = RealFiles::new(&rt);
+    let mut out = RealSink::new(rt.stdout());
+    let mut err = RealSink::new(rt.stderr());
+    let Ok(words) = words_of(&rt, alloc) else {
+        send_text(&mut err, Outcome::Memory.message().as_str().as_bytes());
+        return ExitCode::from(Outcome::Memory.status());
+    };
+    ExitCode::from(run(
+        &rt, alloc, &words, &mut files, &mut out, &mut err, &OpenGate,
+    ))
+}
