@@ -1,2 +1,4 @@
 pub mod Batch
 pub mod EventLines
+pub mod SegmentLists
+pub mod Segments

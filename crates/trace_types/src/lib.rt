@@ -1,14 +1,20 @@
-//! The words that the other crates share: texts, logged events, and the trace that the events of
-//! one request make. Each is seen by contracts as plain data: a text as its list of bytes, a list
-//! type as its list.
+//! The words that the other crates share: texts, logged events, the trace that the events of one
+//! request make, and the segments that it is cut into. Each is seen by contracts as plain data: a
+//! text as its list of bytes, a list type as its list.
 #![tactic(auto)]
 
 mod event;
 mod event_list;
 mod raw_trace;
+mod segment;
+mod segment_list;
 mod text;
+mod trace;
 
 pub use event::Event;
 pub use event_list::EventList;
 pub use raw_trace::RawTrace;
+pub use segment::Segment;
+pub use segment_list::SegmentList;
 pub use text::Text;
+pub use trace::Trace;

@@ -1,0 +1,42 @@
+ghost use Rattle.std.specs.Prelude.{◌≡◌};
+
+use crate::Segment;
+use std::marker::Model;
+
+/// Segments in order, seen as their list.
+#[derive(Debug, Drop)]
+pub struct SegmentList {
+    items: Vec<Segment>,
+}
+
+impl Model for SegmentList {
+    ghost use Rattle.std.specs.Prelude.{List};
+    ghost use Rattle.trace_types.specs.declared.segment.Segment.{Segment};
+
+    ghost Value = { List Segment };
+
+    ghost view = { λ a. a.items.items };
+}
+
+impl SegmentList {
+    /// The list of these segments. It takes no memory.
+    pub fn of(items: Vec<Segment>) -> SegmentList
+        ensures { result ≡ items.items }
+    {
+        SegmentList { items }
+    }
+
+    /// The segments, by place.
+    pub fn items(&self) -> &[Segment]
+        ensures { result.now ≡ self.now }
+    {
+        &self.items
+    }
+
+    /// The segments, given back without taking memory.
+    pub fn into_items(self) -> Vec<Segment>
+        ensures { result.items ≡ self }
+    {
+        self.items
+    }
+}
