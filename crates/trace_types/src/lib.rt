@@ -5,6 +5,7 @@
 
 mod event;
 mod event_list;
+pub mod laws;
 mod raw_trace;
 mod segment;
 mod segment_list;
