@@ -1,7 +1,7 @@
 -- The text of the words and the input.
 use Rattle.std.specs.Prelude.{ℕ, ◌≡◌, List, [], codes}
 use Rattle.mystery_cli.specs.declared.outcome.Outcome.{Outcome}
-use Rattle.mystery_cli.specs.declared.outcome.Outcome.TheVariants.{Done, Memory, Words, BadLine, File, Write, Size}
+use Rattle.mystery_cli.specs.declared.outcome.Outcome.TheVariants.{Done}
 use Rattle.mystery_cli.specs.Endings.{ending_of}
 
 -- the text of a model of no traces

@@ -4,6 +4,7 @@
 
 mod command_line;
 mod outcome;
+mod printing;
 mod program;
 
 use mystery_io::{OpenGate, RealFiles, RealSink, send_text};

@@ -1,4 +1,4 @@
-use Rattle.std.proofs.Common.{arith, ap, sym, ◌∙◌, Some, refl}
+use Rattle.std.proofs.Common.{refl}
 use Rattle.mystery_cli.specs.CommandLines.{plain}
 use Rattle.mystery_cli.proofs.EndingLemmas.{in_grammar, files_named, front_of_nothing, cause_too_big, cause_of_ends, writes_of_ends, read_input}
 use Rattle.mystery_cli.proofs.program.perform.Goals as goal

@@ -1,0 +1,78 @@
+-- Printing one text after another.
+use Rattle.std.proofs.Common.{◌≡◌, ℕ, ◌+◌, ◌-◌, ◌≤◌, min, List, [], ◌∷◌, ◌++◌, length, take, drop, get_or, map, Option, Some, None, arith, refl, sym, ◌∙◌, ap, append_assoc}
+use Rattle.std.proofs.Math.Seq.{take-add}
+use Rattle.std.proofs.lemmas.List.{append-nil, length-append, take_all, take-append-le, drop-append-le, drop-drop, length-drop, take_min}
+use Rattle.std.specs.List.{flat_map, join_with_byte}
+use Rattle.std.specs.Io.KnownBytes.{append_known}
+use Rattle.mystery_io.specs.Fronts.{AppendsFront}
+use Rattle.mystery_cli.specs.Rows.{Prints, field_text}
+use Rattle.mystery_cli.specs.declared.printing.Field.{Field}
+
+append_twice : (w : Option (List ℕ)) (a b : List ℕ) → append_known (append_known w a) b ≡ append_known w (a ++ b)
+append_twice None a b = refl
+append_twice (Some xs) a b = ap Some (append_assoc xs a b)
+
+append_nothing : (w : Option (List ℕ)) → append_known w [] ≡ w
+append_nothing None = refl
+append_nothing (Some xs) = ap Some (append-nil xs)
+
+-- the first c bytes of xs, and then the first d of what is left and of t
+taken : (c d : ℕ) (xs t : List ℕ) → c ≤ length xs → take c xs ++ take d (drop c xs ++ t) ≡ take (c + d) (xs ++ t)
+taken c d xs t le = sym (take-add c d (xs ++ t) ∙ ap (λ a. a ++ take d (drop c (xs ++ t))) (take-append-le c xs t le) ∙ ap (λ a. take c xs ++ take d a) (drop-append-le c xs t le))
+
+left : (c d : ℕ) (xs t : List ℕ) → c ≤ length xs → drop d (drop c xs ++ t) ≡ drop (c + d) (xs ++ t)
+left c d xs t le = ap (drop d) (sym (drop-append-le c xs t le)) ∙ drop-drop d c (xs ++ t)
+
+-- what was written of the one text and of the other is the front of both
+written_more : (before mid now : Option (List ℕ)) (waited between a b : List ℕ) (c d : ℕ) → c ≤ length (waited ++ a) → between ≡ drop c (waited ++ a) → mid ≡ append_known before (take c (waited ++ a)) → now ≡ append_known mid (take d (between ++ b))
+    → now ≡ append_known before (take (c + d) ((waited ++ a) ++ b))
+written_more before mid now waited between a b c d le e m n =
+    n ∙ ap (λ t. append_known mid (take d (t ++ b))) e ∙ ap (λ w. append_known w (take d (drop c (waited ++ a) ++ b))) m
+    ∙ append_twice before (take c (waited ++ a)) (take d (drop c (waited ++ a) ++ b)) ∙ ap (append_known before) (taken c d (waited ++ a) b le)
+
+-- a text and then another are printed as both
+pub prints_more : (before mid now : Option (List ℕ)) (waited between waits a b : List ℕ) → Prints before mid waited between a → Prints mid now between waits b → Prints before now waited waits (a ++ b)
+prints_more before mid now waited between waits a b p q =
+    let both : (waited ++ a) ++ b ≡ waited ++ (a ++ b) = append_assoc waited a b in
+    record {
+      count = p.count + q.count;
+      within = omega (arith, p.within, q.within, ap length p.rest, ap length both, length-append between b, length-append (waited ++ a) b, length-drop p.count (waited ++ a));
+      written = written_more before mid now waited between a b p.count q.count p.within p.rest p.written q.written ∙ ap (λ t. append_known before (take (p.count + q.count) t)) both;
+      rest = q.rest ∙ ap (λ t. drop q.count (t ++ b)) p.rest ∙ left p.count q.count (waited ++ a) b p.within ∙ ap (drop (p.count + q.count)) both;
+    }
+
+-- what was written of a text and of a part of the next is the front of any that goes on so
+pub front_more : (before mid now : Option (List ℕ)) (waited between a b c : List ℕ) → Prints before mid waited between a → AppendsFront mid now (between ++ b) → AppendsFront before now (waited ++ (a ++ (b ++ c)))
+front_more before mid now waited between a b c p f =
+    let n : ℕ = min f.count (length (between ++ b)) in
+    let short : take f.count (between ++ b) ≡ take n (between ++ b) = sym (take_min f.count (between ++ b)) in
+    let few : p.count + n ≤ length ((waited ++ a) ++ b) = omega (arith, p.within, ap length p.rest, length-append between b, length-append (waited ++ a) b, length-drop p.count (waited ++ a)) in
+    let all : ((waited ++ a) ++ b) ++ c ≡ waited ++ (a ++ (b ++ c)) = append_assoc (waited ++ a) b c ∙ append_assoc waited a (b ++ c) in
+    record {
+      count = p.count + n;
+      appended = written_more before mid now waited between a b p.count n p.within p.rest p.written (f.appended ∙ ap (append_known mid) short)
+          ∙ ap (append_known before) (sym (take-append-le (p.count + n) ((waited ++ a) ++ b) c few)) ∙ ap (λ t. append_known before (take (p.count + n) t)) all;
+    }
+
+-- nothing is printed as no text
+pub prints_nothing : (before : Option (List ℕ)) (waits : List ℕ) → Prints before before waits waits []
+prints_nothing before waits = record {
+  count = 0;
+  within = omega arith;
+  written = sym (append_nothing before);
+  rest = sym (append-nil waits);
+}
+
+-- the fields of a row, each but the first behind a tab
+joined : (first : Field) (fields : List Field) → join_with_byte 9 (map field_text (first ∷ fields)) ≡ field_text first ++ flat_map (λ f. 9 ∷ field_text f) fields
+joined first [] = sym (append-nil (field_text first))
+joined first (next ∷ fields) = ap (λ t. field_text first ++ (9 ∷ t)) (joined next fields)
+
+-- the first field, and then the others
+pub joined_from : (fields : List Field) (d : Field) (old mid new : List ℕ) → 1 ≤ length fields → mid ≡ old ++ field_text (get_or fields 0 d) → new ≡ mid ++ flat_map (λ f. 9 ∷ field_text f) (take (length fields - 1) (drop 1 fields))
+    → new ≡ old ++ join_with_byte 9 (map field_text fields)
+joined_from [] d old mid new le e f = absurd (omega (arith, le))
+joined_from (first ∷ fields) d old mid new le e f =
+    let all : take (length (first ∷ fields) - 1) fields ≡ fields = take_all (length (first ∷ fields) - 1) fields (omega arith) in
+    f ∙ ap (λ fs. mid ++ flat_map (λ g. 9 ∷ field_text g) fs) all ∙ ap (λ t. t ++ flat_map (λ g. 9 ∷ field_text g) fields) e
+    ∙ append_assoc old (field_text first) (flat_map (λ g. 9 ∷ field_text g) fields) ∙ ap (λ t. old ++ t) (sym (joined first fields))
