@@ -1,4 +1,9 @@
+pub mod Batch
 pub mod Blank
 pub mod Cut
+pub mod Good
 pub mod JsonOf
+pub mod Rise
 pub mod Rows
+pub mod Table
+pub mod Traces

@@ -1,7 +1,6 @@
 -- The fields that the code keeps of an event line, beside the members that they are.
-use Rattle.std.specs.Prelude.{ℕ, ◌≡◌, ◌*◌, false, codes, Some, option_map, unwrap_or}
+use Rattle.std.specs.Prelude.{◌≡◌, ◌*◌, false, codes, Some, option_map, unwrap_or}
 use Rattle.serde_json.specs.Data.{Data}
-use Rattle.trace_types.specs.declared.event.Event.{Event}
 use Rattle.event_lines.specs.declared.event_fields.EventFields.{EventFields}
 use Rattle.event_lines.specs.Members.{text_at, number_at}
 use Rattle.event_lines.specs.TimeUnits.{unit_of, nanoseconds_in}
@@ -19,16 +18,3 @@ pub record AreFields (f : EventFields) (d : Data) : Type 0 where
   pub time : nanoseconds_in (unit_of d) * unwrap_or (number_at (time_member d) d) 0 ≡ f.time
   pub send : text_at (codes "send") d ≡ option_map (λ s. s.now) f.send
   pub recv : text_at (codes "recv") d ≡ option_map (λ s. s.now) f.recv
-
--- the event that the fields give on line n
-abbrev pub event_from : ℕ → EventFields → Event
-event_from n f = record {
-  line = n;
-  request = f.request.now;
-  machine = f.machine.now;
-  task = f.task.now;
-  event = f.event.now;
-  time = f.time;
-  send = option_map (λ s. s.now) f.send;
-  recv = option_map (λ s. s.now) f.recv;
-}

@@ -1,6 +1,8 @@
 pub mod Blank
 pub mod Cut
 pub mod Fields
+pub mod Gathered
+pub mod Good
 pub mod Judged
 pub mod Members
 pub mod Reasons

@@ -16,7 +16,7 @@ use std::alloc::{AllocError, Global};
 use trace_types::{Event, Text};
 
 /// The members of an event line, where they are there, of their kinds, and in range.
-#[derive(Debug, Drop)]
+#[derive(Drop)]
 pub struct EventFields<'v> {
     pub request: &'v str,
     pub machine: &'v str,
@@ -113,6 +113,7 @@ impl EventFields<'_> {
             recv,
         })
     }
+
     /// The first of the reasons `BadText` and `NotBuilt` that holds.
     pub fn fault(&self) -> Option<Why>
         ensures { (d : Data) → AreFields self.now d → event_fault d ≡ result }

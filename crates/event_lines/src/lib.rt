@@ -6,17 +6,24 @@ mod blank_lines;
 mod bytes;
 mod command;
 mod event_fields;
+mod gathering;
 mod judging;
 mod line;
 mod line_error;
 mod lines;
+mod rising;
 mod text_rules;
 mod time_unit;
 mod why;
 
 pub use blank_lines::read_blank_lines;
 pub use command::Command;
+pub use gathering::gather;
 pub use line::Line;
 pub use line_error::LineError;
 pub use lines::read_lines;
+pub use rising::lines_rise;
 pub use why::Why;
+
+#[cfg(test)]
+mod tests;

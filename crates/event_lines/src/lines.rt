@@ -1,7 +1,8 @@
-ghost use Rattle.std.specs.Prelude.{◌≡◌, ◌≤◌, length, Ok, IfOk, IfErr, OnOk};
+ghost use Rattle.std.specs.Prelude.{◌≡◌, ◌≤◌, All, length, Ok, IfOk, IfErr, OnOk};
 ghost use Rattle.std.specs.List.{position_or_len};
 ghost use Rattle.event_lines.specs.Cut.{is_feed, is_blank};
 ghost use Rattle.event_lines.specs.Whole.{added, Adds, TellsBad};
+ghost use Rattle.event_lines.specs.Good.{IsInRange, NumbersRise};
 ghost use Rattle.event_lines.specs.Judged.{judged, lines_said};
 
 use crate::bytes::is_space;
@@ -21,7 +22,11 @@ fn line_end(bytes: &[u8]) -> usize
     ensures first { position_or_len is_feed bytes.now ≡ result }
     ensures within { result ≤ length bytes.now }
 {
-    memchr(b'\n', bytes).unwrap_or(bytes.len())
+    match bytes.first() {
+        // An empty line is found without the cost of a search.
+        Some(b'\n') => 0,
+        _ => memchr(b'\n', bytes).unwrap_or(bytes.len()),
+    }
 }
 
 // Adds what a line says, unless it is blank.
@@ -47,6 +52,8 @@ pub fn read_lines(alloc: Global, bytes: &[u8]) -> Result<Vec<Line>, LineError>
     requires { length bytes.now ≤ 67108864 }
     ensures lines_read { IfOk result (λ v. lines_said bytes.now ≡ Ok v.items) }
     ensures first_bad { IfErr result (TellsBad (lines_said bytes.now)) }
+    ensures rising { IfOk result (λ v. NumbersRise v.items) }
+    ensures in_range { IfOk result (λ v. All IsInRange v.items) }
 {
     let mut lines = Vec::new(alloc);
     let mut start = 0;
@@ -57,7 +64,7 @@ pub fn read_lines(alloc: Global, bytes: &[u8]) -> Result<Vec<Line>, LineError>
         if end == bytes.len() {
             return Ok(lines);
         }
-        start = end + 1;
         number += 1;
+        start = end + 1;
     }
 }

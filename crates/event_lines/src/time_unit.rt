@@ -6,14 +6,14 @@ ghost use Rattle.event_lines.specs.TimeUnits.{unit_of, member_of, last_of, nanos
 use serde_json::Value;
 
 /// The unit in which an event line tells its time, since 1970.
-#[derive(Clone, Copy, Debug, PartialEq, Eq)]
+#[derive(Clone, Copy)]
 pub enum TimeUnit {
     Microseconds,
     Nanoseconds,
 }
 
 // Whether the member is there and is not null.
-pub fn is_given(value: &Value, name: &str) -> bool
+fn is_given(value: &Value, name: &str) -> bool
     ensures { result ≡ is_given name.now (view value.now) }
 {
     match value.get(name) {

@@ -2,5 +2,5 @@ use Rattle.std.proofs.Common.{sym, ◌∙◌}
 use Rattle.event_lines.proofs.Cut.{end_found}
 use Rattle.event_lines.proofs.lines.line_end.Goals as goal
 
-pub returns-clause-first : goal.returns-clause-first
-returns-clause-first c = end_found c.args.bytes.now c.memchr.result c.memchr.ensures ∙ sym c.unwrap_or.ensures
+pub returns-in_default-clause-first : goal.returns-in_default-clause-first
+returns-in_default-clause-first c = end_found c.args.bytes.now c.memchr.result c.memchr.ensures ∙ sym c.unwrap_or.ensures

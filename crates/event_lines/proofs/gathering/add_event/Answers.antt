@@ -1,0 +1,20 @@
+use Rattle.std.proofs.Common.{◌≡◌, None, [], ap, ◌∙◌}
+use Rattle.std.specs.Str.{bytes_eq}
+use Rattle.std.specs.HashMap.{get_by, keys}
+use Rattle.std.proofs.lemmas.List.Quantifiers.{position-Some}
+use Rattle.indexmap.specs.IndexMap.{insert_entry}
+use Rattle.event_lines.specs.Gathered.{all_gathered}
+use Rattle.event_lines.proofs.Table.{pushed, fresh, none_where_not_some}
+use Rattle.event_lines.proofs.gathering.add_event.Goals as goal
+
+pub returns-in_ok-push-in-Some : goal.returns-in_ok-push-in-Some
+returns-in_ok-push-in-Some c =
+    let at = position-Some (bytes_eq c.args.event.request) (keys c.args.table.now) c.in-Some.index [] (cc (c.in-Some.ensures.index)) in
+    pushed c.args.event c.args.table.now.entries c.in-Some.index c.index_mut.result.now c.push.new.self at.0 at.1 at.2 c.index_mut.ensures.value c.in_ok-push-in-Some.ensures.items
+
+pub returns-in_ok-insert-in-None : goal.returns-in_ok-insert-in-None
+returns-in_ok-insert-in-None c =
+    let absent : get_by (bytes_eq c.args.event.request) c.args.table.now ≡ None = none_where_not_some _ c.in-None.ensures.found in
+    ap all_gathered c.in_ok-insert-in-None.ensures.entries
+    ∙ ap (λ request. all_gathered (insert_entry bytes_eq c.args.table.now.entries request c.in_ok-vec-in-None.field-0)) c.in_ok-request-in-None.ensures
+    ∙ fresh c.args.event c.args.table.now.entries c.in_ok-vec-in-None.field-0 absent c.in_ok-vec-in-None.ensures.items

@@ -1,0 +1,65 @@
+ghost use Rattle.std.specs.Prelude.{◌≡◌, All, IfOk, OnOk, map};
+ghost use Rattle.trace_types.specs.Batch.{plain, traces_of};
+ghost use Rattle.trace_types.specs.EventLines.{LinesRise};
+ghost use Rattle.event_lines.specs.Gathered.{IsTrace, all_gathered, with_event};
+
+use indexmap::IndexMap;
+use std::alloc::{AllocError, Global};
+use trace_types::{Event, EventList, RawTrace, Text};
+
+// Puts an event behind the others of its request, or into a new entry.
+fn add_event(
+    alloc: Global,
+    table: &mut IndexMap<Text, Vec<Event>>,
+    event: Event,
+) -> Result<(), AllocError>
+    ensures { OnOk result (all_gathered table.new.entries ≡ with_event (all_gathered table.old.entries) event) }
+{
+    match table.get_index_of(&event.request) {
+        Some(index) => table[index].push(event)?,
+        None => {
+            let request = event.request.copy(alloc)?;
+            table.insert(request, vec![in alloc; event]?)?;
+        }
+    }
+    Ok(())
+}
+
+// The events of each request, in order of the first event of each.
+fn table_of(alloc: Global, events: Vec<Event>) -> Result<IndexMap<Text, Vec<Event>>, AllocError>
+    ensures { IfOk result (λ t. all_gathered t.entries ≡ traces_of events.items) }
+{
+    let mut table = IndexMap::new(alloc);
+    for event in events {
+        add_event(alloc, &mut table, event)?;
+    }
+    Ok(table)
+}
+
+// The entries of the table as traces.
+fn into_traces(
+    alloc: Global,
+    table: IndexMap<Text, Vec<Event>>,
+) -> Result<Vec<RawTrace>, AllocError>
+    requires { All IsTrace (all_gathered table.entries) }
+    ensures { IfOk result (λ v. map plain v.items ≡ all_gathered table.entries) }
+{
+    let mut traces = Vec::new(alloc);
+    for (request, events) in table {
+        let events = EventList::of(events);
+        traces.push(RawTrace { request, events })?;
+    }
+    Ok(traces)
+}
+
+/// The traces of one batch of events: for each request all its events, in the order of the
+/// batch. Traces stand in the order of their first events. The only error is want of memory.
+///
+/// The events of `read_lines` rise as asked; of others [`lines_rise`](crate::lines_rise) tells.
+pub fn gather(alloc: Global, events: Vec<Event>) -> Result<Vec<RawTrace>, AllocError>
+    requires rising { LinesRise events.items }
+    ensures traces { IfOk result (λ v. map plain v.items ≡ traces_of events.items) }
+{
+    let table = table_of(alloc, events)?;
+    into_traces(alloc, table)
+}

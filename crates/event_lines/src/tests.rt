@@ -1,0 +1,200 @@
+use crate::{Line, LineError, Why, gather, lines_rise, read_blank_lines, read_lines};
+use std::alloc::Global;
+use std::test::Fail;
+use trace_types::{Event, Text};
+
+// The first bad line of a short input, and its reason.
+fn fault_of(alloc: Global, bytes: &[u8]) -> Option<(u32, &'static str)> {
+    if bytes.len() > 1000 {
+        return None;
+    }
+    match read_lines(alloc, bytes).err()? {
+        LineError::Memory => None,
+        LineError::Bad { line, why } => Some((line, why.as_str())),
+    }
+}
+
+// The times of the events of a short input.
+fn times_of(alloc: Global, bytes: &[u8]) -> Result<Vec<u64>, LineError> {
+    let mut times = Vec::new(alloc);
+    if bytes.len() > 1000 {
+        return Ok(times);
+    }
+    for line in read_lines(alloc, bytes)? {
+        if let Line::Event { event } = line {
+            times.push(event.time)?;
+        }
+    }
+    Ok(times)
+}
+
+// A reason, and a line that is bad for it, though some also have faults that come later.
+const BAD: &str = r#"
+not a JSON object|[]
+not a JSON object|x
+not a JSON object|{"do":"add"
+not a JSON object|{} {}
+not a JSON object|{"task":"\ud800"}
+missing member|{}
+missing member|{"machine":"m","task":"a","event":"s","time":0}
+missing member|{"request":"r1","task":"a","event":"s","time":0}
+missing member|{"request":"r1","machine":"m","event":"s","time":0}
+missing member|{"request":"r1","machine":"m","task":"a","time":0}
+missing member|{"request":"r1","machine":"m","task":"a","event":"s"}
+missing member|{"request":"r1","machine":5,"task":"","time":-1}
+missing member|{"request":"r1","machine":"m","task":"a","event":"s","nanos":null}
+wrong kind|{"request":"r1","machine":"m","task":"a","event":"s","time":"5"}
+wrong kind|{"request":"r1","machine":"m","task":"a","event":"s","time":true}
+wrong kind|{"request":"r1","machine":"m","task":"a","event":"s","time":null}
+wrong kind|{"request":null,"machine":"m","task":"a","event":"s","time":0}
+wrong kind|{"request":"r1","machine":[],"task":"a","event":"s","time":0}
+wrong kind|{"request":"r1","machine":"m","task":{},"event":"s","time":0}
+wrong kind|{"request":"r1","machine":"","task":"a","event":7,"time":-1}
+wrong kind|{"request":"r1","machine":"m","task":"a","event":"s","time":0,"send":5}
+wrong kind|{"request":"r1","machine":"m","task":"a","event":"s","time":0,"recv":false}
+wrong kind|{"request":"r1","machine":"m","task":"a","event":"s","time":0,"nanos":"5"}
+out of range|{"request":"r1","machine":"m","task":"a","event":"s","time":-1}
+out of range|{"request":"r1","machine":"m","task":"","event":"s","time":4102444800000001}
+out of range|{"request":"r1","machine":"m","task":"a","event":"s","time":0,"nanos":-1}
+out of range|{"request":"r1","machine":"m","task":"a","event":"s","nanos":4102444800000000001}
+bad text|{"request":"","machine":"m","task":"a","event":"s","time":0}
+bad text|{"request":"r1","machine":"","task":"a","event":"s","time":0}
+bad text|{"request":"r1","machine":"m","task":"\u001f","event":"s","time":0}
+bad text|{"request":"r1","machine":"m","task":"a","event":"\n@","time":0}
+bad text|{"request":"r1","machine":"m","task":"a","event":"s","time":0,"send":""}
+bad text|{"request":"r1","machine":"m","task":"a","event":"s","time":0,"recv":"\u007f"}
+not built|{"request":"r1","machine":"m","task":"a","event":"s@x","time":0}
+not built|{"do":"add"}
+not built|{"do":5}
+"#;
+
+// A time in nanoseconds, and a good line that has it.
+const GOOD: &str = r#"
+0|{"request":"r1","machine":"m","task":"a","event":"s","time":0}
+4102444800000000000|{"request":"r1","machine":"m","task":"a","event":"s","time":4102444800000000}
+5000|{"request":"r1","machine":"m","task":"a","event":"s","time":5,"send":null,"nanos":null}
+1500|{"request":"r1","machine":"m","task":"a","event":"s","time":"x","nanos":1500}
+0|{"request":"r1","machine":"m","task":"a","event":"s","time":-1,"nanos":0}
+4102444800000000000| {"nanos":4102444800000000000,"request":"r1","machine":"\u0080","task":"\u00e9","event":"s","recv":"x","more":[{}]}
+"#;
+
+#[test]
+fn a_bad_line_has_the_first_reason_that_holds(rt: HostRuntime) -> Result<(), Fail> {
+    let mut rows = 0usize;
+    for row in BAD.lines() {
+        if let Some((reason, line)) = row.split_once('|') {
+            rows = rows.wrapping_add(1);
+            let found = fault_of(rt.alloc(), line.as_bytes()).ok_or("a fault")?;
+            assert_eq!(rt; found, (1, reason), "{line}");
+        }
+    }
+    assert_eq!(rt; rows, 36);
+    Ok(())
+}
+
+#[test]
+fn a_good_line_gives_its_time_in_nanoseconds(rt: HostRuntime) -> Result<(), Fail> {
+    for row in GOOD.lines() {
+        if let Some((time, line)) = row.split_once('|') {
+            let times = times_of(rt.alloc(), line.as_bytes()).ok().ok_or("good")?;
+            assert_eq!(rt;
+                times.as_slice(),
+                [time.parse::<u64>()?].as_slice(),
+                "{line}"
+            );
+        }
+    }
+    Ok(())
+}
+
+#[test]
+fn texts_have_at_most_64_bytes_and_values_at_most_127_levels(rt: HostRuntime) -> Result<(), Fail> {
+    for (text, times, nested, fault) in [
+        ("x", 64, 0, None),
+        ("x", 65, 0, Some((1, "bad text"))),
+        ("\u{e9}", 32, 0, None),
+        ("\u{e9}", 33, 0, Some((1, "bad text"))),
+        ("x", 1, 126, None),
+        ("x", 1, 127, Some((1, "not a JSON object"))),
+    ] {
+        let task = text.repeat(rt.alloc(), times)?;
+        let opened = "[".repeat(rt.alloc(), nested)?;
+        let closed = "]".repeat(rt.alloc(), nested)?;
+        let line = format!(in rt.alloc();
+            "{{\"request\":\"r1\",\"machine\":\"m\",\"task\":\"{task}\",\"event\":\"s\",\"time\":0,\"more\":{opened}0{closed}}}"
+        )?;
+        assert_eq!(rt;
+            fault_of(rt.alloc(), line.as_str().as_bytes()),
+            fault,
+            "{line}"
+        );
+    }
+    Ok(())
+}
+
+#[test]
+fn bytes_that_are_no_text_are_no_object(rt: HostRuntime) {
+    let fault = Some((1, "not a JSON object"));
+    assert_eq!(rt; fault_of(rt.alloc(), b"{\"a\":\"\xff\"}"), fault);
+    assert_eq!(rt; fault_of(rt.alloc(), b"{\"a\":\"\t\"}"), fault);
+}
+
+#[test]
+fn blank_lines_count_in_the_numbering(rt: HostRuntime) -> Result<(), Fail> {
+    let input =
+        b"\n \t\r\n{\"request\":\"r1\",\"machine\":\"m\",\"task\":\"a\",\"event\":\"s\",\"time\":7}\r\n\n[]\n{}\n";
+    assert_eq!(rt; fault_of(rt.alloc(), input), Some((5, "not a JSON object")));
+    assert_eq!(rt;
+        times_of(rt.alloc(), &input[..70])
+            .ok()
+            .ok_or("good")?
+            .as_slice(),
+        [7000].as_slice()
+    );
+    let bad = Some(LineError::Bad {
+        line: 3,
+        why: Why::NotBuilt,
+    });
+    assert_eq!(rt; read_blank_lines(rt.alloc(), b"\n \t\r\n{}\n[]").err(), bad);
+    assert_eq!(rt;
+        read_blank_lines(rt.alloc(), b" \n\n")
+            .ok()
+            .ok_or("blank")?
+            .len(),
+        0
+    );
+    Ok(())
+}
+
+fn event(alloc: Global, line: u32, request: &str) -> Result<Event, Fail> {
+    Ok(Event {
+        line,
+        request: Text::new(alloc, request)?,
+        machine: Text::new(alloc, "m")?,
+        task: Text::new(alloc, "a")?,
+        event: Text::new(alloc, "s")?,
+        time: 0,
+        send: None,
+        recv: None,
+    })
+}
+
+#[test]
+fn a_trace_has_all_events_of_a_request_and_traces_stand_by_their_first(
+    rt: HostRuntime,
+) -> Result<(), Fail> {
+    let mut events = Vec::new(rt.alloc());
+    for (line, request) in [(3, "b"), (5, "a"), (6, "b"), (9, "c"), (12, "a")] {
+        events.push(event(rt.alloc(), line, request)?)?;
+    }
+    assert!(rt; lines_rise(events.as_slice()));
+    let mut gathered = Vec::new(rt.alloc());
+    for trace in gather(rt.alloc(), events)? {
+        for event in trace.events.items() {
+            gathered.push(format!(in rt.alloc(); "{} {}", trace.request.as_str(), event.line)?)?;
+        }
+    }
+    let gathered = gathered.join(rt.alloc(), ",")?;
+    assert_eq!(rt; gathered.as_str(), "b 3,b 6,a 5,a 12,c 9");
+    Ok(())
+}
