@@ -1,0 +1,11 @@
+pub mod Unique
+pub mod Outward
+pub mod PlaceLemmas
+pub mod NumberLemmas
+pub mod MessageLemmas
+pub mod TimeLemmas
+pub mod LinkLemmas
+pub mod LeastLemmas
+pub mod WidenLemmas
+pub mod SettleLemmas
+pub mod SpreadLemmas

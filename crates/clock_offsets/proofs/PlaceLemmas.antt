@@ -1,0 +1,87 @@
+-- A map from texts to places, filled event by event.
+use Rattle.std.proofs.Common.{◌≡◌, ℕ, ◌+◌, ◌<◌, ◌≤◌, Bool, true, false, cond, Option, Some, None, is_some, List, length, get_or, arith, refl, sym, subst, ap, ◌∙◌, ⊎_elim}
+use Rattle.std.specs.Borrow.{Bor}
+use Rattle.std.specs.BTreeMap.{BTreeMap}
+use Rattle.std.specs.Str.{bytes_eq}
+use Rattle.std.proofs.lemmas.Bool.{cases_lt}
+use Rattle.std.proofs.lemmas.List.{get_or-map, length-map}
+use Rattle.std.proofs.lemmas.Slice.Eq.{bytes_eq-Decides}
+use Rattle.trace_types.specs.declared.event.Event.{Event}
+use Rattle.clock_offsets.specs.declared.places.End.{End}
+use Rattle.clock_offsets.specs.Placing.{key_of, keys_of, place_in, ArePlaces}
+use Rattle.clock_offsets.specs.Repeats.{IsRepeated, IsFirstRepeat, AreDistinct}
+
+-- the key of the event at n
+pub key_at : (end : End) (events : List Event) (n : ℕ) (e : Event) → n < length events → e ≡ get_or events n e → get_or (keys_of end events) n None ≡ key_of end e
+key_at end events n e l is = get_or-map (key_of end) events n e None l ∙ ap (key_of end) (sym is)
+
+-- one key more, where the event has none
+pub places_skip : (keys : List (Option (List ℕ))) (n : ℕ) (m : BTreeMap (Bor (List ℕ)) ℕ) → ArePlaces keys n m → get_or keys n None ≡ None → ArePlaces keys (n + 1) m
+places_skip keys n m a none = record {
+  right = λ text p h. let r = a.right text p h in let lt : p < n = r.0 in (omega arith, r.1);
+  all = λ text p lt h. ⊎_elim
+      (λ (below : p < n). a.all text p below h)
+      (λ (above : n ≤ p). let same : p ≡ n = omega arith in let k : get_or keys p None ≡ get_or keys n None = ap (λ i. get_or keys i None) same in cc)
+      (cases_lt p n);
+}
+
+-- one key more, where the map got its place
+pub places_put : (keys : List (Option (List ℕ))) (n : ℕ) (t : List ℕ) (m w : BTreeMap (Bor (List ℕ)) ℕ) → ArePlaces keys n m → get_or keys n None ≡ Some t → place_in m t ≡ None
+    → ((q : List ℕ) → place_in w q ≡ cond (bytes_eq t q) (Some n) (place_in m q)) → ArePlaces keys (n + 1) w
+places_put keys n t m w a key absent put = record {
+  right = λ text p h. right text p (bytes_eq t text) refl (sym (put text) ∙ h);
+  all = λ text p lt h. ⊎_elim
+      (λ (below : p < n). put text ∙ other text p (a.all text p below h) (bytes_eq t text) refl)
+      (λ (above : n ≤ p).
+      let same : p ≡ n = omega arith in
+      let k : get_or keys p None ≡ get_or keys n None = ap (λ i. get_or keys i None) same in
+      let e : t ≡ text = cc in
+      put text ∙ (ap (λ b. cond b (Some n) (place_in m text)) ((bytes_eq-Decides t text).1 e) ∙ ap Some (sym same)))
+      (cases_lt p n);
+}
+  where
+    right : (text : List ℕ) (p : ℕ) (b : Bool) → bytes_eq t text ≡ b → cond b (Some n) (place_in m text) ≡ Some p → (p < n + 1) × (get_or keys p None ≡ Some text)
+    right text p true e h =
+        let same : n ≡ p = cc in
+        let t_is : t ≡ text = (bytes_eq-Decides t text).0 e in
+        let k : get_or keys p None ≡ get_or keys n None = ap (λ i. get_or keys i None) (sym same) in
+        (omega arith, cc)
+    right text p false e h = let r = a.right text p h in let lt : p < n = r.0 in (omega arith, r.1)
+
+    other : (text : List ℕ) (p : ℕ) → place_in m text ≡ Some p → (b : Bool) → bytes_eq t text ≡ b → cond b (Some n) (place_in m text) ≡ Some p
+    other text p h true e =
+        let t_is : t ≡ text = (bytes_eq-Decides t text).0 e in
+        let k : place_in m t ≡ place_in m text = ap (place_in m) t_is in
+        cc
+    other text p h false e = h
+
+-- a key that the map has already is the first that stands at an earlier place too
+pub first_repeat : (keys : List (Option (List ℕ))) (n : ℕ) (t : List ℕ) (m : BTreeMap (Bor (List ℕ)) ℕ) → ArePlaces keys n m → n < length keys → get_or keys n None ≡ Some t → is_some (place_in m t) ≡ true → IsFirstRepeat keys n
+first_repeat keys n t m a l key there = (
+  at (place_in m t) refl there,
+  λ j lt (i, k, before, within, ki, kj).
+      let pi : place_in m k ≡ Some i = a.all k i (omega arith) ki in
+      let pj : place_in m k ≡ Some j = a.all k j lt kj in
+      let same : i ≡ j = cc in
+      absurd (omega arith),
+)
+  where
+    at : (o : Option ℕ) → place_in m t ≡ o → is_some o ≡ true → IsRepeated keys n
+    at None e h = cc
+    at (Some j) e h = let r = a.right t j e in (j, t, r.0, l, r.1, key)
+
+-- where the map has the place of each key, the keys differ
+pub places_distinct : (keys : List (Option (List ℕ))) (m : BTreeMap (Bor (List ℕ)) ℕ) → ArePlaces keys (length keys) m → AreDistinct keys
+places_distinct keys m a = λ k (j, key, before, within, kj, kk).
+    let pj : place_in m key ≡ Some j = a.all key j (omega arith) kj in
+    let pk : place_in m key ≡ Some k = a.all key k within kk in
+    let same : j ≡ k = cc in
+    absurd (omega arith)
+
+-- what is not there is None
+pub none_from_is_some : {X : Type 0} (o : Option X) → is_some o ≡ false → o ≡ None
+none_from_is_some None h = refl
+none_from_is_some (Some x) h = cc
+
+pub events_distinct : (end : End) (events : List Event) (m : BTreeMap (Bor (List ℕ)) ℕ) → ArePlaces (keys_of end events) (length events) m → AreDistinct (keys_of end events)
+events_distinct end events m a = places_distinct (keys_of end events) m (subst (λ (n : ℕ). ArePlaces (keys_of end events) n m) (sym (length-map events (key_of end))) a)

@@ -1,0 +1,6 @@
+use Rattle.std.proofs.Common.{◌≡◌, [], replicate}
+use Rattle.clock_offsets.specs.Spreading.{links_of}
+use Rattle.clock_offsets.proofs.links.no_links.Given as goal
+
+abbrev pub invariant-loop-at : goal.invariant-loop-at
+invariant-loop-at l = links_of l.links.items ≡ replicate l._at []

@@ -1,0 +1,11 @@
+pub mod Times
+pub mod Machines
+pub mod Messages
+pub mod Levels
+pub mod Offsets
+pub mod Repeats
+pub mod Faults
+pub mod Spreading
+pub mod Placing
+pub mod Sending
+pub mod Linking
