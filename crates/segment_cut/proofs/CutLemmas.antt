@@ -1,0 +1,148 @@
+-- What a trace keeps follows from what its segments are.
+use Rattle.std.proofs.Common.{◌≡◌, ℕ, zero, suc, ◌+◌, ◌<◌, ◌≤◌, ℤ, ◌≤ℤ◌, Some, List, [], ◌∷◌, ◌++◌, length, get_or, take, All, arith, refl, sym, ap, ◌∙◌, subst, ⊎_elim, inl, inr}
+use Rattle.std.specs.List.{AllZip}
+use Rattle.std.proofs.lemmas.Bool.{cases_lt}
+use Rattle.std.proofs.lemmas.Int.{ints}
+use Rattle.std.proofs.lemmas.List.{get_or-map, length-map, take_more}
+use Rattle.std.proofs.lemmas.List.Elements.{All-get_or, All-weaker}
+use Rattle.trace_types.specs.declared.event.Event.{Event}
+use Rattle.trace_types.specs.declared.segment.Segment.{Segment}
+use Rattle.trace_types.specs.Segments.{name_of, task_of, start_of, end_of}
+use Rattle.trace_types.specs.SegmentLists.{NamesDiffer, TasksStandTogether, JoinInTasks}
+use Rattle.clock_offsets.specs.Repeats.{AreDistinct, IsRepeated}
+use Rattle.segment_cut.specs.Places.{task_at, name_at, time_at, named_events}
+use Rattle.segment_cut.specs.Adjusting.{adjusted_at}
+use Rattle.segment_cut.specs.Neighbours.{IsBefore, AreNeighbours, IsListedBefore, AreAllNeighbours}
+use Rattle.segment_cut.specs.Cutting.{IsSegment}
+use Rattle.segment_cut.specs.Working.{ArePlacesInOrder}
+use Rattle.segment_cut.proofs.NamingLemmas.{named_at}
+
+-- the task and the name of an event, by its place
+pub task_is : (events : List Event) (k : ℕ) (e : Event) → k < length events → e ≡ get_or events k e → e.task ≡ task_at events k
+task_is events k e lt is = ap (λ (x : Event). x.task) is ∙ sym (get_or-map (λ (x : Event). x.task) events k e [] lt)
+
+pub name_is : (events : List Event) (k : ℕ) (e : Event) → k < length events → e ≡ get_or events k e → e.event ≡ name_at events k
+name_is events k e lt is = ap (λ (x : Event). x.event) is ∙ sym (get_or-map (λ (x : Event). x.event) events k e [] lt)
+
+-- the own time of an event, by its place
+pub time_is : (events : List Event) (k : ℕ) (e : Event) → k < length events → e ≡ get_or events k e → e.time ≡ time_at events k
+time_is events k e lt is = ap (λ (x : Event). x.time) is ∙ sym (get_or-map (λ (x : Event). x.time) events k e 0 lt)
+
+-- the same over a list that is the events
+pub first_time : (events es : List Event) (e : Event) → es ≡ events → 0 < length events → (get_or es 0 e).time ≡ time_at events 0
+first_time events es e is some = ap (λ (xs : List Event). (get_or xs 0 e).time) is ∙ sym (get_or-map (λ (x : Event). x.time) events 0 e 0 some)
+
+pub zip_push : {A B : Type 0} (R : A → B → Type 0) (xs : List A) (ys : List B) (x : A) (y : B) → AllZip R xs ys → R x y → AllZip R (xs ++ x ∷ []) (ys ++ y ∷ [])
+zip_push R [] [] x y z r = (r, tt)
+zip_push R [] (b ∷ ys) x y z r = absurd z
+zip_push R (a ∷ xs) [] x y z r = absurd z
+zip_push R (a ∷ xs) (b ∷ ys) x y z r = (z.0, zip_push R xs ys x y z.1 r)
+
+pub zip_length : {A B : Type 0} (R : A → B → Type 0) (xs : List A) (ys : List B) → AllZip R xs ys → length xs ≡ length ys
+zip_length R [] [] z = refl
+zip_length R [] (b ∷ ys) z = absurd z
+zip_length R (a ∷ xs) [] z = absurd z
+zip_length R (a ∷ xs) (b ∷ ys) z = let e : length xs ≡ length ys = zip_length R xs ys z.1 in omega arith
+
+pub zip_at : {A B : Type 0} (R : A → B → Type 0) (xs : List A) (ys : List B) (k : ℕ) (d : A) (e : B) → AllZip R xs ys → k < length xs → R (get_or xs k d) (get_or ys k e)
+zip_at R [] ys k d e z lt = absurd (omega arith)
+zip_at R (x ∷ xs) [] k d e z lt = absurd z
+zip_at R (x ∷ xs) (y ∷ ys) zero d e z lt = z.0
+zip_at R (x ∷ xs) (y ∷ ys) (suc k) d e z lt = zip_at R xs ys k d e z.1 (omega arith)
+
+-- one segment more
+pub segments_more : (events : List Event) (times : List ℤ) (pairs : List (ℕ × ℕ)) (n : ℕ) (segments : List Segment) (x : ℕ × ℕ) (s : Segment) → n < length pairs → x ≡ get_or pairs n (0, 0) → AllZip (IsSegment events times) (take n pairs) segments → IsSegment events times x s
+    → AllZip (IsSegment events times) (take (n + 1) pairs) (segments ++ s ∷ [])
+segments_more events times pairs n segments x s lt is z here = rw (take_more pairs n (0, 0) lt) (zip_push (IsSegment events times) (take n pairs) segments (get_or pairs n (0, 0)) s z (subst (λ (y : ℕ × ℕ). IsSegment events times y s) is here))
+
+-- the places of a segment are in order
+in_order : (events : List Event) (times : List ℤ) (x : ℕ × ℕ) → AreNeighbours events times x.0 x.1 → ArePlacesInOrder (length events) times x
+in_order events times x n = (n.first, n.second, by n.before)
+  where
+    by : IsBefore times x.0 x.1 → adjusted_at times x.0 ≤ℤ adjusted_at times x.1
+    by (inl low) = omega (arith, ints)
+    by (inr same) = let e : adjusted_at times x.0 ≡ adjusted_at times x.1 = same.0 in omega (arith, ints)
+
+pub places_in_order : (events : List Event) (times : List ℤ) (pairs : List (ℕ × ℕ)) → AreAllNeighbours events times pairs → All (ArePlacesInOrder (length events) times) pairs
+places_in_order events times pairs a = All-weaker (λ x. AreNeighbours events times x.0 x.1) (ArePlacesInOrder (length events) times) (in_order events times) pairs a.right
+
+-- a segment is not listed before itself
+not_itself : (events : List Event) (times : List ℤ) (i : ℕ) → IsListedBefore events times i i → ⊥
+not_itself events times i (inl (f, within, same, none)) = none f (omega arith) same
+not_itself events times i (inr (same, inl low)) = omega (arith, ints)
+not_itself events times i (inr (same, inr both)) = let lt : i < i = both.1 in omega arith
+
+listed_apart : (events : List Event) (times : List ℤ) (i j : ℕ) → IsListedBefore events times i j → i ≡ j → ⊥
+listed_apart events times i j l e = not_itself events times i (subst (λ (k : ℕ). IsListedBefore events times i k) (sym e) l)
+
+-- two events have not both task and name alike
+named_apart : (events : List Event) (i j : ℕ) → AreDistinct (named_events events) → i < length events → j < length events → task_at events i ≡ task_at events j → name_at events i ≡ name_at events j → i ≡ j
+named_apart events i j d li lj t m = ⊎_elim
+    (λ (low : i < j). absurd (d j (repeats i j low lj t m)))
+    (λ (high : j ≤ i). ⊎_elim
+    (λ (below : j < i). absurd (d i (repeats j i below li (sym t) (sym m))))
+    (λ (over : i ≤ j). omega arith)
+    (cases_lt j i))
+    (cases_lt i j)
+  where
+    repeats : (a b : ℕ) → a < b → b < length events → task_at events a ≡ task_at events b → name_at events a ≡ name_at events b → IsRepeated (named_events events) b
+    repeats a b lt lb t m = (
+      a,
+      (task_at events b, name_at events b),
+      lt,
+      simp length-map lb,
+      named_at events a (omega arith) ∙ (ap (λ (x : List ℕ). Some (x, name_at events a)) t ∙ ap (λ (y : List ℕ). Some (task_at events b, y)) m),
+      named_at events b lb,
+    )
+
+module _ (events : List Event) (times : List ℤ) (pairs : List (ℕ × ℕ)) (segments : List Segment) (n : AreAllNeighbours events times pairs) (z : AllZip (IsSegment events times) pairs segments) where
+  count : length pairs ≡ length segments
+  count = zip_length (IsSegment events times) pairs segments z
+
+  at : (k : ℕ) (d : Segment) → k < length pairs → IsSegment events times (get_or pairs k (0, 0)) (get_or segments k d)
+  at k d lt = zip_at (IsSegment events times) pairs segments k (0, 0) d z lt
+
+  right : (k : ℕ) → k < length pairs → AreNeighbours events times (get_or pairs k (0, 0)).0 (get_or pairs k (0, 0)).1
+  right k lt = All-get_or (λ x. AreNeighbours events times x.0 x.1) pairs k (0, 0) lt n.right
+
+  pub names_differ : AreDistinct (named_events events) → NamesDiffer name_of segments
+  names_differ distinct i j d lt within same =
+      let c : length pairs ≡ length segments = count in
+      let li : i < length pairs = omega arith in
+      let lj : j < length pairs = omega arith in
+      let si = at i d li in
+      let sj = at j d lj in
+      let t : task_at events (get_or pairs i (0, 0)).0 ≡ task_at events (get_or pairs j (0, 0)).0 = sym si.task ∙ (ap (λ (x : List ℕ × List ℕ × List ℕ). x.0) same ∙ sj.task) in
+      let m : name_at events (get_or pairs i (0, 0)).0 ≡ name_at events (get_or pairs j (0, 0)).0 = sym si.start_event ∙ (ap (λ (x : List ℕ × List ℕ × List ℕ). x.1) same ∙ sj.start_event) in
+      listed_apart events times (get_or pairs i (0, 0)).0 (get_or pairs j (0, 0)).0 (n.order i j (0, 0) lt lj)
+      (named_apart events (get_or pairs i (0, 0)).0 (get_or pairs j (0, 0)).0 distinct (right i li).first (right j lj).first t m)
+
+  pub together : TasksStandTogether task_of segments
+  together i j k d lij ljk within same =
+      let c : length pairs ≡ length segments = count in
+      let li : i < length pairs = omega arith in
+      let lj : j < length pairs = omega arith in
+      let lk : k < length pairs = omega arith in
+      let t : task_at events (get_or pairs i (0, 0)).0 ≡ task_at events (get_or pairs k (0, 0)).0 = sym (at i d li).task ∙ (same ∙ (at k d lk).task) in
+      (at j d lj).task ∙ (by (get_or pairs i (0, 0)).0 (get_or pairs j (0, 0)).0 (get_or pairs k (0, 0)).0 t (n.order i j (0, 0) lij lj) (n.order j k (0, 0) ljk lk) ∙ sym (at k d lk).task)
+    where
+      by : (a b c : ℕ) → task_at events a ≡ task_at events c → IsListedBefore events times a b → IsListedBefore events times b c → task_at events b ≡ task_at events c
+      by a b c same (inr ab) bc = sym ab.0 ∙ same
+      by a b c same (inl ab) (inr bc) = bc.0
+      by a b c same (inl (f, lf, tf, none_f)) (inl (g, lg, tg, none_g)) = ⊎_elim
+          (λ (low : f < g). absurd (none_g f (omega arith) (tf ∙ same)))
+          (λ (high : g ≤ f). absurd (none_f g high tg))
+          (cases_lt f g)
+
+  pub joined : ((k : ℕ) → k + 1 < length pairs → task_at events (get_or pairs k (0, 0)).0 ≡ task_at events (get_or pairs (k + 1) (0, 0)).0 → (get_or pairs k (0, 0)).1 ≡ (get_or pairs (k + 1) (0, 0)).0) → JoinInTasks task_of start_of end_of segments
+  joined join k d within same =
+      let c : length pairs ≡ length segments = count in
+      let lk : k < length pairs = omega arith in
+      let ln : k + 1 < length pairs = omega arith in
+      let s = at k d lk in
+      let t = at (k + 1) d ln in
+      s.end ∙ (ap (adjusted_at times) (join k ln (sym s.task ∙ (same ∙ t.task))) ∙ sym t.start)
+
+  -- there are no more segments than pairs of events
+  pub few_segments : (most : ℕ) → length pairs ≤ most → length segments ≤ most
+  few_segments most few = let c : length pairs ≡ length segments = count in omega arith

@@ -1,0 +1,9 @@
+pub mod FirstLemmas
+pub mod NamingLemmas
+pub mod TimeLemmas
+pub mod KeyLemmas
+pub mod PairLemmas
+pub mod CutLemmas
+pub mod SpanLemmas
+pub mod ElementLemmas
+pub mod FaultLemmas

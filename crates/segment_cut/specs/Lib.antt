@@ -1,0 +1,7 @@
+pub mod Places
+pub mod Adjusting
+pub mod Neighbours
+pub mod Elements
+pub mod Cutting
+pub mod Refusals
+pub mod Working

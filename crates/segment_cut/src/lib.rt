@@ -1,0 +1,17 @@
+//! The traces of requests, cut into segments by one clock. A trace that cannot be cut has its first
+//! fault as the answer.
+#![tactic(auto)]
+
+mod elements;
+mod first_places;
+mod naming;
+mod neighbours;
+mod ordering;
+mod segments;
+mod span;
+mod times;
+mod trace_cut;
+mod trace_fault;
+
+pub use trace_cut::cut;
+pub use trace_fault::TraceFault;
