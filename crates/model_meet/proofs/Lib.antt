@@ -1,0 +1,7 @@
+pub mod Deciding
+pub mod Elements
+pub mod Growing
+pub mod InOrder
+pub mod NamesOf
+pub mod Pairing
+pub mod Refuters

@@ -1,0 +1,20 @@
+//! The relations that no trace of a list refutes, by the definitions' plain program: for each pair
+//! of names it asks every trace, so that what faster programs answer can be compared with it.
+#![tactic(auto)]
+
+mod distinct_names;
+mod distinct_tasks;
+mod model;
+mod pair_lists;
+mod plain_name;
+mod plain_pair;
+mod plain_pair_list;
+mod refuted;
+mod standing;
+#[cfg(test)]
+mod tests;
+
+pub use model::{PlainModel, plain_model};
+pub use plain_name::PlainName;
+pub use plain_pair::PlainPair;
+pub use plain_pair_list::PlainPairList;

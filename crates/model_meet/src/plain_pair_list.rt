@@ -1,0 +1,42 @@
+ghost use Rattle.std.specs.Prelude.{◌≡◌};
+
+use crate::PlainPair;
+use std::marker::Model;
+
+/// Pairs of names in order, seen as their list.
+#[derive(Debug, Drop)]
+pub struct PlainPairList {
+    items: Vec<PlainPair>,
+}
+
+impl Model for PlainPairList {
+    ghost use Rattle.std.specs.Prelude.{List};
+    ghost use Rattle.model_meet.specs.declared.plain_pair.PlainPair.{PlainPair};
+
+    ghost Value = { List PlainPair };
+
+    ghost view = { λ a. a.items.items };
+}
+
+impl PlainPairList {
+    /// The list of these pairs. It takes no memory.
+    pub fn of(items: Vec<PlainPair>) -> PlainPairList
+        ensures { result ≡ items.items }
+    {
+        PlainPairList { items }
+    }
+
+    /// The pairs, by place.
+    pub fn items(&self) -> &[PlainPair]
+        ensures { result.now ≡ self.now }
+    {
+        &self.items
+    }
+
+    /// The pairs, given back without taking memory.
+    pub fn into_items(self) -> Vec<PlainPair>
+        ensures { result.items ≡ self }
+    {
+        self.items
+    }
+}
