@@ -1,0 +1,11 @@
+pub mod Bits
+pub mod Meets
+pub mod Forms
+pub mod ViewLists
+pub mod Clearing
+pub mod Loading
+pub mod Sharing
+pub mod Opening
+pub mod Closing
+pub mod Machines
+pub mod Worked

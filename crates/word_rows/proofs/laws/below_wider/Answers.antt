@@ -1,0 +1,5 @@
+use Rattle.word_rows.proofs.Meets.{below_wider}
+use Rattle.word_rows.proofs.laws.below_wider.Goals as goal
+
+pub returns : goal.returns
+returns c = below_wider

@@ -1,0 +1,5 @@
+use Rattle.word_rows.proofs.Machines.{opening_is_sound}
+use Rattle.word_rows.proofs.laws.opening_is_sound.Goals as goal
+
+pub returns : goal.returns
+returns c = opening_is_sound

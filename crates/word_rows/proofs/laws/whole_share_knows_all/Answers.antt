@@ -1,0 +1,5 @@
+use Rattle.word_rows.proofs.Closing.{whole_share_knows_all}
+use Rattle.word_rows.proofs.laws.whole_share_knows_all.Goals as goal
+
+pub returns : goal.returns
+returns c = whole_share_knows_all

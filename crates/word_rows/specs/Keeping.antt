@@ -1,0 +1,32 @@
+-- What is promised of the step machine, over the definitions alone.
+use Rattle.std.specs.Prelude.{◌≡◌, ℕ, ◌≤◌, List, length}
+use mathlib.Core.Option.{some}
+use lib.ListN.{get_elem?}
+use Rattle.word_rows.specs.declared.views.View.{View}
+use Rattle.word_rows.specs.Words.{IsMeet, full}
+use Rattle.word_rows.specs.Accounts.{LackOnly}
+use Rattle.word_rows.specs.Changes.{IsIdle}
+use Rattle.word_rows.specs.Sound.{IsSound}
+use Rattle.word_rows.specs.Machine.{StepState, Event, IsSoundState, HasRow, HaveRows, opened, step, after}
+
+-- the state at opening is sound
+abbrev pub OpeningIsSound : Type 0
+OpeningIsSound = (width all : ℕ) → IsSoundState (opened width all)
+
+-- an event, refused or not, keeps a state sound
+abbrev pub StepKeepsSound : Type 0
+StepKeepsSound = (s : StepState) (e : Event) → IsSoundState s → HasRow e → IsSoundState (step s e).0
+
+-- whatever the width, the number of shares and the events are, the state after them is sound
+abbrev pub EventsKeepSound : Type 0
+EventsKeepSound = (width all : ℕ) (events : List Event) → HaveRows events → IsSoundState (after width all events).0
+
+-- what the one view that has all shares knows of the words
+pub record KnowsAll (words : List ℕ) (all : ℕ) (v : View) : Type 0 where
+  pub shares : v.shares ≡ all
+  pub met : IsMeet (full (length words)) v.done words
+  pub readings : LackOnly v.readings v.done
+
+-- where a view with no row in progress has all shares, the words are the full ones met by exactly its done rows, and its readings lack only their bits
+abbrev pub WholeShareKnowsAll : Type 0
+WholeShareKnowsAll = (words : List ℕ) (all : ℕ) (views : List View) (id : ℕ) (v : View) → IsSound words all views → get_elem? views id ≡ some v → IsIdle v → all ≤ v.shares → KnowsAll words all v

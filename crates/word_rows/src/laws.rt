@@ -1,0 +1,72 @@
+//! What follows from the definitions alone. Each law is the contract of a function that does nothing.
+ghost use Rattle.word_rows.specs.Keeping.{EventsKeepSound, OpeningIsSound, StepKeepsSound, WholeShareKnowsAll};
+ghost use Rattle.word_rows.specs.Meeting.{BelowWider, ClearsBelow, CommonIsMeet, ComplementClears, MeetBegins, MeetIsUnique, MeetsFollow, OrderIsFree, WidenedMeet};
+
+/// The state of the step machine at opening is sound.
+pub fn opening_is_sound()
+    ensures { OpeningIsSound }
+{}
+
+/// Each event, refused or not, keeps the state sound.
+pub fn step_keeps_sound()
+    ensures { StepKeepsSound }
+{}
+
+/// Whatever the width, the number of shares and the events are, the state after them is sound.
+pub fn events_keep_sound()
+    ensures { EventsKeepSound }
+{}
+
+/// In a sound state the view that has all shares tells the words by its done rows, and its readings lack only their bits.
+pub fn whole_share_knows_all()
+    ensures { WholeShareKnowsAll }
+{}
+
+/// A row whose words are below a width has them below every greater one.
+pub fn below_wider()
+    ensures { BelowWider }
+{}
+
+/// A row whose words are below a width clears no bit of a word beyond it.
+pub fn clears_below()
+    ensures { ClearsBelow }
+{}
+
+/// The meet of a list of rows does not depend on their order.
+pub fn order_is_free()
+    ensures { OrderIsFree }
+{}
+
+/// Words and rows have one meet.
+pub fn meet_is_unique()
+    ensures { MeetIsUnique }
+{}
+
+/// Words are their own meet with no row.
+#[tactic(auto, using(crate::proofs::Meets::meet_begins))]
+pub fn meet_begins()
+    ensures { MeetBegins }
+{}
+
+/// The meet of a meet is that with both lists of rows.
+#[tactic(auto, using(crate::proofs::Meets::meets_follow))]
+pub fn meets_follow()
+    ensures { MeetsFollow }
+{}
+
+/// What two meets of the same words have in common is the meet with both lists of rows.
+#[tactic(auto, using(crate::proofs::Meets::common_is_meet))]
+pub fn common_is_meet()
+    ensures { CommonIsMeet }
+{}
+
+/// The meet of a widened sheet with rows of the narrower width is the widened meet.
+pub fn widened_meet()
+    ensures { WidenedMeet }
+{}
+
+/// To keep the complement of a mask is to clear the mask.
+#[tactic(auto, using(crate::proofs::Bits::complement_clears))]
+pub fn complement_clears()
+    ensures { ComplementClears }
+{}

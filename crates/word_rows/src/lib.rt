@@ -1,0 +1,13 @@
+//! Rows of bits to be cleared, sheets of words, and the step machine: what single steps of many seats do to shared words, and what holds between any two of them.
+#![tactic(auto)]
+
+mod entries;
+pub mod laws;
+mod sheets;
+#[cfg(test)]
+mod tests;
+mod views;
+
+pub use entries::{Entry, Row};
+pub use sheets::Sheet;
+pub use views::{Reading, View};

@@ -1,0 +1,91 @@
+ghost use Rattle.std.specs.Prelude.{◌≡◌, ◌<◌, ◌↔◌, [], ◌∷◌, length, IfOk, IsTrue};
+ghost use Rattle.word_rows.specs.Rows.{below};
+ghost use Rattle.word_rows.specs.Words.{IsCommon, IsMeet, bit_of, full};
+
+use crate::{Entry, Row};
+use std::alloc::{AllocError, Global};
+use std::marker::Model;
+
+/// A list of words of 64 bits each.
+#[derive(Debug, Drop)]
+pub struct Sheet {
+    words: Vec<u64>,
+}
+
+impl Model for Sheet {
+    ghost use Rattle.std.specs.Prelude.{List, ℕ};
+
+    ghost Value = { List ℕ };
+
+    ghost view = { λ s. s.words.items };
+}
+
+// The words lose the bits of these entries.
+fn clear_entries(words: &mut [u64], entries: &[Entry])
+    requires { IsTrue (below (length words.old) entries.now) }
+    ensures { IsMeet words.old (entries.now ∷ []) words.new }
+{
+    for entry in entries {
+        words[entry.word as usize] &= !entry.mask;
+    }
+}
+
+// The words lose the bits that the others lack.
+fn keep_common(words: &mut [u64], others: &[u64])
+    requires { length others.now ≡ length words.old }
+    ensures { IsCommon words.old others.now words.new }
+{
+    for (index, word) in words.iter_mut().enumerate() {
+        *word &= others[index];
+    }
+}
+
+impl Sheet {
+    /// As many words as the width, with all bits 1.
+    pub fn full(alloc: Global, width: u32) -> Result<Sheet, AllocError>
+        ensures { IfOk result (λ s. s ≡ full width) }
+    {
+        Ok(Sheet {
+            words: Vec::from_elem(alloc, u64::MAX, width as usize)?,
+        })
+    }
+
+    /// The sheet of just these words.
+    pub fn of(words: Vec<u64>) -> Sheet
+        ensures { result ≡ words.items }
+    {
+        Sheet { words }
+    }
+
+    /// The words lose the bits of the row, whose words are all in the sheet.
+    pub fn meet_row(&mut self, row: &Row)
+        requires { IsTrue (below (length self.old) row.now) }
+        ensures { IsMeet self.old (row.now ∷ []) self.new }
+    {
+        clear_entries(self.words.as_mut_slice(), row.entries());
+    }
+
+    /// The words lose the bits that the other sheet, of the same width, lacks.
+    pub fn meet_sheet(&mut self, other: &Sheet)
+        requires { length other.now ≡ length self.old }
+        ensures { IsCommon self.old other.now self.new }
+    {
+        keep_common(self.words.as_mut_slice(), other.words());
+    }
+
+    /// Whether this bit, counted from 0, of this word is 1.
+    pub fn bit(&self, word: u32, bit: u32) -> bool
+        requires word { word < length self.now }
+        requires bit { bit < 64 }
+        ensures { IsTrue result ↔ (bit_of self.now word bit ≡ 1) }
+    {
+        (self.words[word as usize] >> bit) & 1 == 1
+    }
+
+    /// The words.
+    pub fn words(&self) -> &[u64]
+        ensures { result.now ≡ self.now }
+    {
+        self.words.as_slice()
+    }
+}

@@ -1,0 +1,5 @@
+pub mod Lists
+pub mod StepKinds
+pub mod Moves
+pub mod Rows
+pub mod Blocks

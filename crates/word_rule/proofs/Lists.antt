@@ -1,0 +1,41 @@
+-- Lists that are read at a place.
+use Rattle.std.proofs.Common.{◌≡◌, ◌≢◌, ℕ, zero, suc, ◌+◌, ◌<◌, true, false, nat_lt, List, [], ◌∷◌, ◌++◌, length, get_or, set, take, replicate, sym, ap, ◌∙◌, subst, ⊎_elim, arith}
+use Rattle.std.proofs.lemmas.Bool.{and_parts, ltb-true}
+use Rattle.std.proofs.lemmas.List.{take_more, get_or-replicate}
+use Rattle.atomic_table.proofs.Lists.{at_set, at_snoc}
+use mathlib.Core.Option.{some, some-injective, some-ne-none}
+use lib.ListN.{get_elem?}
+use Rattle.word_rows.specs.declared.entries.Entry.{Entry}
+use Rattle.word_rows.specs.declared.views.View.{View}
+use Rattle.word_rows.specs.Rows.{below}
+use Rattle.word_rows.specs.Accounts.{Each}
+
+module _ {A : Type 0} where
+  pub at_or : (l : List A) (i : ℕ) (a d : A) → get_elem? l i ≡ some a → get_or l i d ≡ a
+  at_or [] i a d e = absurd (some-ne-none a (sym e))
+  at_or (x ∷ xs) zero a d e = some-injective x a e
+  at_or (x ∷ xs) (suc i) a d e = at_or xs i a d e
+
+  pub at_inside : (l : List A) (i : ℕ) (a : A) → get_elem? l i ≡ some a → i < length l
+  at_inside [] i a e = absurd (some-ne-none a (sym e))
+  at_inside (x ∷ xs) zero a e = omega arith
+  at_inside (x ∷ xs) (suc i) a e = let h = at_inside xs i a e in omega arith
+
+  pub take_at : (l : List A) (i : ℕ) (a : A) → get_elem? l i ≡ some a → take (i + 1) l ≡ take i l ++ a ∷ []
+  take_at l i a e = take_more l i a (at_inside l i a e) ∙ ap (λ (y : A). take i l ++ y ∷ []) (at_or l i a a e)
+
+-- a seat that has a view is live where all are
+pub live_at : (views : List View) (id : ℕ) (v : View) → get_elem? views id ≡ some v → get_or (replicate (length views) true) id false ≡ true
+live_at views id v e = get_or-replicate (length views) id true false (at_inside views id v e)
+
+pub each_set : (F : View → Type 0) (views : List View) (id : ℕ) (w : View) → F w → Each F views → Each F (set views id w)
+each_set F views id w mine others j u e = ⊎_elim (λ (t : (j ≡ id) × (w ≡ u)). subst F t.1 mine) (λ (t : (j ≢ id) × (get_elem? views j ≡ some u)). others j u t.1) (at_set views id j w u e)
+
+pub each_snoc : (F : View → Type 0) (views : List View) (w : View) → Each F views → F w → Each F (views ++ w ∷ [])
+each_snoc F views w others mine j u e = ⊎_elim (λ (t : get_elem? views j ≡ some u). others j u t) (λ (t : w ≡ u). subst F t mine) (at_snoc views w u j e)
+
+-- an entry of a row whose words are below the width is below it
+pub below_at : (n : ℕ) (row : List Entry) (k : ℕ) (d : Entry) → below n row ≡ true → k < length row → (get_or row k d).word < n
+below_at n [] k d t h = absurd (omega arith)
+below_at n (e ∷ es) zero d t h = let p = and_parts (nat_lt e.word n) (below n es) t in ltb-true e.word n p.0
+below_at n (e ∷ es) (suc k) d t h = let p = and_parts (nat_lt e.word n) (below n es) t in below_at n es k d p.1 (omega arith)

@@ -1,0 +1,39 @@
+-- The rule of a table, and what each kind of step makes of its seat.
+use Rattle.std.specs.Prelude.{◌≡◌, ℕ, ◌^◌, ◌<◌, ◌≤◌, ◌⊎◌, true, List, length}
+use Rattle.std.specs.Int.{bit_at}
+use Rattle.atomic_table.specs.Table.{State, Me, Step}
+use Rattle.word_rows.specs.declared.entries.Entry.{Entry}
+use Rattle.word_rows.specs.declared.views.View.{View}
+use Rattle.word_rows.specs.Words.{IsMeet, full}
+use Rattle.word_rows.specs.Accounts.{Each, LackOnly}
+use Rattle.word_rows.specs.Changes.{empty_view, cleared_next, with_reading}
+use Rattle.word_rows.specs.Sound.{IsSound}
+use Rattle.word_rule.specs.declared.rule.Plan.{Plan}
+use Rattle.word_rule.specs.Shown.{shows}
+
+-- what holds between any two atomic steps: the words and views are sound, there are as many words as were planned, and each view but an empty one carries the number of all shares
+pub record IsRuled (plan : Plan) (s : State (Unit {0}) View) : Type 0 where
+  pub width : length s.words ≡ plan.width
+  pub sound : IsSound s.words plan.all s.views
+  pub fits : plan.all < 2 ^ 32
+  pub carried : Each (λ v. (v.all ≡ plan.all) ⊎ (v ≡ empty_view)) s.views
+
+-- clear: one entry more of the row is cleared
+abbrev pub Clears : List Entry → Step (Unit {0}) → Me (Unit {0}) View → ℕ → Me (Unit {0}) View → Type 0
+Clears row s before found after = after ≡ (cleared_next before.0 row, before.1)
+
+-- load: the word and what was found are the last reading, and it has no bit that the view showed to be cleared
+abbrev pub Loads : Step (Unit {0}) → Me (Unit {0}) View → ℕ → Me (Unit {0}) View → Type 0
+Loads s before found after =
+    (after ≡ (with_reading before.0 s.word found, before.1))
+    × ((b : ℕ) → b < 64 → shows before.0 s.word b ≡ true → bit_at found b ≡ 0)
+
+-- a load that leaves the view as it is: the seat has at most all shares, a number of 32 bits
+abbrev pub Tells : Step (Unit {0}) → Me (Unit {0}) View → ℕ → Me (Unit {0}) View → Type 0
+Tells s before found after = (after ≡ before) × (before.0.shares ≤ before.0.all) × (before.0.all < 2 ^ 32)
+
+-- what a seat that has all shares knows of the words that are left: they are the full ones met by exactly its done rows, and its readings lack only their bits
+pub record IsKnown (plan : Plan) (v : View) (words : List ℕ) : Type 0 where
+  pub shares : v.shares ≡ plan.all
+  pub met : IsMeet (full plan.width) v.done words
+  pub readings : LackOnly v.readings v.done

@@ -1,0 +1,95 @@
+ghost use Rattle.std.specs.Prelude.{◌≡◌, ◌≤◌, [], vec_capacity, IfOk, IfErr};
+ghost use Rattle.std.specs.Mem.Slots.{slots_items, slots_len, IsFull};
+ghost use Rattle.word_rows.specs.Words.{IsMeet, full};
+ghost use Rattle.word_rows.specs.Accounts.{LackOnly};
+ghost use Rattle.word_rows.specs.Changes.{IsIdle};
+ghost use Rattle.word_rule.specs.Holdings.{IsOf};
+ghost use Rattle.word_rule.specs.Ruled.{IsKnown};
+ghost use Rattle.word_rule.specs.Faults.{IsFault};
+
+use crate::passes::Pass;
+use crate::rule::{Keeps, Plan};
+use crate::tables::MeetTable;
+use atomic_table::{Closed as Ended, Seat, Table};
+use std::alloc::Global;
+use word_rows::laws::whole_share_knows_all;
+use word_rows::{Sheet, View};
+
+/// What is left of a table that was closed.
+#[derive(Drop)]
+pub struct Closed {
+    pub words: Sheet,
+}
+
+/// Why a table was not closed. The table and the pass are unchanged.
+#[derive(Drop)]
+pub enum CloseFault {
+    /// There was no memory for the words.
+    Memory {
+        table: MeetTable,
+        pass: Pass,
+    },
+    /// The pass has fewer than all shares.
+    PassesOut {
+        table: MeetTable,
+        pass: Pass,
+        have: u32,
+        all: u32,
+    },
+}
+
+// Copies the words, for which there is room.
+#[tactic(auto, using(crate::proofs::Lists::take_at))]
+fn copy_words(from: &Ended<(), Global>, into: &mut Vec<u64>)
+    requires from { IsFull from.now.words }
+    requires room { (into.old.items ≡ []) × (slots_len from.now.words ≤ vec_capacity into.old) }
+    ensures { into.new.items ≡ slots_items from.now.words }
+{
+    for place in 0..from.words.len() {
+        into.push_reserved(from.word(place));
+    }
+}
+
+// Ends the table. The seat that has all shares knows its words.
+fn end(table: Table<(), View, Plan, Keeps, Global>, seat: Seat<(), View>) -> Ended<(), Global>
+    requires table { seat.table_id ≡ table.shared.table_id }
+    requires seat { IsIdle seat.me.0 × (table.shared.key.all ≤ seat.me.0.shares) }
+    ensures counts { (slots_len result.words ≡ table.shared.table_id.words) × (slots_len result.slots ≡ table.shared.table_id.slots) }
+    ensures full { IsFull result.words × IsFull result.slots }
+    ensures known { IsKnown table.shared.key seat.me.0 (slots_items result.words) }
+{
+    whole_share_knows_all();
+    table.close_with(seat)
+}
+
+impl MeetTable {
+    /// Ends the table, where the pass has all shares, and gives its words.
+    pub fn close(self, alloc: Global, pass: Pass) -> Result<Closed, CloseFault>
+        requires { IsOf self pass }
+        ensures whole { IfOk result (λ _. pass.view.shares ≡ self.all) }
+        ensures words { IfOk result (λ c. IsMeet (full self.width) pass.view.done c.words) }
+        ensures readings { IfOk result (λ _. LackOnly pass.view.readings pass.view.done) }
+        ensures fault { IfErr result (IsFault self pass) }
+    {
+        let (have, all) = (pass.shares(), self.all);
+        if have < all {
+            return Err(CloseFault::PassesOut {
+                table: self,
+                pass,
+                have,
+                all,
+            });
+        }
+        let Ok(mut words) = Vec::with_capacity(alloc, self.width as usize) else {
+            return Err(CloseFault::Memory { table: self, pass });
+        };
+        let Pass { seat, shares: _ } = pass;
+        let MeetTable { table, .. } = self;
+        let ended = end(table, seat);
+        copy_words(&ended, &mut words);
+        ended.free();
+        Ok(Closed {
+            words: Sheet::of(words),
+        })
+    }
+}

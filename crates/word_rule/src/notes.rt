@@ -1,0 +1,48 @@
+ghost use Rattle.std.specs.Prelude.{◌≡◌};
+ghost use Rattle.word_rows.specs.Changes.{joined, new_of};
+ghost use Rattle.word_rule.specs.Holdings.{IsOf, with_view};
+
+use crate::passes::Pass;
+use crate::single_steps::{join_seats, split_shares};
+use crate::tables::MeetTable;
+use atomic_table::Seat;
+use std::marker::{Brand, Model};
+use word_rows::View;
+
+/// A seat with no shares, which tells another pass what a pass has done and seen. Contracts see its table and its view.
+#[derive(Drop)]
+pub struct Note {
+    pub(crate) seat: Seat<(), View>,
+}
+
+impl Model for Note {
+    ghost use Rattle.word_rule.specs.Holdings.{Holding, IsNote};
+
+    ghost Value = { Holding };
+
+    ghost view = { λ n. record { table_id = n.seat.table_id; view = n.seat.me.0 } };
+
+    ghost invariant = { λ n. IsNote n.seat.me };
+}
+
+impl MeetTable {
+    /// A note that has seen what the pass has done and seen.
+    pub fn note(&self, pass: &mut Pass) -> Note
+        requires { IsOf self.now pass.old }
+        ensures same { pass.new ≡ pass.old }
+        ensures note { result ≡ with_view pass.old (new_of 0 pass.old.view) }
+    {
+        let seat = split_shares::<Brand>(&self.table.shared, &mut pass.seat, 0);
+        Note { seat }
+    }
+
+    /// The pass has then seen what the note has.
+    pub fn meet(&self, pass: &mut Pass, note: Note)
+        requires pass { IsOf self.now pass.old }
+        requires note { IsOf self.now note }
+        ensures { pass.new ≡ with_view pass.old (joined pass.old.view note.view) }
+    {
+        let Note { seat } = note;
+        join_seats(&self.table.shared, &mut pass.seat, seat);
+    }
+}
