@@ -1,0 +1,13 @@
+//! The critical path of a weighted graph: of its longest chains the first in list order.
+#![tactic(auto)]
+
+mod chain;
+mod first_longest;
+#[cfg(test)]
+mod plain;
+#[cfg(test)]
+mod tests;
+mod walk;
+
+pub use chain::Chain;
+pub use first_longest::critical;

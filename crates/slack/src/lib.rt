@@ -1,0 +1,11 @@
+//! The slack of each vertex of a weighted graph: how much it can grow so that the longest length stays.
+#![tactic(auto)]
+
+mod forward;
+mod growth;
+#[cfg(test)]
+mod plain;
+#[cfg(test)]
+mod tests;
+
+pub use growth::slacks;

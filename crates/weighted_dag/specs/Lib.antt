@@ -1,0 +1,6 @@
+pub mod Graphs
+pub mod Chains
+pub mod Slacks
+pub mod Reductions
+pub mod ReductionSteps
+pub mod BitSets

@@ -1,0 +1,15 @@
+-- What the private steps of the reduction keep. No public clause cites this file.
+use Rattle.std.specs.Prelude.{◌≡◌, ℕ, List, ◌↔◌, ◌⊎◌, length}
+use Rattle.weighted_dag.specs.Graphs.{Graph, order_of, IsEdge}
+use Rattle.weighted_dag.specs.Reductions.{IsReachable, HasDetour, IsKeptEdge}
+use Rattle.weighted_dag.specs.BitSets.{Has, words_for}
+
+-- the edges of the vertex a in the graph r are those that are kept of g, and each other edge has a detour
+pub record IsReducedAt (g r : Graph) (a : ℕ) : Type 0 where
+  pub kept : (b : ℕ) → IsEdge r a b → IsKeptEdge g a b
+  pub others : (b : ℕ) → IsEdge g a b → IsEdge r a b ⊎ HasDetour g a b
+
+-- a set of the vertices that can be reached from the vertex a
+pub record IsReachOf (g : Graph) (a : ℕ) (set : List ℕ) : Type 0 where
+  pub room : length set ≡ words_for (order_of g)
+  pub members : (b : ℕ) → Has set b ↔ IsReachable g a b

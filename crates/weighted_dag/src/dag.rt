@@ -1,0 +1,73 @@
+use crate::number_list::NumberList;
+use std::alloc::{AllocError, Global};
+use std::marker::Model;
+
+/// A weighted graph without cycles: vertices are numbered from 0, and each edge leads to a later vertex.
+#[derive(Drop)]
+pub struct Dag {
+    weights: Vec<u64>,
+    successors: Vec<NumberList>,
+}
+
+impl Model for Dag {
+    ghost use Rattle.weighted_dag.specs.Graphs.{Graph, IsGraph};
+
+    ghost Value = { Graph };
+
+    ghost view = { λ d. record { weights = d.weights.items; successors = d.successors.items } };
+
+    ghost invariant = { λ d. IsGraph (record { weights = d.weights.items; successors = d.successors.items }) };
+}
+
+impl Dag {
+    ghost use Rattle.std.specs.Prelude.{◌≡◌, ◌^◌, ◌<◌, All, length, IfOk, OnOk, OnErr};
+    ghost use Rattle.weighted_dag.specs.Graphs.{IsGraph, order_of, successors_of, edgeless, with_edge};
+
+    /// A graph with a vertex for each weight, by place, and no edge yet.
+    pub fn new(alloc: Global, weights: Vec<u64>) -> Result<Dag, AllocError>
+        requires { length weights.items < 2 ^ 32 }
+        ensures { IfOk result (λ dag. dag ≡ edgeless weights.items) }
+    {
+        let count = weights.len();
+        let mut successors = Vec::with_capacity(alloc, count)?;
+        'vertices: for _ in 0..count {
+            successors.push(NumberList::of(Vec::new(alloc)))?;
+        }
+        Ok(Dag {
+            weights,
+            successors,
+        })
+    }
+
+    /// Adds an edge. The successors of a vertex are added in rising order, whatever the order of the vertices.
+    pub fn edge(&mut self, from: u32, to: u32) -> Result<(), AllocError>
+        requires later { from < to }
+        requires within { to < order_of self.old }
+        requires above { All (λ s. s < to) (successors_of self.old from) }
+        ensures ok { OnOk result (self.new ≡ with_edge self.old from to) }
+        ensures err { OnErr result (self.new ≡ self.old) }
+        ensures form { IsGraph self.new }
+    {
+        let list = &mut self.successors[from as usize];
+        list.push(to)?;
+        Ok(())
+    }
+
+    /// The weight of each vertex.
+    pub fn weights(&self) -> &[u64]
+        ensures weights { result.now ≡ self.now.weights }
+        ensures form { IsGraph self.now }
+    {
+        self.weights.as_slice()
+    }
+
+    /// The vertices to which an edge leads from this one, in rising order.
+    pub fn successors(&self, vertex: u32) -> &[u32]
+        requires { vertex < order_of self.now }
+        ensures successors { result.now ≡ successors_of self.now vertex }
+        ensures form { IsGraph self.now }
+    {
+        let list = &self.successors[vertex as usize];
+        list.items()
+    }
+}

@@ -1,0 +1,18 @@
+//! Weighted graphs whose edges lead from lower to higher vertices: their chains, the longest lengths from each
+//! vertex, and the reduced graph.
+#![tactic(auto)]
+
+mod bit_set;
+mod dag;
+mod lengths;
+mod number_list;
+#[cfg(test)]
+mod plain;
+mod reduction;
+#[cfg(test)]
+mod tests;
+
+pub use dag::Dag;
+pub use lengths::lengths_from;
+pub use number_list::NumberList;
+pub use reduction::reduce;
