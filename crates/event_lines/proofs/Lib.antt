@@ -6,4 +6,5 @@ pub mod JsonOf
 pub mod Rise
 pub mod Rows
 pub mod Table
+pub mod Totals
 pub mod Traces

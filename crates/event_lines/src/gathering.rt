@@ -1,4 +1,5 @@
-ghost use Rattle.std.specs.Prelude.{◌≡◌, All, IfOk, OnOk, map};
+ghost use Rattle.std.specs.Prelude.{◌≡◌, length, All, Contains, sum_by, IfOk, OnOk, map};
+ghost use Rattle.trace_types.specs.declared.raw_trace.RawTrace.{RawTrace};
 ghost use Rattle.trace_types.specs.Batch.{plain, traces_of};
 ghost use Rattle.trace_types.specs.EventLines.{LinesRise};
 ghost use Rattle.event_lines.specs.Gathered.{IsTrace, all_gathered, with_event};
@@ -59,7 +60,10 @@ fn into_traces(
 pub fn gather(alloc: Global, events: Vec<Event>) -> Result<Vec<RawTrace>, AllocError>
     requires rising { LinesRise events.items }
     ensures traces { IfOk result (λ v. map plain v.items ≡ traces_of events.items) }
+    ensures within { IfOk result (λ v. All (λ (trace : RawTrace). All (Contains events.items) trace.events) v.items) }
+    ensures all { IfOk result (λ v. sum_by (λ (trace : RawTrace). length trace.events) v.items ≡ length events.items) }
 {
     let table = table_of(alloc, events)?;
-    into_traces(alloc, table)
+    let gathered = into_traces(alloc, table)?;
+    Ok(gathered)
 }

@@ -1,4 +1,4 @@
-ghost use Rattle.std.specs.Prelude.{◌≡◌, ◌≤◌, All, length, Ok, IfOk, IfErr, OnOk};
+ghost use Rattle.std.specs.Prelude.{◌≡◌, ◌≤◌, All, length, Ok, IfOk, IfErr, OnOk, vec_len, ◌+◌};
 ghost use Rattle.std.specs.List.{position_or_len};
 ghost use Rattle.event_lines.specs.Cut.{is_feed, is_blank};
 ghost use Rattle.event_lines.specs.Whole.{added, Adds, TellsBad};
@@ -32,6 +32,7 @@ fn line_end(bytes: &[u8]) -> usize
 // Adds what a line says, unless it is blank.
 fn add_line(alloc: Global, number: u32, line: &[u8], lines: &mut Vec<Line>) -> Result<(), LineError>
     ensures ok { OnOk result (Adds (added judged number line.now) lines.old.items lines.new.items) }
+    ensures one { OnOk result (vec_len lines.new ≤ vec_len lines.old + 1) }
     ensures err { IfErr result (TellsBad (added judged number line.now)) }
 {
     if is_blank(line) {
@@ -54,6 +55,7 @@ pub fn read_lines(alloc: Global, bytes: &[u8]) -> Result<Vec<Line>, LineError>
     ensures first_bad { IfErr result (TellsBad (lines_said bytes.now)) }
     ensures rising { IfOk result (λ v. NumbersRise v.items) }
     ensures in_range { IfOk result (λ v. All IsInRange v.items) }
+    ensures few { IfOk result (λ v. length v.items ≤ length bytes.now + 1) }
 {
     let mut lines = Vec::new(alloc);
     let mut start = 0;

@@ -11,6 +11,7 @@ pub lines-preserved : goal.lines-preserved
 lines-preserved c = record {
   within = omega arith;
   few = omega arith;
+  short = omega (arith, c.in_ok-add_line.ensures.one, c.lines.invariant.short);
   told = sym (joins _ _ c.lines.lines.items c.add_line.new.lines.items c.in_ok-add_line.ensures.ok)
       ∙ sym (ap (λ ls. and_then (Ok c.lines.lines.items) (reading judged c.lines.number ls)) (cut_from c.args.bytes.now c.lines.start c.line_end.result c.line_end.ensures.first c.lines.invariant.within (omega arith)))
       ∙ c.lines.invariant.told;

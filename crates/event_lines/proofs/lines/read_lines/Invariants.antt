@@ -9,6 +9,7 @@ abbrev pub invariant-lines : goal.invariant-lines
 invariant-lines l = record {
   within : l.start ≤ length l.bytes;
   few : l.number ≤ l.start + 1;
+  short : length l.lines.items ≤ l.start;
   told : and_then (Ok l.lines.items) (reading judged l.number (lines_of (drop l.start l.bytes))) ≡ lines_said l.bytes;
 }
 
