@@ -7,3 +7,5 @@ pub mod CutLemmas
 pub mod SpanLemmas
 pub mod ElementLemmas
 pub mod FaultLemmas
+pub mod UniqueLists
+pub mod ScalingLemmas

@@ -82,7 +82,7 @@ pairs_done keys n pairs a all = record {
 }
 
 -- a key is not before itself, nor both before and after another
-time_asym : (x y : ℤ) (i j : ℕ) → ((x <ℤ y) ⊎ ((x ≡ y) × (i < j))) → ((y <ℤ x) ⊎ ((y ≡ x) × (j < i))) → ⊥
+pub time_asym : (x y : ℤ) (i j : ℕ) → ((x <ℤ y) ⊎ ((x ≡ y) × (i < j))) → ((y <ℤ x) ⊎ ((y ≡ x) × (j < i))) → ⊥
 time_asym x y i j (inl a) (inl b) = omega (arith, ints)
 time_asym x y i j (inl a) (inr b) = let e : y ≡ x = b.0 in omega (arith, ints)
 time_asym x y i j (inr a) (inl b) = let e : x ≡ y = a.0 in omega (arith, ints)

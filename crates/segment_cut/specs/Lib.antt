@@ -4,4 +4,5 @@ pub mod Neighbours
 pub mod Elements
 pub mod Cutting
 pub mod Refusals
+pub mod Scaling
 pub mod Working

@@ -4,6 +4,7 @@
 
 mod elements;
 mod first_places;
+mod laws;
 mod naming;
 mod neighbours;
 mod ordering;
@@ -13,5 +14,6 @@ mod times;
 mod trace_cut;
 mod trace_fault;
 
+pub use laws::a_trace_in_thousandfold_times_is_cut_alike;
 pub use trace_cut::cut;
 pub use trace_fault::TraceFault;

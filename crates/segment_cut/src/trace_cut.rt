@@ -85,8 +85,8 @@ fn cut_by(
 /// by the first line of their task and then by their order in the task. The element of a segment is
 /// the text after the first `@` of its start event's name, where that is not empty. The day is that
 /// of the first event's own time, and the latency is the greatest adjusted time less the least, in
-/// nanoseconds. Segments are those of M. Chow et al., "The Mystery Machine", OSDI 2014, section 3.1;
-/// the spelling of elements is this project's own.
+/// nanoseconds. Segments are those of M. Chow et al., "The Mystery Machine", OSDI 2014; the
+/// spelling of elements is this project's own.
 ///
 /// The first fault that holds is answered: over 4,096 events, an event that its task has twice, a
 /// message that is sent twice, one that is received twice, an adjusted time out of range. Want of

@@ -1,0 +1,23 @@
+ghost use Rattle.std.specs.Prelude.{ℕ, ℤ, List};
+ghost use Rattle.trace_types.specs.declared.event.Event.{Event};
+ghost use Rattle.trace_types.specs.declared.trace.Trace.{Trace};
+ghost use Rattle.segment_cut.specs.Adjusting.{AreAdjusted};
+ghost use Rattle.segment_cut.specs.Cutting.{IsValid, IsCut};
+ghost use Rattle.segment_cut.specs.Scaling.{AreOfOneMachine, AreTimelyMicroseconds, AreThousandfold, IsTraceThousandfold};
+
+use clock_offsets::a_machine_has_one_offset;
+
+/// Where all events of a trace are of one machine, and each time becomes a thousand times what it
+/// was, the trace is cut alike: names, places and elements stay, and starts, ends and the latency
+/// are a thousand times what they were. Where the times are those of microseconds up to the year
+/// 2100, it stays valid.
+pub fn a_trace_in_thousandfold_times_is_cut_alike()
+    ensures alike { (request : List ℕ) (events scaled : List Event) (t u : Trace) → AreOfOneMachine events
+        → AreThousandfold events scaled → IsCut request events t → IsCut request scaled u
+        → IsTraceThousandfold t u }
+    ensures valid { (events scaled : List Event) (times scaled_times : List ℤ) → AreOfOneMachine events
+        → AreTimelyMicroseconds events → AreThousandfold events scaled → AreAdjusted events times
+        → AreAdjusted scaled scaled_times → IsValid events times → IsValid scaled scaled_times }
+{
+    a_machine_has_one_offset();
+}
