@@ -1,4 +1,4 @@
--- What the steps of this crate's loops add to a list.
+-- What the loops of this crate add to a list: facts between its own functions, cited by no public clause.
 use Rattle.std.specs.Prelude.{◌≡◌, ◌≢◌, ◌↔◌, ◌⊎◌, ◌+◌, ◌≤◌, List, ◌++◌, length, Contains, AllPairs}
 use Rattle.std.specs.declared.cmp.Ordering.{Ordering}
 use Rattle.model_meet.specs.Listing.{ListsExactly}

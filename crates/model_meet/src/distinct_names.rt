@@ -1,4 +1,4 @@
-ghost use Rattle.std.specs.Prelude.{◌≡◌, ◌↔◌, ◌∷◌, [], IsTrue, List, Any, Contains, map, IfOk, OnOk, vec_len, length, ◌≤◌};
+ghost use Rattle.std.specs.Prelude.{◌≡◌, ◌↔◌, ◌∷◌, [], IsTrue, Contains, map, IfOk, OnOk, vec_len, length, ◌≤◌};
 ghost use Rattle.trace_types.specs.Segments.{name_of};
 ghost use Rattle.model_meet.specs.Adding.{Adds};
 ghost use Rattle.model_meet.specs.Listing.{ListsExactly};

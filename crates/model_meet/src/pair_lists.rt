@@ -9,7 +9,7 @@ ghost use Rattle.model_meet.specs.Relations.{HappensBefore, ExcludesUnordered};
 use crate::standing::standing_of;
 use crate::{PlainName, PlainPair};
 use std::alloc::{AllocError, Global};
-use trace_types::{Text, Trace};
+use trace_types::Trace;
 
 /// The pairs of the model's two kinds of lines.
 #[derive(Debug, Drop)]

@@ -1,5 +1,4 @@
-ghost use Rattle.std.specs.Prelude.{◌≡◌, ◌≤◌, ◌+◌, ◌+ℤ◌, pos, length, codes, IfOk};
-ghost use Rattle.trace_types.specs.declared.segment.Segment.{Segment};
+ghost use Rattle.std.specs.Prelude.{◌≡◌, ◌≤◌, length, IfOk};
 ghost use Rattle.trace_types.specs.SegmentLists.{NamesDiffer, JoinInTasks};
 ghost use Rattle.trace_types.specs.Segments.{name_of, task_of, start_of, end_of};
 
