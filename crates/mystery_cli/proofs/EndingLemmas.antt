@@ -1,13 +1,13 @@
 -- How the outcome of an input that was read is that of the run.
-use Rattle.std.proofs.Common.{◌≡◌, ℕ, ◌<◌, ◌≤◌, List, [], length, take, Bool, true, false, Option, Some, None, arith, refl, sym, ◌∙◌, ap}
-use Rattle.std.specs.Prelude.{nat_lt, if◌then◌else◌, IfSome, Result, Ok, Err}
+use Rattle.std.proofs.Common.{◌≡◌, ℕ, ◌<◌, ◌≤◌, List, [], length, take, Bool, true, false, Option, Some, None, arith, refl, sym, ◌∙◌, ap, subst, inl, inr}
+use Rattle.std.specs.Prelude.{nat_lt, if◌then◌else◌, IfSome, Result, Ok, Err, ◌⊎◌}
 use Rattle.std.specs.Io.KnownBytes.{append_known}
-use Rattle.std.proofs.lemmas.List.{append-nil, take_all}
+use Rattle.std.proofs.lemmas.List.{take_all}
 use Rattle.std.proofs.lemmas.Bool.{lt-ltb, le-ltb, ltb-true}
 use Rattle.event_lines.specs.declared.line.Line.{Line}
 use Rattle.event_lines.specs.declared.line_error.LineError.{LineError}
 use Rattle.event_lines.specs.declared.line_error.LineError.TheVariants.{Memory as NoMemory, Bad}
-use Rattle.event_lines.specs.Blank.{blank_lines_of}
+use Rattle.event_lines.specs.Judged.{lines_said}
 use Rattle.mystery_io.specs.Fronts.{AppendsFront}
 use Rattle.mystery_io.specs.Input.{input_of}
 use Rattle.mystery_io.specs.ReadFaults.{IsTooBig}
@@ -17,8 +17,9 @@ use Rattle.mystery_cli.specs.declared.outcome.Outcome.TheVariants.{Done, Memory,
 use Rattle.mystery_cli.specs.CommandLines.{Call, call_of, is_in_grammar, files_of}
 use Rattle.mystery_cli.specs.Endings.{ending_of, ending_of_lines}
 use Rattle.mystery_cli.specs.Messages.{status_of}
-use Rattle.mystery_cli.specs.Texts.{IsText, IsTextOfEnding, empty_model}
-use Rattle.mystery_cli.specs.Runs.{Seen, OfInput, OpenedAll, EndsAs, HasCauseOf, InputEnds, Writes, WritesFront}
+use Rattle.mystery_cli.specs.Texts.{IsText, batch_of}
+use Rattle.mystery_cli.specs.ModelTexts.{IsModelText}
+use Rattle.mystery_cli.specs.Runs.{Seen, OfInput, OpenedAll, EndsAs, HasCauseOf, InputEnds, PrintsFront, Writes, WritesText, WritesFront}
 
 -- the words of a call are in the grammar
 pub in_grammar : (words : List (List ℕ)) (call : Call) → Some call ≡ call_of words → is_in_grammar words ≡ true
@@ -26,28 +27,6 @@ in_grammar words call e = rw (← e) refl
 
 pub files_named : (words : List (List ℕ)) (call : Call) → Some call ≡ call_of words → files_of words ≡ call.files
 files_named words call e = rw (← e) refl
-
--- there is a text for every input
-some_text : (o : Outcome) → (text : List ℕ) × IsTextOfEnding o text
-some_text Done = (empty_model, refl)
-some_text Memory = ([], refl)
-some_text Words = ([], refl)
-some_text (BadLine line why) = ([], refl)
-some_text (File index) = ([], refl)
-some_text Write = ([], refl)
-some_text Size = ([], refl)
-
-append_none : (known : Option (List ℕ)) (text : List ℕ) → known ≡ append_known known (take 0 text)
-append_none None text = refl
-append_none (Some xs) text = ap Some (sym (append-nil xs))
-
--- where nothing was written, no byte of a text was
-pub front_of_nothing : (contents : Option (List ℕ → List ℕ)) (words : List (List ℕ)) (old new : Option (List ℕ)) → new ≡ old
-    → OfInput contents words (λ input. (text : List ℕ) × IsText words input text × AppendsFront old new text)
-front_of_nothing None words old new e = tt
-front_of_nothing (Some c) words old new e =
-    let t = some_text (ending_of words (input_of c (files_of words))) in
-    (t.0, t.1, record { count = 0; appended = e ∙ append_none old t.0 })
 
 -- a fact of one told input
 of_input : (contents : Option (List ℕ → List ℕ)) (words : List (List ℕ)) (P Q : List ℕ → Type 0) → ((input : List ℕ) → P input → Q input) → OfInput contents words P → OfInput contents words Q
@@ -59,7 +38,7 @@ ending_too_big words input g lt =
     let b : nat_lt MAX_INPUT (length input) ≡ true = lt-ltb MAX_INPUT (length input) lt in
     rw (g, b) refl
 
-ending_read : (words : List (List ℕ)) (input : List ℕ) → is_in_grammar words ≡ true → length input ≤ MAX_INPUT → ending_of words input ≡ ending_of_lines (blank_lines_of input)
+ending_read : (words : List (List ℕ)) (input : List ℕ) → is_in_grammar words ≡ true → length input ≤ MAX_INPUT → ending_of words input ≡ ending_of_lines (lines_said input)
 ending_read words input g le =
     let b : nat_lt MAX_INPUT (length input) ≡ false = le-ltb MAX_INPUT (length input) le in
     rw (g, b) refl
@@ -69,7 +48,7 @@ pub cause_too_big : (contents : Option (List ℕ → List ℕ)) (words files : L
 cause_too_big None words files g e h = tt
 cause_too_big (Some c) words files g e h = ending_too_big words (input_of c (files_of words)) g (rw e h)
 
-ends_as : (o : Outcome) (s : Seen) (input : List ℕ) → is_in_grammar s.words ≡ true → length input ≤ MAX_INPUT → OfInput s.files.contents s.words (λ i. input ≡ i) → ending_of_lines (blank_lines_of input) ≡ o → EndsAs o s
+ends_as : (o : Outcome) (s : Seen) (input : List ℕ) → is_in_grammar s.words ≡ true → length input ≤ MAX_INPUT → OfInput s.files.contents s.words (λ i. input ≡ i) → ending_of_lines (lines_said input) ≡ o → EndsAs o s
 ends_as o s input g le told e = of_input s.files.contents s.words (λ i. input ≡ i) (λ i. ending_of s.words i ≡ o) (λ i same. rw (← same) (ending_read s.words input g le ∙ e)) told
 
 pub cause_of_ends : (o : Outcome) (s : Seen) (input : List ℕ) → is_in_grammar s.words ≡ true → OpenedAll s → length input ≤ MAX_INPUT → OfInput s.files.contents s.words (λ i. input ≡ i)
@@ -79,31 +58,54 @@ cause_of_ends Memory s input g all le told h = g
 cause_of_ends Words s input g all le told h = absurd h
 cause_of_ends (BadLine line why) s input g all le told h = (g, all, ends_as (BadLine line why) s input g le told h.0)
 cause_of_ends (File index) s input g all le told h = absurd h
-cause_of_ends Write s input g all le told h = (g, all, h.1, ends_as Done s input g le told h.0)
+cause_of_ends Write s input g all le told h = (g, all, h.0, ends_as Done s input g le told h.1.0)
 cause_of_ends Size s input g all le told h = absurd h
 
-done_text : (words : List (List ℕ)) (input : List ℕ) → ending_of words input ≡ Done → IsText words input empty_model
-done_text words input e = rw e refl
+-- the text of an input that is done is that of its model
+done_text : (words : List (List ℕ)) (input text : List ℕ) → ending_of words input ≡ Done → IsModelText (batch_of input) text → IsText words input text
+done_text words input text e m = rw e m
+
+-- a fact of the input that was read is one of the told input
+of_read : (s : Seen) (input : List ℕ) (P : List ℕ → Type 0) → OfInput s.files.contents s.words (λ i. input ≡ i) → P input → OfInput s.files.contents s.words P
+of_read s input P told p = of_input s.files.contents s.words (λ i. input ≡ i) P (λ i same. subst P same p) told
+
+writes_text : (s : Seen) (input text : List ℕ) → is_in_grammar s.words ≡ true → length input ≤ MAX_INPUT → OfInput s.files.contents s.words (λ i. input ≡ i) → ending_of_lines (lines_said input) ≡ Done → IsModelText (batch_of input) text
+    → s.written_now ≡ append_known s.written_before text → WritesText s
+writes_text s input text g le told e m w =
+    of_read s input (λ i. (t : List ℕ) × IsText s.words i t × (s.written_now ≡ append_known s.written_before t)) told (text, done_text s.words input text (ending_read s.words input g le ∙ e) m, w)
+
+writes_front : (s : Seen) (input : List ℕ) → is_in_grammar s.words ≡ true → length input ≤ MAX_INPUT → OfInput s.files.contents s.words (λ i. input ≡ i) → PrintsFront input s.written_before s.written_now → WritesFront s
+writes_front s input g le told h =
+    inr (of_read s input (λ i. (t : List ℕ) × IsText s.words i t × AppendsFront s.written_before s.written_now t) told (h.1, done_text s.words input h.1 (ending_read s.words input g le ∙ h.0) h.2, h.3))
+
+some_front : (s : Seen) (input : List ℕ) → is_in_grammar s.words ≡ true → length input ≤ MAX_INPUT → OfInput s.files.contents s.words (λ i. input ≡ i) → (s.written_now ≡ s.written_before) ⊎ PrintsFront input s.written_before s.written_now → WritesFront s
+some_front s input g le told (inl same) = inl same
+some_front s input g le told (inr h) = writes_front s input g le told h
 
 pub writes_of_ends : (o : Outcome) (s : Seen) (input : List ℕ) → is_in_grammar s.words ≡ true → length input ≤ MAX_INPUT → OfInput s.files.contents s.words (λ i. input ≡ i)
     → InputEnds o input s.written_before s.written_now s.faults_before s.faults_now → Writes o s
-writes_of_ends Done s input g le told h = of_input s.files.contents s.words (λ i. ending_of s.words i ≡ Done) (λ i. (text : List ℕ) × IsText s.words i text × (s.written_now ≡ append_known s.written_before text)) (λ i e. (empty_model, done_text s.words i e, h.1)) (ends_as Done s input g le told h.0)
-writes_of_ends Memory s input g le told h = front_of_nothing s.files.contents s.words s.written_before s.written_now h
+writes_of_ends Done s input g le told h = writes_text s input h.1 g le told h.0 h.2 h.3
+writes_of_ends Memory s input g le told h = some_front s input g le told h
 writes_of_ends Words s input g le told h = absurd h
 writes_of_ends (BadLine line why) s input g le told h = h.1
 writes_of_ends (File index) s input g le told h = absurd h
-writes_of_ends Write s input g le told h = of_input s.files.contents s.words (λ i. ending_of s.words i ≡ Done) (λ i. (text : List ℕ) × IsText s.words i text × AppendsFront s.written_before s.written_now text) (λ i e. (empty_model, done_text s.words i e, h.2)) (ends_as Done s input g le told h.0)
+writes_of_ends Write s input g le told h = writes_front s input g le told h.1
 writes_of_ends Size s input g le told h = absurd h
 
--- whatever the outcome, the first bytes of a text were written
+whole_front : (s : Seen) (contents : Option (List ℕ → List ℕ)) → OfInput contents s.words (λ i. (t : List ℕ) × IsText s.words i t × (s.written_now ≡ append_known s.written_before t))
+    → OfInput contents s.words (λ i. (t : List ℕ) × IsText s.words i t × AppendsFront s.written_before s.written_now t)
+whole_front s None h = tt
+whole_front s (Some c) h = (h.0, h.1, record { count = length h.0; appended = h.2 ∙ ap (append_known s.written_before) (sym (take_all (length h.0) h.0 (omega arith))) })
+
+-- whatever the outcome, nothing was written or the first bytes of a text
 pub front_of_writes : (o : Outcome) (s : Seen) → Writes o s → WritesFront s
-front_of_writes Done s h = of_input s.files.contents s.words (λ i. (text : List ℕ) × IsText s.words i text × (s.written_now ≡ append_known s.written_before text)) (λ i. (text : List ℕ) × IsText s.words i text × AppendsFront s.written_before s.written_now text) (λ i w. (w.0, w.1, record { count = length w.0; appended = w.2 ∙ ap (append_known s.written_before) (sym (take_all (length w.0) w.0 (omega arith))) })) h
+front_of_writes Done s h = inr (whole_front s s.files.contents h)
 front_of_writes Memory s h = h
-front_of_writes Words s h = front_of_nothing s.files.contents s.words _ _ h
-front_of_writes (BadLine line why) s h = front_of_nothing s.files.contents s.words _ _ h
-front_of_writes (File index) s h = front_of_nothing s.files.contents s.words _ _ h
+front_of_writes Words s h = inl h
+front_of_writes (BadLine line why) s h = inl h
+front_of_writes (File index) s h = inl h
 front_of_writes Write s h = h
-front_of_writes Size s h = front_of_nothing s.files.contents s.words _ _ h
+front_of_writes Size s h = inl h
 
 -- a run that ends by the size has an input that passes it
 lines_not_size : (r : Result (List Line) LineError) → ending_of_lines r ≡ Size → ⊥
@@ -114,9 +116,9 @@ lines_not_size (Err NoMemory) e = cc
 size_passed : (words : List (List ℕ)) (input : List ℕ) → ending_of words input ≡ Size → MAX_INPUT < length input
 size_passed words input e = by_tests (is_in_grammar words) (nat_lt MAX_INPUT (length input)) refl e
   where
-    by_tests : (g big : Bool) → nat_lt MAX_INPUT (length input) ≡ big → (if g then (if big then Size else ending_of_lines (blank_lines_of input)) else Words) ≡ Size → MAX_INPUT < length input
+    by_tests : (g big : Bool) → nat_lt MAX_INPUT (length input) ≡ big → (if g then (if big then Size else ending_of_lines (lines_said input)) else Words) ≡ Size → MAX_INPUT < length input
     by_tests true true b e = ltb-true MAX_INPUT (length input) b
-    by_tests true false b e = absurd (lines_not_size (blank_lines_of input) e)
+    by_tests true false b e = absurd (lines_not_size (lines_said input) e)
     by_tests false big b e = cc
 
 pub size_of_cause : (o : Outcome) (s : Seen) (n : ℕ) → n ≡ status_of o → HasCauseOf o s → n ≡ 6 → OfInput s.files.contents s.words (λ input. MAX_INPUT < length input)

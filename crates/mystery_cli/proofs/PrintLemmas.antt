@@ -1,10 +1,15 @@
 -- Printing one text after another.
-use Rattle.std.proofs.Common.{◌≡◌, ℕ, ◌+◌, ◌-◌, ◌≤◌, min, List, [], ◌∷◌, ◌++◌, length, take, drop, get_or, map, Option, Some, None, arith, refl, sym, ◌∙◌, ap, append_assoc}
+use Rattle.std.proofs.Common.{◌≡◌, ℕ, ◌+◌, ◌-◌, ◌≤◌, ◌<◌, min, List, [], ◌∷◌, ◌++◌, length, take, drop, get_or, map, Option, Some, None, arith, refl, sym, ◌∙◌, ap, append_assoc}
 use Rattle.std.proofs.Math.Seq.{take-add}
 use Rattle.std.proofs.lemmas.List.{append-nil, length-append, take_all, take-append-le, drop-append-le, drop-drop, length-drop, take_min}
 use Rattle.std.specs.List.{flat_map, join_with_byte}
 use Rattle.std.specs.Io.KnownBytes.{append_known}
 use Rattle.mystery_io.specs.Fronts.{AppendsFront}
+use Rattle.std.proofs.lemmas.List.{flat_map_more, take_more, drop_more, take-append-drop}
+use Rattle.std.proofs.lemmas.Grind.{flat_map-append}
+use Rattle.mystery_cli.specs.PrintFaults.{HasPrintCause}
+use Rattle.mystery_cli.specs.declared.printing.PrintFault.{PrintFault}
+use Rattle.mystery_cli.specs.declared.printing.PrintFault.TheVariants.{Memory, Write}
 use Rattle.mystery_cli.specs.Rows.{Prints, field_text}
 use Rattle.mystery_cli.specs.declared.printing.Field.{Field}
 
@@ -76,3 +81,50 @@ joined_from (first ∷ fields) d old mid new le e f =
     let all : take (length (first ∷ fields) - 1) fields ≡ fields = take_all (length (first ∷ fields) - 1) fields (omega arith) in
     f ∙ ap (λ fs. mid ++ flat_map (λ g. 9 ∷ field_text g) fs) all ∙ ap (λ t. t ++ flat_map (λ g. 9 ∷ field_text g) fields) e
     ∙ append_assoc old (field_text first) (flat_map (λ g. 9 ∷ field_text g) fields) ∙ ap (λ t. old ++ t) (sym (joined first fields))
+
+-- one row more of a list of rows
+pub prints_next : {X : Type 0} (row : X → List ℕ) (xs : List X) (i : ℕ) (x : X) (before mid now : Option (List ℕ)) (waited between waits : List ℕ) → i < length xs → x ≡ get_or xs i x → Prints before mid waited between (flat_map row (take i xs))
+    → Prints mid now between waits (row x) → Prints before now waited waits (flat_map row (take (i + 1) xs))
+prints_next row xs i x before mid now waited between waits lt is p q =
+    let more : flat_map row (take i xs) ++ row x ≡ flat_map row (take (i + 1) xs) =
+    flat_map_more row [] (take i xs) x ∙ ap (flat_map row) (sym (take_more xs i x lt ∙ ap (λ y. take i xs ++ y ∷ []) (sym is))) in
+    rw (← more) (prints_more before mid now waited between waits (flat_map row (take i xs)) (row x) p q)
+
+pub prints_all : {X : Type 0} (row : X → List ℕ) (xs : List X) (i : ℕ) (before now : Option (List ℕ)) (waited waits : List ℕ) → length xs ≤ i → Prints before now waited waits (flat_map row (take i xs)) → Prints before now waited waits (flat_map row xs)
+prints_all row xs i before now waited waits le p = rw (← take_all i xs le) p
+
+-- a row that was not printed to its end leaves the front of all rows
+pub front_next : {X : Type 0} (row : X → List ℕ) (xs : List X) (i : ℕ) (x : X) (before mid now : Option (List ℕ)) (waited between : List ℕ) → i < length xs → x ≡ get_or xs i x → Prints before mid waited between (flat_map row (take i xs))
+    → AppendsFront mid now (between ++ row x) → AppendsFront before now (waited ++ flat_map row xs)
+front_next {X} row xs i x before mid now waited between lt is p f =
+    let rest : flat_map row (drop i xs) ≡ row x ++ flat_map row (drop (i + 1) xs) = ap (flat_map row) (drop_more xs i x lt) ∙ ap (λ (y : X). row y ++ flat_map row (drop (i + 1) xs)) (sym is) in
+    let all : flat_map row (take i xs) ++ (row x ++ flat_map row (drop (i + 1) xs)) ≡ flat_map row xs =
+    ap (λ t. flat_map row (take i xs) ++ t) (sym rest) ∙ sym (flat_map-append row (take i xs) (drop i xs)) ∙ ap (flat_map row) (take-append-drop i xs) in
+    rw (← all) (front_more before mid now waited between (flat_map row (take i xs)) (row x) (flat_map row (drop (i + 1) xs)) p f)
+
+-- a cause that was met later is one of the whole
+pub cause_later : (e : PrintFault) (before mid now : ℕ) → before ≤ mid → HasPrintCause mid now e → HasPrintCause before now e
+cause_later Memory before mid now le h = tt
+cause_later Write before mid now le h = omega (arith, h, le)
+
+-- the front of a text is that of a longer one
+pub front_longer : (before now : Option (List ℕ)) (waited a b : List ℕ) → AppendsFront before now (waited ++ a) → AppendsFront before now (waited ++ (a ++ b))
+front_longer before now waited a b f = front_more before before now waited waited [] a b (prints_nothing before waited) f
+
+-- a text that was printed, and then the front of another
+pub front_after : (before mid now : Option (List ℕ)) (waited between a b : List ℕ) → Prints before mid waited between a → AppendsFront mid now (between ++ b) → AppendsFront before now (waited ++ (a ++ b))
+front_after before mid now waited between a b p f = rw (← append-nil b) (front_more before mid now waited between a b [] p f)
+
+-- a text of which the front was written as it was flushed
+pub front_flushed : (before mid now : Option (List ℕ)) (between a : List ℕ) → Prints before mid [] between a → AppendsFront mid now between → AppendsFront before now a
+front_flushed before mid now between a p f = rw (← append-nil a) (front_after before mid now [] between a [] p (rw (append-nil between) f))
+
+-- a text that was printed and flushed was written
+pub flushed_all : (before mid now : Option (List ℕ)) (between waits a : List ℕ) → Prints before mid [] between a → Prints mid now between waits [] → waits ≡ [] → now ≡ append_known before a
+flushed_all before mid now between waits a p q none =
+    let both : Prints before now [] waits (a ++ []) = prints_more before mid now [] between waits a [] p q in
+    let long : length (a ++ []) ≤ both.count = ends both.count (a ++ []) (sym both.rest ∙ none) in
+    both.written ∙ ap (append_known before) (take_all both.count (a ++ []) long ∙ append-nil a)
+  where
+    ends : (n : ℕ) (xs : List ℕ) → drop n xs ≡ [] → length xs ≤ n
+    ends n xs e = omega (arith, ap length e, length-drop n xs)

@@ -1,8 +1,11 @@
 pub mod CommandLines
 pub mod Endings
 pub mod Messages
+pub mod ModelTexts
+pub mod Models
+pub mod Numbers
 pub mod PrintFaults
 pub mod Rows
-pub mod Numbers
 pub mod Runs
 pub mod Texts
+pub mod Steps

@@ -1,7 +1,7 @@
 -- What a run tells by its status and by what it wrote.
-use Rattle.std.specs.Prelude.{ℕ, ◌≡◌, List, length, true, false, Option, IfSome}
+use Rattle.std.specs.Prelude.{ℕ, ◌≡◌, ◌⊎◌, List, length, true, false, Option, IfSome}
 use Rattle.std.specs.Io.KnownBytes.{append_known}
-use Rattle.event_lines.specs.Blank.{blank_lines_of}
+use Rattle.event_lines.specs.Judged.{lines_said}
 use Rattle.mystery_io.specs.Counts.{Rose, CountsCalls}
 use Rattle.mystery_io.specs.Fronts.{AppendsFront}
 use Rattle.mystery_io.specs.Input.{input_of}
@@ -10,7 +10,8 @@ use Rattle.mystery_cli.specs.declared.outcome.Outcome.{Outcome}
 use Rattle.mystery_cli.specs.declared.outcome.Outcome.TheVariants.{Done, Memory, Words, BadLine, File, Write, Size}
 use Rattle.mystery_cli.specs.CommandLines.{is_in_grammar, files_of}
 use Rattle.mystery_cli.specs.Endings.{ending_of, ending_of_lines}
-use Rattle.mystery_cli.specs.Texts.{IsText, empty_model}
+use Rattle.mystery_cli.specs.Texts.{IsText, batch_of}
+use Rattle.mystery_cli.specs.ModelTexts.{IsModelText}
 
 -- what a run saw: the words, the files, and before and now what was written and the count of faults of that sink
 pub record Seen : Type 0 where
@@ -47,20 +48,24 @@ HasCauseOf Size seen = (is_in_grammar seen.words ≡ true) × EndsAs Size seen
 abbrev pub WritesText : Seen → Type 0
 WritesText seen = OfInput seen.files.contents seen.words (λ input. (text : List ℕ) × IsText seen.words input text × (seen.written_now ≡ append_known seen.written_before text))
 
--- the first bytes of a text were written, so many
+-- nothing was written, or the first bytes of a text, so many
 abbrev pub WritesFront : Seen → Type 0
-WritesFront seen = OfInput seen.files.contents seen.words (λ input. (text : List ℕ) × IsText seen.words input text × AppendsFront seen.written_before seen.written_now text)
+WritesFront seen = (seen.written_now ≡ seen.written_before) ⊎ OfInput seen.files.contents seen.words (λ input. (text : List ℕ) × IsText seen.words input text × AppendsFront seen.written_before seen.written_now text)
 
 -- nothing was written
 abbrev pub WritesNothing : Seen → Type 0
 WritesNothing seen = seen.written_now ≡ seen.written_before
 
+-- the first bytes of a text of an input without a bad line were written
+abbrev pub PrintsFront : List ℕ → Option (List ℕ) → Option (List ℕ) → Type 0
+PrintsFront input old new = (ending_of_lines (lines_said input) ≡ Done) × (text : List ℕ) × IsModelText (batch_of input) text × AppendsFront old new text
+
 -- the outcome of an input that was read, and what it wrote
 abbrev pub InputEnds : Outcome → List ℕ → Option (List ℕ) → Option (List ℕ) → ℕ → ℕ → Type 0
-InputEnds Done input old new before now = (ending_of_lines (blank_lines_of input) ≡ Done) × (new ≡ append_known old empty_model)
-InputEnds Memory input old new before now = new ≡ old
-InputEnds (BadLine line why) input old new before now = (ending_of_lines (blank_lines_of input) ≡ BadLine line why) × (new ≡ old)
-InputEnds Write input old new before now = (ending_of_lines (blank_lines_of input) ≡ Done) × Rose before now × AppendsFront old new empty_model
+InputEnds Done input old new before now = (ending_of_lines (lines_said input) ≡ Done) × (text : List ℕ) × IsModelText (batch_of input) text × (new ≡ append_known old text)
+InputEnds Memory input old new before now = (new ≡ old) ⊎ PrintsFront input old new
+InputEnds (BadLine line why) input old new before now = (ending_of_lines (lines_said input) ≡ BadLine line why) × (new ≡ old)
+InputEnds Write input old new before now = Rose before now × PrintsFront input old new
 InputEnds other input old new before now = ⊥
 
 -- what an outcome wrote

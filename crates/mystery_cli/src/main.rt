@@ -2,14 +2,21 @@
 //! other. `run` is the whole program over any files, sinks and gate; `main` gives it the real ones.
 #![tactic(auto)]
 
+mod batch;
+mod batch_model;
 mod command_line;
+mod days;
+mod judged;
+mod model_text;
 mod outcome;
 mod printing;
 mod program;
+mod refused;
 
 use mystery_io::{OpenGate, RealFiles, RealSink, send_text};
 pub use outcome::Outcome;
 pub use program::run;
+pub use refused::Refused;
 use std::alloc::{AllocError, Global};
 use std::env;
 use std::io::ErrorKind;

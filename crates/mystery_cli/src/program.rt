@@ -13,15 +13,15 @@ ghost use Rattle.mystery_cli.specs.Texts.{IsText};
 ghost use Rattle.mystery_cli.specs.Runs.{HasCauseOf, Writes, OfInput, InputEnds};
 
 use crate::Outcome;
+use crate::batch_model::model_of;
 use crate::command_line::CommandLine;
-use event_lines::{LineError, read_blank_lines};
-use mystery_io::{Files, Gate, ReadFault, Sink, read_all, send_text, write_text};
+use crate::model_text::print_model;
+use crate::printing::PrintFault;
+use event_lines::LineError;
+use mystery_io::{Files, Gate, ReadFault, Sink, read_all, send_text};
 use std::alloc::Global;
 use std::thread::Threads;
 use trace_types::Text;
-
-// The text of a model of no traces.
-const EMPTY_MODEL: &[u8] = b"model\ttraces=0\tdays=0\tsegments=0\ttasks=0\thb=0\tmx=0\tpipe=0\n";
 
 // Judges an input and prints its text.
 fn print_text<S: Sink>(alloc: Global, input: &[u8], out: &mut S) -> Outcome
@@ -29,12 +29,13 @@ fn print_text<S: Sink>(alloc: Global, input: &[u8], out: &mut S) -> Outcome
     ensures ends { InputEnds result input.now (S.written out.old) (S.written out.new) (S.faults out.old) (S.faults out.new) }
     ensures later { S.faults out.old ≤ S.faults out.new }
 {
-    match read_blank_lines(alloc, input) {
+    match model_of(alloc, input) {
         Err(LineError::Memory) => Outcome::Memory,
         Err(LineError::Bad { line, why }) => Outcome::BadLine { line, why },
-        Ok(_) => match write_text(out, EMPTY_MODEL) {
+        Ok(model) => match print_model(alloc, out, &model) {
             Ok(()) => Outcome::Done,
-            Err(_) => Outcome::Write,
+            Err(PrintFault::Memory) => Outcome::Memory,
+            Err(PrintFault::Write) => Outcome::Write,
         },
     }
 }
@@ -146,7 +147,8 @@ pub fn run<R: Threads + Sync, F: Files, S: Sink, E: Sink, G: Gate + Sync>(
     // What is on `out`.
     ensures done { result ≡ 0 → OfInput (F.contents files.old) words.now (λ input. (text : List ℕ) × IsText words.now input text × (S.written out.new ≡ append_known (S.written out.old) text)) }
     ensures read_all { result ≡ 0 → CountsCalls (length (files_of words.now)) (F.opens files.old) (F.opens files.new) }
-    ensures front { OfInput (F.contents files.old) words.now (λ input. (text : List ℕ) × IsText words.now input text × AppendsFront (S.written out.old) (S.written out.new) text) }
+    ensures front { (S.written out.new ≡ S.written out.old)
+        ⊎ OfInput (F.contents files.old) words.now (λ input. (text : List ℕ) × IsText words.now input text × AppendsFront (S.written out.old) (S.written out.new) text) }
     ensures nothing { (result ≡ 2) ⊎ (result ≡ 3) ⊎ (result ≡ 4) ⊎ (result ≡ 6) → S.written out.new ≡ S.written out.old }
 {
     let outcome = perform(alloc, words, files, out);

@@ -1,10 +1,7 @@
 use Rattle.std.proofs.Common.{refl}
 use Rattle.mystery_cli.specs.CommandLines.{plain}
-use Rattle.mystery_cli.proofs.EndingLemmas.{in_grammar, files_named, front_of_nothing, cause_too_big, cause_of_ends, writes_of_ends, read_input}
+use Rattle.mystery_cli.proofs.EndingLemmas.{in_grammar, files_named, cause_too_big, cause_of_ends, writes_of_ends, read_input}
 use Rattle.mystery_cli.proofs.program.perform.Goals as goal
-
-pub returns-in-Err-Memory-clause-writes : goal.returns-in-Err-Memory-clause-writes
-returns-in-Err-Memory-clause-writes g c = front_of_nothing (g.F.Files.contents c.args.files.now) c.args.words.now (g.S.Sink.written c.args.out.now) (g.S.Sink.written c.args.out.now) refl
 
 pub returns-in-Err-TooBig-clause-cause : goal.returns-in-Err-TooBig-clause-cause
 returns-in-Err-TooBig-clause-cause g c =
