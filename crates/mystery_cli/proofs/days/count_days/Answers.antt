@@ -1,4 +1,3 @@
-
 use Rattle.mystery_cli.proofs.DayLemmas.{day_next, days_counted, no_days}
 use Rattle.mystery_cli.proofs.days.count_days.Goals as goal
 

@@ -1,0 +1,162 @@
+use super::{EMPTY, ROOM, SETTING, Setting, expect, texts};
+use crate::run;
+use mystery_io::{ByteList, MAX_INPUT, MemFile, MemFiles, MemSink, OpenGate};
+use std::test::Fail;
+use trace_types::Text;
+
+const USAGE: &[u8] = b"usage: mystery [--workers N] COMMAND FILE...\n";
+
+#[test]
+fn blank_input_has_the_empty_model(rt: HostRuntime) -> Result<(), Fail> {
+    let table: [(&[&str], &[u8], &[u8]); 6] = [
+        (&["model", "f"], b"", b""),
+        (&["model", "f"], b"\n \t\r\n", b""),
+        (&["model", "f", "g"], b" ", b"\t"),
+        (&["model", "g", "f", "f"], b"\n", b""),
+        (&["--workers", "1", "model", "f"], b"", b""),
+        (&["--workers", "64", "model", "f", "g"], b"", b"\r"),
+    ];
+    for (words, f, g) in table {
+        let setting = Setting {
+            words,
+            f,
+            g,
+            ..SETTING
+        };
+        expect(&rt, rt.alloc(), setting, 0, EMPTY, b"")?;
+    }
+    Ok(())
+}
+
+#[test]
+fn words_outside_the_grammar_have_status_2(rt: HostRuntime) -> Result<(), Fail> {
+    let table: [&[&str]; 20] = [
+        &[],
+        &[""],
+        &["model"],
+        &["model", ""],
+        &["model", "f", ""],
+        &["Model", "f"],
+        &["--workers"],
+        &["--workers", "4"],
+        &["--workers", "4", "model"],
+        &["--workers", "0", "model", "f"],
+        &["--workers", "04", "model", "f"],
+        &["--workers", "+4", "model", "f"],
+        &["--workers", "65", "model", "f"],
+        &["--workers", "", "model", "f"],
+        &["--workers", "4", "--workers", "4", "model", "f"],
+        &["--help"],
+        &["session", "f"],
+        &["paths", "f"],
+        &["drill", "1", "1"],
+        &["f"],
+    ];
+    for words in table {
+        let setting = Setting { words, ..SETTING };
+        expect(&rt, rt.alloc(), setting, 2, b"", USAGE)?;
+    }
+    Ok(())
+}
+
+#[test]
+fn a_failed_call_on_files_names_the_file(rt: HostRuntime) -> Result<(), Fail> {
+    // Calls 1 to 3 open and read f, 4 to 6 open and read g.
+    let first: &[u8] = b"file 1: read failed\n";
+    let second: &[u8] = b"file 2: read failed\n";
+    let table = [
+        (1, first),
+        (2, first),
+        (3, first),
+        (4, second),
+        (5, second),
+        (6, second),
+    ];
+    for (failing, message) in table {
+        let setting = Setting {
+            words: &["model", "f", "g"],
+            f: b" ",
+            g: b" ",
+            failing,
+            ..SETTING
+        };
+        expect(&rt, rt.alloc(), setting, 4, b"", message)?;
+    }
+    let setting = Setting {
+        words: &["model", "f", "missing"],
+        ..SETTING
+    };
+    expect(&rt, rt.alloc(), setting, 4, b"", second)
+}
+
+#[test]
+fn a_failed_write_leaves_the_front_of_the_text(rt: HostRuntime) -> Result<(), Fail> {
+    let table: [(usize, u32, u8, &[u8], &[u8]); 4] = [
+        (1, 0, 0, EMPTY, b""),
+        (1, 3, 5, b"mo", b"write failed\n"),
+        (7, 1, 5, b"", b"write failed\n"),
+        (7, 9, 5, &EMPTY[..56], b"write failed\n"),
+    ];
+    for (out_most, out_failing, status, out, err) in table {
+        let setting = Setting {
+            out_most,
+            out_failing,
+            ..SETTING
+        };
+        expect(&rt, rt.alloc(), setting, status, out, err)?;
+    }
+    Ok(())
+}
+
+#[test]
+fn a_failed_message_leaves_the_status(rt: HostRuntime) -> Result<(), Fail> {
+    let table: [(&[&str], &[u8], u8); 3] = [
+        (&["session", "f"], b"", 2),
+        (&["model", "f"], b"{", 3),
+        (&["model", "missing"], b"", 4),
+    ];
+    for (words, f, status) in table {
+        let setting = Setting {
+            words,
+            f,
+            err_failing: 1,
+            ..SETTING
+        };
+        expect(&rt, rt.alloc(), setting, status, b"", b"")?;
+    }
+    Ok(())
+}
+
+#[test]
+fn the_size_is_passed_by_one_line_feed_more(rt: HostRuntime) -> Result<(), Fail> {
+    let alloc = rt.alloc();
+    let limit: &[u8] = b"limit: input over 67108864 bytes\n";
+    let table: [(usize, u8, &[u8], &[u8]); 2] = [
+        (MAX_INPUT, 0, EMPTY, b""),
+        (MAX_INPUT + 1, 6, b"", limit),
+    ];
+    for (count, status, out, err) in table {
+        let words = texts(alloc, &["model", "f"])?;
+        let mut all = Vec::new(alloc);
+        all.push(MemFile {
+            name: Text::new(alloc, "f")?,
+            bytes: ByteList::of(vec![in alloc; b'\n'; count]?),
+        })?;
+        let mut files = MemFiles::new(all, ROOM, Vec::new(alloc));
+        let mut to_out = MemSink::new(alloc, ROOM, Vec::new(alloc), ROOM)?;
+        let mut to_err = MemSink::new(alloc, ROOM, Vec::new(alloc), ROOM)?;
+        let got = run(
+            &rt,
+            alloc,
+            &words,
+            &mut files,
+            &mut to_out,
+            &mut to_err,
+            &OpenGate,
+        );
+        assert_eq!(rt; to_err.bytes(), err);
+        assert_eq!(rt; got, status);
+        assert_eq!(rt; to_out.bytes(), out);
+    }
+    Ok(())
+}
