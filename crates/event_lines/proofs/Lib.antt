@@ -1,5 +1,4 @@
 pub mod Batch
-pub mod Blank
 pub mod Cut
 pub mod Good
 pub mod JsonOf

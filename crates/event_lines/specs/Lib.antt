@@ -1,4 +1,3 @@
-pub mod Blank
 pub mod Cut
 pub mod Fields
 pub mod Gathered

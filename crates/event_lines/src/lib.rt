@@ -2,7 +2,6 @@
 //! refused at the first bad line with the reason.
 #![tactic(auto)]
 
-mod blank_lines;
 mod bytes;
 mod command;
 mod event_fields;
@@ -16,7 +15,6 @@ mod text_rules;
 mod time_unit;
 mod why;
 
-pub use blank_lines::read_blank_lines;
 pub use command::Command;
 pub use gathering::gather;
 pub use line::Line;

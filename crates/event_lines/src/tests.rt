@@ -1,4 +1,4 @@
-use crate::{Line, LineError, Why, gather, lines_rise, read_blank_lines, read_lines};
+use crate::{Line, LineError, gather, lines_rise, read_lines};
 use std::alloc::Global;
 use std::test::Fail;
 use trace_types::{Event, Text};
@@ -150,18 +150,6 @@ fn blank_lines_count_in_the_numbering(rt: HostRuntime) -> Result<(), Fail> {
             .ok_or("good")?
             .as_slice(),
         [7000].as_slice()
-    );
-    let bad = Some(LineError::Bad {
-        line: 3,
-        why: Why::NotBuilt,
-    });
-    assert_eq!(rt; read_blank_lines(rt.alloc(), b"\n \t\r\n{}\n[]").err(), bad);
-    assert_eq!(rt;
-        read_blank_lines(rt.alloc(), b" \n\n")
-            .ok()
-            .ok_or("blank")?
-            .len(),
-        0
     );
     Ok(())
 }
