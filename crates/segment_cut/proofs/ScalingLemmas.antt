@@ -1,5 +1,5 @@
 -- A trace of one machine in thousandfold times is cut alike.
-use Rattle.std.proofs.Common.{◌≡◌, ◌⊎◌, ℕ, ◌+◌, ◌*◌, ◌<◌, ◌≤◌, ℤ, pos, ◌+ℤ◌, ◌-ℤ◌, ◌*ℤ◌, ◌<ℤ◌, ◌≤ℤ◌, neg_ℤ, Option, Some, None, List, [], ◌∷◌, length, map, get_or, All, Contains, arith, refl, sym, ap, ◌∙◌, subst, ⊎_elim, inl, inr}
+use Rattle.std.proofs.Common.{◌≡◌, ℕ, ◌*◌, ◌<◌, ◌≤◌, ℤ, pos, ◌-ℤ◌, ◌*ℤ◌, ◌≤ℤ◌, Option, Some, None, List, [], ◌∷◌, length, get_or, All, Contains, arith, refl, sym, ap, ◌∙◌, subst, ⊎_elim, inl, inr}
 use Rattle.std.specs.List.{AllPairs, AllZip}
 use Rattle.std.proofs.lemmas.Bool.{cases_lt}
 use Rattle.std.proofs.lemmas.Int.{ints}
@@ -8,15 +8,13 @@ use Rattle.std.proofs.lemmas.List.Elements.{All-head, All-tail, All-get_or, All-
 use Rattle.trace_types.specs.declared.event.Event.{Event}
 use Rattle.trace_types.specs.declared.segment.Segment.{Segment}
 use Rattle.trace_types.specs.declared.trace.Trace.{Trace}
-use Rattle.trace_types.specs.Segments.{name_of}
-use Rattle.clock_offsets.specs.Machines.{machines_of, machine_at, IsReference}
+use Rattle.clock_offsets.specs.Machines.{machine_at, IsReference}
 use Rattle.clock_offsets.specs.Offsets.{IsOffset, adjusted}
-use Rattle.clock_offsets.specs.Repeats.{AreDistinct, IsRepeated}
-use Rattle.clock_offsets.specs.Times.{latest_time}
-use Rattle.segment_cut.specs.Places.{tasks_of, names_of, task_at, name_at, time_at, named_events}
+use Rattle.clock_offsets.specs.Repeats.{AreDistinct}
+use Rattle.segment_cut.specs.Places.{task_at, name_at, time_at, named_events}
 use Rattle.segment_cut.specs.Adjusting.{AreAdjusted, HasAdjusted, adjusted_at, IsInRange}
-use Rattle.segment_cut.specs.Neighbours.{IsBefore, AreNeighbours, IsTaskBefore, IsListedBefore, AreAllNeighbours}
-use Rattle.segment_cut.specs.Cutting.{most_events, IsValid, IsSpan, IsSegment, AreSegments, IsCut}
+use Rattle.segment_cut.specs.Neighbours.{IsBefore, AreNeighbours, IsListedBefore, AreAllNeighbours}
+use Rattle.segment_cut.specs.Cutting.{most_events, IsValid, IsSpan, IsSegment, IsCut}
 use Rattle.segment_cut.specs.Elements.{HasElement}
 use Rattle.segment_cut.specs.Scaling.{AreOfOneMachine, AreTimelyMicroseconds, AreThousandfold, IsThousandfold, IsTraceThousandfold}
 use Rattle.segment_cut.proofs.NamingLemmas.{no_event, named_at}

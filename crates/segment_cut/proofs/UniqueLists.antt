@@ -1,7 +1,7 @@
 -- What a definition tells of a list or an element tells which one it is.
-use Rattle.std.proofs.Common.{◌≡◌, ◌⊎◌, ℕ, zero, suc, ◌<◌, Option, Some, None, List, [], ◌∷◌, ◌++◌, length, get_or, Contains, arith, refl, sym, ap, ◌∙◌, subst, ⊎_elim, inl, inr}
+use Rattle.std.proofs.Common.{◌≡◌, ◌⊎◌, ℕ, zero, suc, ◌<◌, Option, Some, None, List, [], ◌∷◌, ◌++◌, Contains, arith, refl, sym, ap, ◌∙◌, subst, ⊎_elim, inl, inr}
 use Rattle.std.specs.List.{AllPairs}
-use Rattle.segment_cut.specs.Elements.{at_sign, IsElementOf, HasElement}
+use Rattle.segment_cut.specs.Elements.{at_sign, HasElement}
 
 cons_cases : {X : Type 0} (x : X) (xs : List X) (z : X) → Contains (x ∷ xs) z → (x ≡ z) ⊎ Contains xs z
 cons_cases x xs z (zero, lt, is) = inl is
