@@ -1,7 +1,7 @@
 ghost use Rattle.std.specs.Prelude.{◌≡◌, ◌≤◌, length};
 ghost use Rattle.event_lines.specs.Reasons.{reason_text};
 
-/// Why a line is bad. Where several reasons hold, the line has the first of this list.
+/// Why a line is bad. Where several reasons hold of an event line, it has the first of this list.
 #[derive(Clone, Copy, Debug, PartialEq, Eq)]
 pub enum Why {
     /// The line has no reading as JSON, or is no object.
@@ -14,9 +14,10 @@ pub enum Why {
     OutOfRange,
     /// A text is empty, longer than 64 bytes, or has a control character.
     BadText,
-    /// A control line names no command.
+    /// A control line names no command. No line has this reason while control lines are not built.
     UnknownCommand,
-    /// The line is good, and nothing that is built takes it.
+    /// Nothing takes the line yet: it is a control line, looked at no further, or an event line
+    /// of which no other reason holds and whose event has an `@`.
     NotBuilt,
 }
 

@@ -1,16 +1,17 @@
 -- How the outcome of an input that was read is that of the run.
-use Rattle.std.proofs.Common.{◌≡◌, ℕ, ◌<◌, ◌≤◌, List, [], length, take, Bool, true, false, Option, Some, None, arith, refl, sym, ◌∙◌, ap, subst, inl, inr}
+use Rattle.std.proofs.Common.{◌≡◌, ℕ, zero, suc, ◌+◌, ◌∷◌, ◌++◌, ◌<◌, ◌≤◌, List, [], length, take, Bool, true, false, Option, Some, None, arith, refl, sym, ◌∙◌, ap, subst, inl, inr}
 use Rattle.std.specs.Prelude.{nat_lt, if◌then◌else◌, IfSome, Result, Ok, Err, ◌⊎◌}
 use Rattle.std.specs.Io.KnownBytes.{append_known}
-use Rattle.std.proofs.lemmas.List.{take_all}
+use Rattle.std.proofs.lemmas.List.{take_all, length-append}
 use Rattle.std.proofs.lemmas.Bool.{lt-ltb, le-ltb, ltb-true}
+use Rattle.event_lines.specs.declared.why.Why.{Why}
 use Rattle.event_lines.specs.declared.line.Line.{Line}
 use Rattle.event_lines.specs.declared.line_error.LineError.{LineError}
 use Rattle.event_lines.specs.declared.line_error.LineError.TheVariants.{Memory as NoMemory, Bad}
 use Rattle.event_lines.specs.Judged.{lines_said}
 use Rattle.mystery_io.specs.Fronts.{AppendsFront}
-use Rattle.mystery_io.specs.Input.{input_of}
-use Rattle.mystery_io.specs.ReadFaults.{IsTooBig}
+use Rattle.mystery_io.specs.Input.{input_of, ended}
+use Rattle.mystery_io.specs.ReadFaults.{FilesSeen, FailedAt, PassedAt}
 use Rattle.mystery_io.specs.declared.reading.TheConstants.{MAX_INPUT}
 use Rattle.mystery_cli.specs.declared.outcome.Outcome.{Outcome}
 use Rattle.mystery_cli.specs.declared.outcome.Outcome.TheVariants.{Done, Memory, Words, BadLine, File, Write, Size}
@@ -43,10 +44,20 @@ ending_read words input g le =
     let b : nat_lt MAX_INPUT (length input) ≡ false = le-ltb MAX_INPUT (length input) le in
     rw (g, b) refl
 
+-- the input of some files is no longer than that of all
+front_length : (c : List ℕ → List ℕ) (names : List (List ℕ)) (i : ℕ) → length (input_of c (take i names)) ≤ length (input_of c names)
+front_length c [] zero = omega arith
+front_length c [] (suc i) = omega arith
+front_length c (x ∷ xs) zero = omega arith
+front_length c (x ∷ xs) (suc i) = omega (arith, front_length c xs i, length-append (ended (c x)) (input_of c (take i xs)), length-append (ended (c x)) (input_of c xs))
+
+too_big : (contents : Option (List ℕ → List ℕ)) (words files : List (List ℕ)) (i : ℕ) → is_in_grammar words ≡ true → files_of words ≡ files → IfSome contents (λ c. MAX_INPUT < length (input_of c (take (i + 1) files))) → OfInput contents words (λ input. ending_of words input ≡ Size)
+too_big None words files i g e h = tt
+too_big (Some c) words files i g e h = ending_too_big words (input_of c (files_of words)) g (rw e (omega (arith, h, front_length c files (i + 1))))
+
 -- the size is passed where the run ends so
-pub cause_too_big : (contents : Option (List ℕ → List ℕ)) (words files : List (List ℕ)) → is_in_grammar words ≡ true → files_of words ≡ files → IsTooBig contents files → OfInput contents words (λ input. ending_of words input ≡ Size)
-cause_too_big None words files g e h = tt
-cause_too_big (Some c) words files g e h = ending_too_big words (input_of c (files_of words)) g (rw e h)
+pub cause_too_big : (s : Seen) (files : List (List ℕ)) → is_in_grammar s.words ≡ true → files_of s.words ≡ files → (index : ℕ) × PassedAt s.files files index → HasCauseOf Size s
+cause_too_big s files g e p = (g, too_big s.files.contents s.words files p.0 g e p.1.passes, rw e p)
 
 ends_as : (o : Outcome) (s : Seen) (input : List ℕ) → is_in_grammar s.words ≡ true → length input ≤ MAX_INPUT → OfInput s.files.contents s.words (λ i. input ≡ i) → ending_of_lines (lines_said input) ≡ o → EndsAs o s
 ends_as o s input g le told e = of_input s.files.contents s.words (λ i. input ≡ i) (λ i. ending_of s.words i ≡ o) (λ i same. rw (← same) (ending_read s.words input g le ∙ e)) told
@@ -134,3 +145,23 @@ size_of_cause Size s n e h k = of_input s.files.contents s.words (λ i. ending_o
 pub read_input : (contents : Option (List ℕ → List ℕ)) (words files : List (List ℕ)) (bytes : List ℕ) → files_of words ≡ files → IfSome contents (λ c. bytes ≡ input_of c files) → OfInput contents words (λ input. bytes ≡ input)
 read_input None words files bytes e h = tt
 read_input (Some c) words files bytes e h = rw e h
+
+-- status 4 names the file, and 3 the line and the reason
+pub file_of_cause : (o : Outcome) (s : Seen) (n : ℕ) (P : Outcome → Type 0) → n ≡ status_of o → HasCauseOf o s → P o → n ≡ 4 → (index : ℕ) × FailedAt s.files (files_of s.words) index × P (File index)
+file_of_cause Done s n P e h p k = absurd (omega (arith, e, k))
+file_of_cause Memory s n P e h p k = absurd (omega (arith, e, k))
+file_of_cause Words s n P e h p k = absurd (omega (arith, e, k))
+file_of_cause (BadLine line why) s n P e h p k = absurd (omega (arith, e, k))
+file_of_cause (File index) s n P e h p k = (index, h.1, p)
+file_of_cause Write s n P e h p k = absurd (omega (arith, e, k))
+file_of_cause Size s n P e h p k = absurd (omega (arith, e, k))
+
+pub line_of_cause : (o : Outcome) (s : Seen) (n : ℕ) (P : Outcome → Type 0) → n ≡ status_of o → HasCauseOf o s → P o → n ≡ 3
+    → OfInput s.files.contents s.words (λ input. (line : ℕ) × (why : Why) × (ending_of s.words input ≡ BadLine line why) × P (BadLine line why))
+line_of_cause Done s n P e h p k = absurd (omega (arith, e, k))
+line_of_cause Memory s n P e h p k = absurd (omega (arith, e, k))
+line_of_cause Words s n P e h p k = absurd (omega (arith, e, k))
+line_of_cause (BadLine line why) s n P e h p k = of_input s.files.contents s.words (λ i. ending_of s.words i ≡ BadLine line why) (λ i. (line : ℕ) × (why : Why) × (ending_of s.words i ≡ BadLine line why) × P (BadLine line why)) (λ i q. (line, why, q, p)) h.2
+line_of_cause (File index) s n P e h p k = absurd (omega (arith, e, k))
+line_of_cause Write s n P e h p k = absurd (omega (arith, e, k))
+line_of_cause Size s n P e h p k = absurd (omega (arith, e, k))

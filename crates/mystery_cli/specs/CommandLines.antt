@@ -33,6 +33,7 @@ call_of_words words = None
 abbrev pub call_of : List (List ℕ) → Option Call
 call_of words = if nat_lt (length words) (2 ^ 32) then call_of_words words else None
 
+-- the words are in the grammar
 abbrev pub is_in_grammar : List (List ℕ) → Bool
 is_in_grammar words = is_some (call_of words)
 

@@ -62,6 +62,7 @@ pub record Figures : Type 0 where
   pub hb : List PlainPair
   pub mx : List PlainPair
 
+-- these are the figures of the kept traces
 pub record AreFigures (kept : List Trace) (figures : Figures) : Type 0 where
   pub days : CountsDistinct figures.days (map (λ (trace : Trace). trace.day) kept)
   pub names : CountsDistinct figures.names (map name_of (segments_of kept))

@@ -1,4 +1,4 @@
--- What a fault of printing tells.
+-- What a fault of printing tells; no public clause cites it.
 use Rattle.std.specs.Prelude.{ℕ, ⊤}
 use Rattle.mystery_io.specs.Counts.{Rose}
 use Rattle.mystery_cli.specs.declared.printing.PrintFault.{PrintFault}

@@ -5,7 +5,7 @@ use Rattle.event_lines.specs.Judged.{lines_said}
 use Rattle.mystery_io.specs.Counts.{Rose, CountsCalls}
 use Rattle.mystery_io.specs.Fronts.{AppendsFront}
 use Rattle.mystery_io.specs.Input.{input_of}
-use Rattle.mystery_io.specs.ReadFaults.{FilesSeen, FailedAt}
+use Rattle.mystery_io.specs.ReadFaults.{FilesSeen, FailedAt, PassedAt}
 use Rattle.mystery_cli.specs.declared.outcome.Outcome.{Outcome}
 use Rattle.mystery_cli.specs.declared.outcome.Outcome.TheVariants.{Done, Memory, Words, BadLine, File, Write, Size}
 use Rattle.mystery_cli.specs.CommandLines.{is_in_grammar, files_of}
@@ -38,11 +38,11 @@ OpenedAll seen = CountsCalls (length (files_of seen.words)) seen.files.opens_bef
 abbrev pub HasCauseOf : Outcome → Seen → Type 0
 HasCauseOf Done seen = (is_in_grammar seen.words ≡ true) × OpenedAll seen × EndsAs Done seen
 HasCauseOf Memory seen = is_in_grammar seen.words ≡ true
-HasCauseOf Words seen = (is_in_grammar seen.words ≡ false) × EndsAs Words seen
+HasCauseOf Words seen = (is_in_grammar seen.words ≡ false) × EndsAs Words seen × (seen.files.opens_now ≡ seen.files.opens_before)
 HasCauseOf (BadLine line why) seen = (is_in_grammar seen.words ≡ true) × OpenedAll seen × EndsAs (BadLine line why) seen
 HasCauseOf (File index) seen = (is_in_grammar seen.words ≡ true) × FailedAt seen.files (files_of seen.words) index
 HasCauseOf Write seen = (is_in_grammar seen.words ≡ true) × OpenedAll seen × Rose seen.faults_before seen.faults_now × EndsAs Done seen
-HasCauseOf Size seen = (is_in_grammar seen.words ≡ true) × EndsAs Size seen
+HasCauseOf Size seen = (is_in_grammar seen.words ≡ true) × EndsAs Size seen × ((index : ℕ) × PassedAt seen.files (files_of seen.words) index)
 
 -- the whole of a text of the words and the input was written, where both are told
 abbrev pub WritesText : Seen → Type 0
@@ -60,7 +60,7 @@ WritesNothing seen = seen.written_now ≡ seen.written_before
 abbrev pub PrintsFront : List ℕ → Option (List ℕ) → Option (List ℕ) → Type 0
 PrintsFront input old new = (ending_of_lines (lines_said input) ≡ Done) × (text : List ℕ) × IsModelText (batch_of input) text × AppendsFront old new text
 
--- the outcome of an input that was read, and what it wrote
+-- the outcome of an input that was read, and what it wrote; the crate's own functions alone cite it
 abbrev pub InputEnds : Outcome → List ℕ → Option (List ℕ) → Option (List ℕ) → ℕ → ℕ → Type 0
 InputEnds Done input old new before now = (ending_of_lines (lines_said input) ≡ Done) × (text : List ℕ) × IsModelText (batch_of input) text × (new ≡ append_known old text)
 InputEnds Memory input old new before now = (new ≡ old) ⊎ PrintsFront input old new

@@ -10,11 +10,12 @@ use Rattle.mystery_cli.specs.Endings.{ending_of}
 use Rattle.mystery_cli.specs.Models.{events_in}
 use Rattle.mystery_cli.specs.ModelTexts.{IsModelText}
 
+-- the events of good lines; none where a line is bad
 abbrev pub batch_of_lines : Result (List Line) LineError → List Event
 batch_of_lines (Ok lines) = events_in lines
 batch_of_lines (Err e) = []
 
--- the events of an input: one batch; none where a line is bad
+-- the events of an input, which are one batch
 abbrev pub batch_of : List ℕ → List Event
 batch_of input = batch_of_lines (lines_said input)
 

@@ -16,7 +16,7 @@ const MAX_WORKERS: u32 = 64;
 /// What the words ask for.
 #[derive(Clone, Copy, Debug)]
 pub(crate) struct CommandLine<'w> {
-    /// How many workers, from 1 to 64.
+    /// How many workers, from 1 to 64. It changes nothing yet.
     pub(crate) workers: u32,
     /// The names of the files, one at least.
     pub(crate) files: &'w [Text],

@@ -16,7 +16,7 @@ pub enum Outcome {
     Words,
     /// The line with this number is the first bad one of the input.
     BadLine { line: u32, why: Why },
-    /// The file at this place of the words, from 0, could not be opened or read.
+    /// The file at this place of those that the words name, from 0, could not be opened or read.
     File { index: u32 },
     /// The text could not be written to its end.
     Write,

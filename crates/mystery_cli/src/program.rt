@@ -1,11 +1,12 @@
 ghost use Rattle.std.specs.Prelude.{◌≡◌, ◌≤◌, ◌<◌, ◌==◌, ◌⊎◌, List, ℕ, length, not};
 ghost use Rattle.std.specs.Io.KnownBytes.{append_known};
 ghost use Rattle.mystery_io.specs.Counts.{Rose, CountsCalls};
+ghost use Rattle.mystery_io.specs.ReadFaults.{FailedAt};
 ghost use Rattle.mystery_io.specs.Fronts.{AppendsFront, Sends};
 ghost use Rattle.mystery_io.specs.declared.reading.TheConstants.{MAX_INPUT};
 ghost use Rattle.event_lines.specs.declared.why.Why.{Why};
 ghost use Rattle.mystery_cli.specs.declared.outcome.Outcome.{Outcome};
-ghost use Rattle.mystery_cli.specs.declared.outcome.Outcome.TheVariants.{BadLine};
+ghost use Rattle.mystery_cli.specs.declared.outcome.Outcome.TheVariants.{BadLine, File};
 ghost use Rattle.mystery_cli.specs.CommandLines.{is_in_grammar, files_of};
 ghost use Rattle.mystery_cli.specs.Endings.{ending_of};
 ghost use Rattle.mystery_cli.specs.Messages.{status_of, message_of};
@@ -72,6 +73,9 @@ fn perform<F: Files, S: Sink>(alloc: Global, words: &[Text], files: &mut F, out:
       faults_before = S.faults out.old;
       faults_now = S.faults out.new;
     }) }
+    ensures contents { F.contents files.new ≡ F.contents files.old }
+    ensures files_later { F.faults files.old ≤ F.faults files.new }
+    ensures out_later { S.faults out.old ≤ S.faults out.new }
 {
     let Some(line) = CommandLine::parse(words) else {
         return Outcome::Words;
@@ -100,42 +104,40 @@ pub fn run<R: Threads + Sync, F: Files, S: Sink, E: Sink, G: Gate + Sync>(
     _gate: &G,
 ) -> u8
     // The outcome has its cause, wrote what it should, and its message is on `err`.
-    ensures explained { (o : Outcome) × (result ≡ status_of o) × HasCauseOf o (record {
-      words = words.now;
-      files = record {
-        contents = F.contents files.old;
-        left = F.left files.new;
-        opens_before = F.opens files.old;
-        opens_now = F.opens files.new;
-        faults_before = F.faults files.old;
-        faults_now = F.faults files.new;
-      };
-      written_before = S.written out.old;
-      written_now = S.written out.new;
-      faults_before = S.faults out.old;
-      faults_now = S.faults out.new;
-    }) × Writes o (record {
-      words = words.now;
-      files = record {
-        contents = F.contents files.old;
-        left = F.left files.new;
-        opens_before = F.opens files.old;
-        opens_now = F.opens files.new;
-        faults_before = F.faults files.old;
-        faults_now = F.faults files.new;
-      };
-      written_before = S.written out.old;
-      written_now = S.written out.new;
-      faults_before = S.faults out.old;
-      faults_now = S.faults out.new;
-    })
-        × Sends (E.written err.old) (E.written err.new) (message_of o) (E.faults err.old) (E.faults err.new) }
+    ensures explained { let seen = record {
+        words = words.now;
+        files = record {
+          contents = F.contents files.old;
+          left = F.left files.new;
+          opens_before = F.opens files.old;
+          opens_now = F.opens files.new;
+          faults_before = F.faults files.old;
+          faults_now = F.faults files.new;
+        };
+        written_before = S.written out.old;
+        written_now = S.written out.new;
+        faults_before = S.faults out.old;
+        faults_now = S.faults out.new;
+      } in
+      (o : Outcome) × (result ≡ status_of o) × HasCauseOf o seen × Writes o seen
+      × Sends (E.written err.old) (E.written err.new) (message_of o) (E.faults err.old) (E.faults err.new) }
 
     // Each status and its cause.
     ensures range { result ≤ 6 }
     ensures words { (result == 2) ≡ not (is_in_grammar words.now) }
-    ensures bad_line { result ≡ 3 → OfInput (F.contents files.old) words.now (λ input. (line : ℕ) × (why : Why) × (ending_of words.now input ≡ BadLine line why)) }
+    ensures untouched { result ≡ 2 → F.opens files.new ≡ F.opens files.old }
+    ensures bad_line { result ≡ 3 → OfInput (F.contents files.old) words.now (λ input. (line : ℕ) × (why : Why) × (ending_of words.now input ≡ BadLine line why)
+        × Sends (E.written err.old) (E.written err.new) (message_of (BadLine line why)) (E.faults err.old) (E.faults err.new)) }
     ensures read_fault { result ≡ 4 → Rose (F.faults files.old) (F.faults files.new) }
+    ensures named_file { result ≡ 4 → (index : ℕ) × FailedAt (record {
+      contents = F.contents files.old;
+      left = F.left files.new;
+      opens_before = F.opens files.old;
+      opens_now = F.opens files.new;
+      faults_before = F.faults files.old;
+      faults_now = F.faults files.new;
+    }) (files_of words.now) index
+        × Sends (E.written err.old) (E.written err.new) (message_of (File index)) (E.faults err.old) (E.faults err.new) }
     ensures write_fault { result ≡ 5 → Rose (S.faults out.old) (S.faults out.new) }
     ensures size { result ≡ 6 → OfInput (F.contents files.old) words.now (λ input. MAX_INPUT < length input) }
     ensures decided { OfInput (F.contents files.old) words.now (λ input. (result ≡ status_of (ending_of words.now input)) ⊎ (result ≡ 1)
@@ -150,6 +152,11 @@ pub fn run<R: Threads + Sync, F: Files, S: Sink, E: Sink, G: Gate + Sync>(
     ensures front { (S.written out.new ≡ S.written out.old)
         ⊎ OfInput (F.contents files.old) words.now (λ input. (text : List ℕ) × IsText words.now input text × AppendsFront (S.written out.old) (S.written out.new) text) }
     ensures nothing { (result ≡ 2) ⊎ (result ≡ 3) ⊎ (result ≡ 4) ⊎ (result ≡ 6) → S.written out.new ≡ S.written out.old }
+
+    // What stays, and what does not fall.
+    ensures contents { F.contents files.new ≡ F.contents files.old }
+    ensures files_later { F.faults files.old ≤ F.faults files.new }
+    ensures out_later { S.faults out.old ≤ S.faults out.new }
 {
     let outcome = perform(alloc, words, files, out);
     send_text(err, outcome.message().as_str().as_bytes());

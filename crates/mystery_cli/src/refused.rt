@@ -6,6 +6,6 @@ use trace_types::Text;
 pub struct Refused {
     /// Its request.
     pub request: Text,
-    /// Why it was refused; never want of memory.
+    /// Why it was refused.
     pub fault: TraceFault,
 }

@@ -9,7 +9,7 @@ use Rattle.mystery_io.specs.declared.reading.TheConstants.{MAX_INPUT}
 use Rattle.mystery_io.specs.Counts.{CountsCalls, counted_up}
 use Rattle.mystery_io.specs.Input.{input_of, ended}
 use Rattle.mystery_io.specs.ReadFaults.{PassesSize, FitsBefore, HasFileCause, HasEndedCause, HasReadCause, FilesSeen}
-use Rattle.mystery_io.proofs.InputLemmas.{input_more, input_front}
+use Rattle.mystery_io.proofs.InputLemmas.{input_more}
 
 -- nothing more was read
 pub fits_unread : (count : ℕ) (content left : Option (List ℕ)) → count ≤ MAX_INPUT → left ≡ content → FitsBefore count content left
@@ -80,9 +80,17 @@ read_cause (File j) seen mid names index i x bs opens faults lt is same o p le f
   fits = rw (k.0 ∙ n) (told_fits seen.contents (take i names) bs fits h);
   before = rw (k.0 ∙ n) (told_before seen.contents names i x bs seen.left lt is h (rw (← same) k.2));
 }
-read_cause TooBig seen mid names index i x bs opens faults lt is same o p le fits h n k = too_big seen.contents names i x bs lt is h (rw (← same) k)
+read_cause TooBig seen mid names index i x bs opens faults lt is same o p le fits h n k = (
+  i,
+  record {
+    named = lt;
+    opened = record { least = omega (arith, o.least, p); most = omega (arith, o.most, p) };
+    fits = told_fits seen.contents (take i names) bs fits h;
+    passes = too_big seen.contents names i x bs lt is h (rw (← same) k);
+  },
+)
   where
     too_big : (contents : Option (List ℕ → List ℕ)) (names : List (List ℕ)) (i : ℕ) (x bs : List ℕ) → i < length names → x ≡ get_or names i x → IfSome contents (λ c. bs ≡ input_of c (take i names))
-        → PassesSize (length bs) (option_map ended (option_map (λ c. c x) contents)) → IfSome contents (λ c. MAX_INPUT < length (input_of c names))
+        → PassesSize (length bs) (option_map ended (option_map (λ c. c x) contents)) → IfSome contents (λ c. MAX_INPUT < length (input_of c (take (i + 1) names)))
     too_big None names i x bs lt is h k = tt
-    too_big (Some c) names i x bs lt is h k = omega (arith, k, ap length h, ap length (input_more c names i x lt is), length-append (input_of c (take i names)) (ended (c x)), input_front c names (i + 1))
+    too_big (Some c) names i x bs lt is h k = omega (arith, k, ap length h, ap length (input_more c names i x lt is), length-append (input_of c (take i names)) (ended (c x)))

@@ -41,7 +41,7 @@ pub record FilesSeen : Type 0 where
   pub faults_before : ℕ
   pub faults_now : ℕ
 
--- the file at an index failed: the count rose, that file was the last to be opened, and what was read before the fault is within the size
+-- the file at an index failed: the count rose, as many files were opened as stand up to it, the input of those before it is within the size, and so is what was read of it, as far as something of it is left
 pub record FailedAt (seen : FilesSeen) (names : List (List ℕ)) (index : ℕ) : Type 0 where
   pub named : index < length names
   pub opened : CountsCalls (index + 1) seen.opens_before seen.opens_now
@@ -49,12 +49,15 @@ pub record FailedAt (seen : FilesSeen) (names : List (List ℕ)) (index : ℕ) :
   pub fits : IfSome seen.contents (λ c. length (input_of c (take index names)) ≤ MAX_INPUT)
   pub before : IfSome seen.contents (λ c. FitsBefore (length (input_of c (take index names))) (Some (c (get_or names index []))) seen.left)
 
--- the input of these names passes the size, where the contents are told
-abbrev pub IsTooBig : Option (List ℕ → List ℕ) → List (List ℕ) → Type 0
-IsTooBig contents names = IfSome contents (λ c. MAX_INPUT < length (input_of c names))
+-- the size is passed in the file at an index: it was the last to be opened, the input of the files before it is within the size, and that with it is not
+pub record PassedAt (seen : FilesSeen) (names : List (List ℕ)) (index : ℕ) : Type 0 where
+  pub named : index < length names
+  pub opened : CountsCalls (index + 1) seen.opens_before seen.opens_now
+  pub fits : IfSome seen.contents (λ c. length (input_of c (take index names)) ≤ MAX_INPUT)
+  pub passes : IfSome seen.contents (λ c. MAX_INPUT < length (input_of c (take (index + 1) names)))
 
 -- why the input was not read
 abbrev pub HasReadCause : FilesSeen → List (List ℕ) → ReadFault → Type 0
 HasReadCause seen names Memory = ⊤
 HasReadCause seen names (File index) = FailedAt seen names index
-HasReadCause seen names TooBig = IsTooBig seen.contents names
+HasReadCause seen names TooBig = (index : ℕ) × PassedAt seen names index

@@ -1,4 +1,4 @@
--- Each kind of atomic step of a table is a step of the step machine.
+-- The four kinds of atomic step that change a word or a view, each a step of the step machine. The load at the end of a join is of none of them: it keeps every word and every view.
 use Rattle.std.specs.Prelude.{◌≡◌, ◌≢◌, ℕ, ◌^◌, ◌<◌, Bool, true, false, Ok, List, [], ◌∷◌, ◌++◌, length, bit_and, slice_index, slice_index_or, slice_set}
 use Rattle.std.specs.Int.{bit_not, w64}
 use mathlib.Core.Option.{none, some}

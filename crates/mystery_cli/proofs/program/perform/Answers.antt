@@ -6,11 +6,8 @@ use Rattle.mystery_cli.proofs.program.perform.Goals as goal
 pub returns-in-Err-TooBig-clause-cause : goal.returns-in-Err-TooBig-clause-cause
 returns-in-Err-TooBig-clause-cause g c =
     let call = plain c.in-Some.line in
-    let known = c.in-Some.ensures.call in (
-      in_grammar c.args.words.now call known,
-      cause_too_big (g.F.Files.contents c.args.files.now) c.args.words.now c.in-Some.line.files.now (in_grammar c.args.words.now call known) (files_named c.args.words.now call known)
-          (rw c.in-Err-TooBig.field-0-is at c.in-Err-TooBig.ensures.cause),
-    )
+    let known = c.in-Some.ensures.call in
+    cause_too_big _ c.in-Some.line.files.now (in_grammar c.args.words.now call known) (files_named c.args.words.now call known) (rw c.in-Err-TooBig.field-0-is at c.in-Err-TooBig.ensures.cause)
 
 pub returns-in-Ok-clause-cause : goal.returns-in-Ok-clause-cause
 returns-in-Ok-clause-cause g c =
