@@ -1,5 +1,5 @@
 -- How the outcome of an input that was read is that of the run.
-use Rattle.std.proofs.Common.{◌≡◌, ℕ, zero, suc, ◌+◌, ◌∷◌, ◌++◌, ◌<◌, ◌≤◌, List, [], length, take, Bool, true, false, Option, Some, None, arith, refl, sym, ◌∙◌, ap, subst, inl, inr}
+use Rattle.std.proofs.Common.{◌≡◌, ℕ, zero, suc, ◌+◌, ◌∷◌, ◌<◌, ◌≤◌, List, [], length, take, Bool, true, false, Option, Some, None, arith, refl, sym, ◌∙◌, ap, subst, inl, inr}
 use Rattle.std.specs.Prelude.{nat_lt, if◌then◌else◌, IfSome, Result, Ok, Err, ◌⊎◌}
 use Rattle.std.specs.Io.KnownBytes.{append_known}
 use Rattle.std.proofs.lemmas.List.{take_all, length-append}
@@ -11,7 +11,7 @@ use Rattle.event_lines.specs.declared.line_error.LineError.TheVariants.{Memory a
 use Rattle.event_lines.specs.Judged.{lines_said}
 use Rattle.mystery_io.specs.Fronts.{AppendsFront}
 use Rattle.mystery_io.specs.Input.{input_of, ended}
-use Rattle.mystery_io.specs.ReadFaults.{FilesSeen, FailedAt, PassedAt}
+use Rattle.mystery_io.specs.ReadFaults.{FailedAt, PassedAt}
 use Rattle.mystery_io.specs.declared.reading.TheConstants.{MAX_INPUT}
 use Rattle.mystery_cli.specs.declared.outcome.Outcome.{Outcome}
 use Rattle.mystery_cli.specs.declared.outcome.Outcome.TheVariants.{Done, Memory, Words, BadLine, File, Write, Size}

@@ -3,7 +3,7 @@ use Rattle.std.specs.Prelude.{◌≡◌, ℕ, List, [], ◌∷◌, map, Option, 
 use Rattle.std.specs.List.{AllZip, filter_map}
 use Rattle.trace_types.specs.declared.event.Event as events
 use Rattle.trace_types.specs.declared.trace.Trace.{Trace}
-use Rattle.trace_types.specs.Batch.{PlainTrace, traces_of}
+use Rattle.trace_types.specs.Batch.{PlainTrace}
 use Rattle.trace_types.specs.Segments.{name_of, task_of}
 use Rattle.event_lines.specs.declared.line.Line.{Line}
 use Rattle.event_lines.specs.declared.line.Line.TheVariants.{Event, Control}

@@ -11,7 +11,7 @@ ghost use Rattle.mystery_cli.specs.CommandLines.{is_in_grammar, files_of};
 ghost use Rattle.mystery_cli.specs.Endings.{ending_of};
 ghost use Rattle.mystery_cli.specs.Messages.{status_of, message_of};
 ghost use Rattle.mystery_cli.specs.Texts.{IsText};
-ghost use Rattle.mystery_cli.specs.Runs.{HasCauseOf, Writes, OfInput, InputEnds};
+ghost use Rattle.mystery_cli.specs.Runs.{Seen, HasCauseOf, Writes, OfInput, InputEnds};
 
 use crate::Outcome;
 use crate::batch_model::model_of;
@@ -104,23 +104,23 @@ pub fn run<R: Threads + Sync, F: Files, S: Sink, E: Sink, G: Gate + Sync>(
     _gate: &G,
 ) -> u8
     // The outcome has its cause, wrote what it should, and its message is on `err`.
-    ensures explained { let seen = record {
-        words = words.now;
-        files = record {
-          contents = F.contents files.old;
-          left = F.left files.new;
-          opens_before = F.opens files.old;
-          opens_now = F.opens files.new;
-          faults_before = F.faults files.old;
-          faults_now = F.faults files.new;
-        };
-        written_before = S.written out.old;
-        written_now = S.written out.new;
-        faults_before = S.faults out.old;
-        faults_now = S.faults out.new;
-      } in
-      (o : Outcome) × (result ≡ status_of o) × HasCauseOf o seen × Writes o seen
-      × Sends (E.written err.old) (E.written err.new) (message_of o) (E.faults err.old) (E.faults err.new) }
+    ensures explained { let seen : Seen = record {
+      words = words.now;
+      files = record {
+        contents = F.contents files.old;
+        left = F.left files.new;
+        opens_before = F.opens files.old;
+        opens_now = F.opens files.new;
+        faults_before = F.faults files.old;
+        faults_now = F.faults files.new;
+      };
+      written_before = S.written out.old;
+      written_now = S.written out.new;
+      faults_before = S.faults out.old;
+      faults_now = S.faults out.new;
+    } in
+        (o : Outcome) × (result ≡ status_of o) × HasCauseOf o seen × Writes o seen
+        × Sends (E.written err.old) (E.written err.new) (message_of o) (E.faults err.old) (E.faults err.new) }
 
     // Each status and its cause.
     ensures range { result ≤ 6 }

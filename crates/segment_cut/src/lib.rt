@@ -10,6 +10,8 @@ mod neighbours;
 mod ordering;
 mod segments;
 mod span;
+#[cfg(test)]
+mod tests;
 mod times;
 mod trace_cut;
 mod trace_fault;

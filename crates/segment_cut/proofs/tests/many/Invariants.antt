@@ -1,0 +1,14 @@
+use Rattle.std.proofs.Common.{◌≡◌, ◌≤◌, length, codes, All}
+use Rattle.trace_types.specs.declared.event.Event.{Event}
+use Rattle.trace_types.specs.EventLines.{AreOfRequest, LinesRise}
+use Rattle.clock_offsets.specs.Times.{AreTimely}
+use Rattle.segment_cut.proofs.tests.many.Given as goal
+
+abbrev pub invariant-loop-at : goal.invariant-loop-at
+invariant-loop-at l = record {
+  each : length l.events.items ≡ l.at;
+  request : AreOfRequest (codes "r1") l.events.items;
+  rising : LinesRise l.events.items;
+  last : All (λ (e : Event). e.line ≤ l.at) l.events.items;
+  timely : AreTimely l.events.items;
+}
