@@ -8,11 +8,24 @@ use crate::PlainName;
 use std::alloc::{AllocError, Global};
 use trace_types::{Segment, Trace};
 
-/// Whether the name is the segment's.
+/// Whether the name has the lengths of the segment's three texts.
+fn has_lengths_of(name: &PlainName, segment: &Segment) -> bool
+    ensures { named name.now ≡ name_of segment.now → IsTrue result }
+{
+    name.task.as_str().len() == segment.task.as_str().len()
+        && name.start.as_str().len() == segment.start_event.as_str().len()
+        && name.end.as_str().len() == segment.end_event.as_str().len()
+}
+
+/// Whether the name is the segment's. Most names differ in a length, which is told without a look
+/// at the texts.
 pub(crate) fn is_name_of(name: &PlainName, segment: &Segment) -> bool
     ensures { IsTrue result ↔ (named name.now ≡ name_of segment.now) }
 {
-    name.task == segment.task && name.start == segment.start_event && name.end == segment.end_event
+    has_lengths_of(name, segment)
+        && name.task == segment.task
+        && name.start == segment.start_event
+        && name.end == segment.end_event
 }
 
 /// Whether the segment's name is among the names.
