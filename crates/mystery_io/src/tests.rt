@@ -46,6 +46,7 @@ fn each_file_ends_its_last_line(rt: HostRuntime) -> Result<(), Fail> {
     ];
     for (names, want) in table {
         let names = names_of(alloc, names)?;
+        assert!(rt; names.len() <= 3);
         let mut files = SureFiles::new(files_of(alloc, &FILES)?);
         let got = read_all(alloc, &mut files, &names);
         assert_eq!(rt; got.as_deref(), Ok(want));
@@ -67,11 +68,13 @@ fn a_fault_names_the_file_that_was_opened_last(rt: HostRuntime) -> Result<(), Fa
     ];
     for (call, want) in table {
         let names = names_of(alloc, &["plain", "ended"])?;
+        assert!(rt; names.len() == 2);
         let mut files = MemFiles::new(files_of(alloc, &FILES)?, 1, [call].to_vec(alloc)?);
         let got = read_all(alloc, &mut files, &names).map(|_| ());
         assert_eq!(rt; got, want, "call {call}");
     }
     let names = names_of(alloc, &["plain", "missing"])?;
+    assert!(rt; names.len() == 2);
     let mut files = MemFiles::new(files_of(alloc, &FILES)?, 1, Vec::new(alloc));
     let got = read_all(alloc, &mut files, &names).map(|_| ());
     assert_eq!(rt; got, Err(ReadFault::File { index: 1 }));
@@ -88,6 +91,7 @@ fn a_line_feed_may_pass_the_size(rt: HostRuntime) -> Result<(), Fail> {
     ];
     for (count, byte, want) in table {
         let names = names_of(alloc, &["f"])?;
+        assert!(rt; names.len() == 1);
         let mut all = Vec::new(alloc);
         all.push(MemFile {
             name: Text::new(alloc, "f")?,
