@@ -28,31 +28,32 @@ fn blank_input_has_the_empty_model(rt: HostRuntime) -> Result<(), Fail> {
     Ok(())
 }
 
+const OUTSIDE_THE_GRAMMAR: [&[&str]; 20] = [
+    &[],
+    &[""],
+    &["model"],
+    &["model", ""],
+    &["model", "f", ""],
+    &["Model", "f"],
+    &["--workers"],
+    &["--workers", "4"],
+    &["--workers", "4", "model"],
+    &["--workers", "0", "model", "f"],
+    &["--workers", "04", "model", "f"],
+    &["--workers", "+4", "model", "f"],
+    &["--workers", "65", "model", "f"],
+    &["--workers", "", "model", "f"],
+    &["--workers", "4", "--workers", "4", "model", "f"],
+    &["--help"],
+    &["session", "f"],
+    &["paths", "f"],
+    &["drill", "1", "1"],
+    &["f"],
+];
+
 #[test]
 fn words_outside_the_grammar_have_status_2(rt: HostRuntime) -> Result<(), Fail> {
-    let table: [&[&str]; 20] = [
-        &[],
-        &[""],
-        &["model"],
-        &["model", ""],
-        &["model", "f", ""],
-        &["Model", "f"],
-        &["--workers"],
-        &["--workers", "4"],
-        &["--workers", "4", "model"],
-        &["--workers", "0", "model", "f"],
-        &["--workers", "04", "model", "f"],
-        &["--workers", "+4", "model", "f"],
-        &["--workers", "65", "model", "f"],
-        &["--workers", "", "model", "f"],
-        &["--workers", "4", "--workers", "4", "model", "f"],
-        &["--help"],
-        &["session", "f"],
-        &["paths", "f"],
-        &["drill", "1", "1"],
-        &["f"],
-    ];
-    for words in table {
+    for words in OUTSIDE_THE_GRAMMAR {
         let setting = Setting { words, ..SETTING };
         expect(&rt, rt.alloc(), setting, 2, b"", USAGE)?;
     }
