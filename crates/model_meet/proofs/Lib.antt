@@ -5,3 +5,4 @@ pub mod InOrder
 pub mod NamesOf
 pub mod Pairing
 pub mod Refuters
+pub mod Telling

@@ -6,6 +6,7 @@ ghost use Rattle.model_meet.specs.Listing.{ListsExactly};
 ghost use Rattle.model_meet.specs.Naming.{named, name_cmp, pair_cmp, segments_of};
 ghost use Rattle.model_meet.specs.Relations.{HappensBefore, ExcludesUnordered};
 
+use crate::refuted::refuted_row;
 use crate::standing::standing_of;
 use crate::{PlainName, PlainPair};
 use std::alloc::{AllocError, Global};
@@ -62,8 +63,10 @@ fn add_row(
     ensures before { OnOk result (AppendsExactly pair_cmp (λ (pair : PlainPair). (pair.first ≡ first.now) × HappensBefore traces.now pair.first pair.second) lists.old.before.items lists.new.before.items) }
     ensures exclusive { OnOk result (AppendsExactly pair_cmp (λ (pair : PlainPair). (pair.first ≡ first.now) × ExcludesUnordered traces.now pair.first pair.second) lists.old.exclusive.items lists.new.exclusive.items) }
 {
-    for second in names {
-        let standing = standing_of(traces, first, second);
+    let row = refuted_row(alloc, traces, first, names)?;
+    for place in 0..names.len() {
+        let second = &names[place];
+        let standing = standing_of(row[place], first, second);
         push_where(
             alloc,
             standing.happens_before,

@@ -1,13 +1,14 @@
-ghost use Rattle.std.specs.Prelude.{◌≡◌, ◌≢◌, ◌↔◌, ◌&&◌, IsTrue, All, Contains, MatchOption};
+ghost use Rattle.std.specs.Prelude.{◌≡◌, ◌≢◌, ◌↔◌, ◌&&◌, ◌||◌, ◌<◌, ◌+◌, IsTrue, All, Contains, MatchOption, IfOk, length, take};
 ghost use Rattle.trace_types.specs.declared.segment.Segment.{Segment};
 ghost use Rattle.trace_types.specs.Parts.{by_text};
 ghost use Rattle.trace_types.specs.Refuting.{StartsEarly, RefutesBefore, RefutesExclusive, RefutesApart};
 ghost use Rattle.trace_types.specs.Segments.{name_of};
-ghost use Rattle.trace_types.specs.Surviving.{IsRefuted};
 ghost use Rattle.model_meet.specs.Naming.{named, in_trace};
+ghost use Rattle.model_meet.specs.Telling.{AreTold};
 
 use crate::PlainName;
 use crate::distinct_names::is_name_of;
+use std::alloc::{AllocError, Global};
 use trace_types::{Segment, Trace};
 
 /// Which relations of two names are refuted.
@@ -22,6 +23,14 @@ pub(crate) struct Refuted {
     /// That they exclude each other.
     pub exclusive: bool,
 }
+
+/// That no relation is refuted.
+const NOTHING: Refuted = Refuted {
+    apart: false,
+    before: false,
+    after: false,
+    exclusive: false,
+};
 
 /// The trace's segment of this name.
 fn segment_of<'t>(trace: &'t Trace, name: &PlainName) -> Option<&'t Segment>
@@ -54,46 +63,71 @@ fn refuted_between(s: &Segment, t: &Segment) -> Refuted
     }
 }
 
-/// What one trace refutes of two names.
-fn refuted_by(trace: &Trace, a: &PlainName, b: &PlainName) -> Refuted
+/// What one trace, in which the segment of the first name was looked for, refutes of two names.
+fn refuted_by(trace: &Trace, found: Option<&Segment>, a: &PlainName, b: &PlainName) -> Refuted
+    requires { MatchOption found
+        (All (λ (s : Segment). name_of s ≢ named a.now) trace.now.segments)
+        (λ s. Contains trace.now.segments s.now × (name_of s.now ≡ named a.now)) }
     ensures apart { IsTrue result.apart ↔ in_trace (RefutesApart by_text (named a.now) (named b.now)) trace.now }
     ensures before { IsTrue result.before ↔ in_trace (RefutesBefore by_text 0 (named a.now) (named b.now)) trace.now }
     ensures after { IsTrue result.after ↔ in_trace (RefutesBefore by_text 0 (named b.now) (named a.now)) trace.now }
     ensures exclusive { IsTrue result.exclusive ↔ in_trace (RefutesExclusive by_text 0 (named a.now) (named b.now)) trace.now }
 {
-    match (segment_of(trace, a), segment_of(trace, b)) {
-        (Some(s), Some(t)) => refuted_between(s, t),
-        _ => Refuted {
-            apart: false,
-            before: false,
-            after: false,
-            exclusive: false,
-        },
+    let Some(s) = found else {
+        return NOTHING;
+    };
+    match segment_of(trace, b) {
+        Some(t) => refuted_between(s, t),
+        None => NOTHING,
     }
 }
 
-/// What the traces refute of two names, each by itself.
-pub(crate) fn refuted_in(traces: &[Trace], a: &PlainName, b: &PlainName) -> Refuted
-    ensures apart { IsTrue result.apart ↔ IsRefuted (in_trace (RefutesApart by_text (named a.now) (named b.now))) traces.now }
-    ensures before { IsTrue result.before ↔ IsRefuted (in_trace (RefutesBefore by_text 0 (named a.now) (named b.now))) traces.now }
-    ensures after { IsTrue result.after ↔ IsRefuted (in_trace (RefutesBefore by_text 0 (named b.now) (named a.now))) traces.now }
-    ensures exclusive { IsTrue result.exclusive ↔ IsRefuted (in_trace (RefutesExclusive by_text 0 (named a.now) (named b.now))) traces.now }
+/// What either refutes.
+fn either(a: Refuted, b: Refuted) -> Refuted
+    ensures apart { result.apart ≡ (a.apart || b.apart) }
+    ensures before { result.before ≡ (a.before || b.before) }
+    ensures after { result.after ≡ (a.after || b.after) }
+    ensures exclusive { result.exclusive ≡ (a.exclusive || b.exclusive) }
 {
-    let mut apart = false;
-    let mut before = false;
-    let mut after = false;
-    let mut exclusive = false;
-    for trace in traces {
-        let here = refuted_by(trace, a, b);
-        apart |= here.apart;
-        before |= here.before;
-        after |= here.after;
-        exclusive |= here.exclusive;
-    }
     Refuted {
-        apart,
-        before,
-        after,
-        exclusive,
+        apart: a.apart | b.apart,
+        before: a.before | b.before,
+        after: a.after | b.after,
+        exclusive: a.exclusive | b.exclusive,
     }
+}
+
+/// Adds to the row what one more trace refutes of the first name and each of the names.
+fn add_trace(
+    traces: &[Trace],
+    at: usize,
+    first: &PlainName,
+    names: &[PlainName],
+    row: &mut [Refuted],
+)
+    requires within { at < length traces.now }
+    requires told { AreTold (take at traces.now) first.now names.now row.old }
+    ensures { AreTold (take (at + 1) traces.now) first.now names.now row.new }
+{
+    let trace = &traces[at];
+    let found = segment_of(trace, first);
+    for place in 0..names.len() {
+        row[place] = either(row[place], refuted_by(trace, found, first, &names[place]));
+    }
+}
+
+/// What the traces refute of the first name and each of the names, by the place of the latter.
+pub(crate) fn refuted_row(
+    alloc: Global,
+    traces: &[Trace],
+    first: &PlainName,
+    names: &[PlainName],
+) -> Result<Vec<Refuted>, AllocError>
+    ensures { IfOk result (λ row. AreTold traces.now first.now names.now row.items) }
+{
+    let mut row = vec![in alloc; NOTHING; names.len()]?;
+    for at in 0..traces.len() {
+        add_trace(traces, at, first, names, &mut row);
+    }
+    Ok(row)
 }

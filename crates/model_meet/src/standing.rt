@@ -1,9 +1,10 @@
-ghost use Rattle.std.specs.Prelude.{◌≡◌, ◌↔◌, ◌&&◌, not, IsTrue};
+ghost use Rattle.std.specs.Prelude.{◌≡◌, ◌↔◌, ◌&&◌, not, IsTrue, List};
+ghost use Rattle.trace_types.specs.declared.trace.Trace.{Trace};
 ghost use Rattle.model_meet.specs.Relations.{HappensBefore, ExcludesUnordered};
+ghost use Rattle.model_meet.specs.Telling.{Tells};
 
 use crate::PlainName;
-use crate::refuted::{Refuted, refuted_in};
-use trace_types::Trace;
+use crate::refuted::Refuted;
 
 /// Which lines of the model two names have.
 #[derive(Clone, Copy)]
@@ -28,12 +29,11 @@ fn excludes_unordered(rises: bool, refuted: Refuted) -> bool
     rises && refuted.apart && !refuted.exclusive && refuted.before && refuted.after
 }
 
-/// How two names stand to each other in the traces.
-pub(crate) fn standing_of(traces: &[Trace], a: &PlainName, b: &PlainName) -> Standing
-    ensures before { IsTrue result.happens_before ↔ HappensBefore traces.now a.now b.now }
-    ensures exclusive { IsTrue result.excludes_unordered ↔ ExcludesUnordered traces.now a.now b.now }
+/// How two names stand to each other in the traces of which this tells what they refute.
+pub(crate) fn standing_of(refuted: Refuted, a: &PlainName, b: &PlainName) -> Standing
+    ensures before { (traces : List Trace) → Tells traces a.now b.now refuted → IsTrue result.happens_before ↔ HappensBefore traces a.now b.now }
+    ensures exclusive { (traces : List Trace) → Tells traces a.now b.now refuted → IsTrue result.excludes_unordered ↔ ExcludesUnordered traces a.now b.now }
 {
-    let refuted = refuted_in(traces, a, b);
     Standing {
         happens_before: happens_before(a != b, refuted),
         excludes_unordered: excludes_unordered(a < b, refuted),
