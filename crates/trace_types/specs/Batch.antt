@@ -1,8 +1,9 @@
 -- The traces of a batch of events.
-use Rattle.std.specs.Prelude.{ℕ, List, [], ◌∷◌, Bool, not, map, filter}
+use Rattle.std.specs.Prelude.{ℕ, List, Bool, map, filter}
 use Rattle.std.specs.Str.{bytes_eq}
 use Rattle.trace_types.specs.declared.event.Event.{Event}
 use Rattle.trace_types.specs.declared.raw_trace.RawTrace.{RawTrace}
+use Rattle.trace_types.specs.Firsts.{firsts_of}
 
 -- a request and events of it
 pub record PlainTrace : Type 0 where
@@ -23,8 +24,7 @@ events_of request batch = filter (is_of request) batch
 
 -- the requests of a batch, each once, in the order of their first events
 abbrev pub requests_of : List Event → List (List ℕ)
-requests_of [] = []
-requests_of (event ∷ later) = event.request ∷ filter (λ request. not (is_of request event)) (requests_of later)
+requests_of batch = firsts_of bytes_eq (map (λ (e : Event). e.request) batch)
 
 -- the trace of a request: all its events in the batch
 abbrev pub trace_of : List Event → List ℕ → PlainTrace

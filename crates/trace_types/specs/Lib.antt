@@ -1,7 +1,11 @@
 pub mod Batch
 pub mod EventLines
+pub mod Events
+pub mod Firsts
 pub mod Parts
 pub mod Refuting
+pub mod Repeats
 pub mod SegmentLists
 pub mod Segments
 pub mod Surviving
+pub mod Times

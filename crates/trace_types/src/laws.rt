@@ -1,9 +1,17 @@
 //! Laws over the definitions alone: each function does nothing, and its contract is the law.
-ghost use Rattle.std.specs.Prelude.{◌↔◌, ℕ, List};
+ghost use Rattle.std.specs.Prelude.{◌≡◌, ◌↔◌, ℕ, List};
+ghost use Rattle.trace_types.specs.declared.latest_time.TheConstants.{LATEST_TIME, LATEST_TIME_IN_MICROSECONDS};
 ghost use Rattle.trace_types.specs.Parts.{Parts};
 ghost use Rattle.trace_types.specs.Refuting.{RefutesBefore, RefutesExclusive, RefutesApart};
 ghost use Rattle.trace_types.specs.Surviving.{Survives};
 ghost use Rattle.trace_types.specs.SegmentLists.{NamesDiffer};
+ghost use Rattle.trace_types.specs.Times.{latest_time, latest_time_in_microseconds};
+
+/// The constants are the latest time that the definitions name.
+pub fn latest_time_is_as_defined()
+    ensures nanoseconds { LATEST_TIME ≡ latest_time }
+    ensures microseconds { LATEST_TIME_IN_MICROSECONDS ≡ latest_time_in_microseconds }
+{}
 
 /// One trace refutes that two names exclude each other exactly where it refutes both orders.
 pub fn exclusive_is_refuted_by_both_orders<S, N, T, E>()

@@ -5,6 +5,7 @@
 
 mod event;
 mod event_list;
+mod latest_time;
 pub mod laws;
 mod raw_trace;
 mod segment;
@@ -14,6 +15,7 @@ mod trace;
 
 pub use event::Event;
 pub use event_list::EventList;
+pub use latest_time::{LATEST_TIME, LATEST_TIME_IN_MICROSECONDS};
 pub use raw_trace::RawTrace;
 pub use segment::Segment;
 pub use segment_list::SegmentList;
