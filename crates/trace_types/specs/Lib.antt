@@ -2,8 +2,12 @@ pub mod Batch
 pub mod EventLines
 pub mod Events
 pub mod Firsts
+pub mod Listing
+pub mod NameOrder
 pub mod Parts
+pub mod Pipelines
 pub mod Refuting
+pub mod Relations
 pub mod Repeats
 pub mod SegmentLists
 pub mod Segments

@@ -1,16 +1,32 @@
--- How a segment is read, whatever its names are: by text or by number.
-use Rattle.std.specs.Prelude.{ℕ, ℤ, List, Option}
+-- How a trace is read, whatever its type is and whatever its names are: texts or numbers.
+use Rattle.std.specs.Prelude.{ℕ, ℤ, List, Option, flat_map}
 use Rattle.trace_types.specs.declared.segment.Segment.{Segment}
-use Rattle.trace_types.specs.Segments.{name_of, task_of, start_of, end_of}
+use Rattle.trace_types.specs.declared.trace.Trace.{Trace}
+use Rattle.trace_types.specs.Segments.{SegmentName, name_of, task_of, start_of, end_of}
 
--- of a segment of type S its name, its task, its element, and its start and end in nanoseconds
-pub record Parts (S N T E : Type 0) : Type 0 where
+-- of a trace of type A its segments of type S and its own grace; of a segment its name, its task, its element, its start
+-- and its end. Times and the grace are in nanoseconds.
+pub record Parts (A S N T E : Type 0) : Type 0 where
+  pub segments : A → List S
+  pub grace : A → ℕ
   pub name : S → N
   pub task : S → T
   pub element : S → Option E
   pub start : S → ℤ
   pub end : S → ℤ
 
--- of a segment that is named by texts
-abbrev pub by_text : Parts Segment (List ℕ × List ℕ × List ℕ) (List ℕ) (List ℕ)
-by_text = record { name = name_of; task = task_of; element = λ s. s.element; start = start_of; end = end_of }
+-- a trace whose names are texts; its grace is 0
+abbrev pub by_text : Parts Trace Segment SegmentName (List ℕ) (List ℕ)
+by_text = record {
+  segments = λ t. t.segments;
+  grace = λ t. 0;
+  name = name_of;
+  task = task_of;
+  element = λ s. s.element;
+  start = start_of;
+  end = end_of;
+}
+
+-- the segments of all traces, one trace after another
+abbrev pub segments_of : {A S N T E : Type 0} → Parts A S N T E → List A → List S
+segments_of p traces = flat_map p.segments traces

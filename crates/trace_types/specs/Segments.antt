@@ -2,8 +2,12 @@
 use Rattle.std.specs.Prelude.{ℕ, ℤ, List}
 use Rattle.trace_types.specs.declared.segment.Segment.{Segment}
 
--- the name of a segment: its task, its start event and its end event
-abbrev pub name_of : Segment → List ℕ × List ℕ × List ℕ
+-- a segment's name: its task, its start event and its end event, each as its bytes
+abbrev pub SegmentName : Type 0
+SegmentName = List ℕ × List ℕ × List ℕ
+
+-- the name of a segment
+abbrev pub name_of : Segment → SegmentName
 name_of s = (s.task, s.start_event, s.end_event)
 
 -- its task

@@ -1,4 +1,4 @@
-use Rattle.trace_types.proofs.Orders.{both_orders}
+use Rattle.trace_types.proofs.OrderLemmas.{both_orders}
 use Rattle.trace_types.proofs.laws.exclusive_is_refuted_by_both_orders.Goals as goal
 
 pub returns : goal.returns

@@ -1,4 +1,4 @@
-use Rattle.trace_types.proofs.Orders.{before_keeps_exclusive}
+use Rattle.trace_types.proofs.OrderLemmas.{before_keeps_exclusive}
 use Rattle.trace_types.proofs.laws.exclusive_survives_with_before.Goals as goal
 
 pub returns : goal.returns
