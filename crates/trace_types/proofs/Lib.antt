@@ -1,1 +1,4 @@
+pub mod MatchLemmas
+pub mod NumberingLemmas
 pub mod OrderLemmas
+pub mod RenamingLemmas

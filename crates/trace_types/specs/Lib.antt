@@ -8,6 +8,7 @@ pub mod Parts
 pub mod Pipelines
 pub mod Refuting
 pub mod Relations
+pub mod Renaming
 pub mod Repeats
 pub mod SegmentLists
 pub mod Segments
