@@ -2,8 +2,10 @@ pub mod Batch
 pub mod EventLines
 pub mod Events
 pub mod Firsts
+pub mod Limits
 pub mod Listing
 pub mod NameOrder
+pub mod NamedSegments
 pub mod Parts
 pub mod Pipelines
 pub mod Refuting

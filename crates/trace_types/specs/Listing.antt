@@ -4,7 +4,8 @@ use Rattle.std.specs.declared.cmp.Ordering.{Ordering}
 use Rattle.std.specs.declared.cmp.Ordering.TheVariants.{Less}
 
 -- the list has exactly the elements with P, each once, in rising order
-pub record ListsExactly {X : Type 0} (cmp : X → X → Ordering) (P : X → Type 0) (xs : List X) : Type 0 where
+pub record ListsExactly {X : Type 0} (cmp : X → X → Ordering) (P : X → Type 0) (xs : List X)
+    : Type 0 where
   pub rising : AllPairs (λ x y. cmp x y ≡ Less) xs
   pub exactly : (x : X) → Contains xs x ↔ P x
 

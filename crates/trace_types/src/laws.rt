@@ -45,8 +45,8 @@ pub fn relations_are_symmetric<A, S, N, T, E>()
 /// A trace refutes the same under other names, where names, tasks and elements are matched one to
 /// one.
 pub fn renamed_trace_refutes_alike<A, S, N, T, E, B, X, M, U, F>()
-    ensures { (p : Parts A S N T E) (q : Parts B X M U F) (names : List (N × M)) (tasks : List (T × U))
-        (trace : A) (other : B) → IsOneToOne names → IsOneToOne tasks
+    ensures { (p : Parts A S N T E) (q : Parts B X M U F) (names : List (N × M))
+        (tasks : List (T × U)) (trace : A) (other : B) → IsOneToOne names → IsOneToOne tasks
         → IsTraceRenamed p q names tasks trace other → RefuteAlike p q names tasks trace other }
 {}
 
@@ -68,7 +68,8 @@ pub fn renamed_traces_leave_alike<A, S, N, T, E, B, X, M, U, F>()
 /// Where nothing stands twice in a list, numbering it from 0 is one to one, and a number is matched
 /// with what stands at that index.
 pub fn numbering_is_one_to_one<X>()
-    ensures one_to_one { (xs : List X) → AllPairs (λ x y. x ≢ y) xs → IsOneToOne (enumerate_from 0 xs) }
+    ensures one_to_one { (xs : List X) → AllPairs (λ x y. x ≢ y) xs
+        → IsOneToOne (enumerate_from 0 xs) }
     ensures matched { (xs : List X) (k : ℕ) (x : X)
         → Contains (enumerate_from 0 xs) (k, x) ↔ (slice_get xs k ≡ Some x) }
 {}
