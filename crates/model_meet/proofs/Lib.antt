@@ -1,8 +1,8 @@
-pub mod Deciding
-pub mod Elements
-pub mod Growing
-pub mod InOrder
-pub mod NamesOf
-pub mod Pairing
-pub mod Refuters
-pub mod Telling
+pub mod AnswerLemmas
+pub mod DecisionLemmas
+pub mod ElementLemmas
+pub mod GrowingLemmas
+pub mod NameLemmas
+pub mod OrderLemmas
+pub mod PairLemmas
+pub mod RefuterLemmas

@@ -1,5 +1,1 @@
-pub mod Adding
-pub mod Listing
-pub mod Naming
-pub mod Relations
-pub mod Telling
+pub mod inner

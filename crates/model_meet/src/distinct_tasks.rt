@@ -1,14 +1,13 @@
 ghost use Rattle.std.specs.Prelude.{◌≡◌, ◌∷◌, [], map, IfOk, OnOk};
-ghost use Rattle.model_meet.specs.declared.plain_name.PlainName.{PlainName};
-ghost use Rattle.model_meet.specs.Adding.{Adds};
+ghost use Rattle.trace_types.specs.Segments.{SegmentName};
+ghost use Rattle.model_meet.specs.inner.Growing.{AddsDistinct};
 
-use crate::PlainName;
 use std::alloc::{AllocError, Global};
-use trace_types::Text;
+use trace_types::{NameText, Text};
 
 /// Adds the task where it is new.
 fn add_task(alloc: Global, tasks: &mut Vec<Text>, task: &Text) -> Result<(), AllocError>
-    ensures { OnOk result (Adds (task.now ∷ []) tasks.old.items tasks.new.items) }
+    ensures { OnOk result (AddsDistinct (task.now ∷ []) tasks.old.items tasks.new.items) }
 {
     if !tasks.contains(task) {
         tasks.push(task.copy(alloc)?)?;
@@ -16,9 +15,10 @@ fn add_task(alloc: Global, tasks: &mut Vec<Text>, task: &Text) -> Result<(), All
     Ok(())
 }
 
-/// The tasks of the names, each once.
-pub(crate) fn distinct_tasks(alloc: Global, names: &[PlainName]) -> Result<Vec<Text>, AllocError>
-    ensures { IfOk result (λ tasks. Adds (map (λ (name : PlainName). name.task) names.now) [] tasks.items) }
+/// Lists the tasks of the names, each once.
+pub(crate) fn distinct_tasks(alloc: Global, names: &[NameText]) -> Result<Vec<Text>, AllocError>
+    ensures { IfOk result (λ tasks.
+        AddsDistinct (map (λ (name : SegmentName). name.0) names.now) [] tasks.items) }
 {
     let mut tasks = Vec::new(alloc);
     for name in names {

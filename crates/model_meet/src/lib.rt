@@ -1,12 +1,11 @@
 //! The relations that no trace of a list refutes, by the definitions' plain program: for each pair
-//! of names it asks every trace, so that what faster programs answer can be compared with it.
+//! of names it asks every trace. Tests compare the answers of faster programs with it.
 #![tactic(auto)]
 
 mod distinct_names;
 mod distinct_tasks;
 mod model;
 mod pair_lists;
-mod plain_name;
 mod plain_pair;
 mod plain_pair_list;
 mod refuted;
@@ -15,6 +14,5 @@ mod standing;
 mod tests;
 
 pub use model::{PlainModel, plain_model};
-pub use plain_name::PlainName;
 pub use plain_pair::PlainPair;
 pub use plain_pair_list::PlainPairList;

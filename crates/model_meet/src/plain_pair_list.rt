@@ -11,15 +11,15 @@ pub struct PlainPairList {
 
 impl Model for PlainPairList {
     ghost use Rattle.std.specs.Prelude.{List};
-    ghost use Rattle.model_meet.specs.declared.plain_pair.PlainPair.{PlainPair};
+    ghost use Rattle.trace_types.specs.Segments.{SegmentName};
 
-    ghost Value = { List PlainPair };
+    ghost Value = { List (SegmentName × SegmentName) };
 
     ghost view = { λ a. a.items.items };
 }
 
 impl PlainPairList {
-    /// The list of these pairs. It takes no memory.
+    /// Makes the list of these pairs. It takes no memory.
     pub fn of(items: Vec<PlainPair>) -> PlainPairList
         ensures { result ≡ items.items }
     {

@@ -1,17 +1,16 @@
 ghost use Rattle.std.specs.Prelude.{◌≡◌, ◌≢◌, ◌↔◌, ◌&&◌, ◌||◌, ◌<◌, ◌+◌, IsTrue, All, Contains, MatchOption, IfOk, length, take};
+ghost use Rattle.trace_types.specs.declared.trace.Trace as traces;
 ghost use Rattle.trace_types.specs.declared.segment.Segment.{Segment};
 ghost use Rattle.trace_types.specs.Parts.{by_text};
-ghost use Rattle.trace_types.specs.Refuting.{StartsEarly, RefutesBefore, RefutesExclusive, RefutesApart};
+ghost use Rattle.trace_types.specs.Refuting.{StartsEarly};
 ghost use Rattle.trace_types.specs.Segments.{name_of};
-ghost use Rattle.model_meet.specs.Naming.{named, in_trace};
-ghost use Rattle.model_meet.specs.Telling.{AreTold};
+ghost use Rattle.model_meet.specs.inner.Answers.{IsTraceAnswer, AreAnswers};
 
-use crate::PlainName;
 use crate::distinct_names::is_name_of;
 use std::alloc::{AllocError, Global};
-use trace_types::{Segment, Trace};
+use trace_types::{NameText, Segment, Trace};
 
-/// Which relations of two names are refuted.
+/// The relations of two names that are refuted.
 #[derive(Clone, Copy)]
 pub(crate) struct Refuted {
     /// That they are apart, in no trace together.
@@ -20,7 +19,7 @@ pub(crate) struct Refuted {
     pub before: bool,
     /// That the second happens before the first.
     pub after: bool,
-    /// That they exclude each other.
+    /// That they are mutually exclusive.
     pub exclusive: bool,
 }
 
@@ -32,11 +31,11 @@ const NOTHING: Refuted = Refuted {
     exclusive: false,
 };
 
-/// The trace's segment of this name.
-fn segment_of<'t>(trace: &'t Trace, name: &PlainName) -> Option<&'t Segment>
+/// Finds the trace's segment of this name.
+fn segment_of<'t>(trace: &'t Trace, name: &NameText) -> Option<&'t Segment>
     ensures { MatchOption result
-        (All (λ (s : Segment). name_of s ≢ named name.now) trace.now.segments)
-        (λ s. Contains trace.now.segments s.now × (name_of s.now ≡ named name.now)) }
+        (All (λ (s : Segment). name_of s ≢ name.now) trace.now.segments)
+        (λ s. Contains trace.now.segments s.now × (name_of s.now ≡ name.now)) }
 {
     for segment in trace.segments.items() {
         if is_name_of(name, segment) {
@@ -46,11 +45,13 @@ fn segment_of<'t>(trace: &'t Trace, name: &PlainName) -> Option<&'t Segment>
     None
 }
 
-/// What two segments refute of their names.
+/// Tells what two segments refute of their names.
 fn refuted_between(s: &Segment, t: &Segment) -> Refuted
     ensures apart { IsTrue result.apart }
-    ensures before { IsTrue result.before ↔ StartsEarly by_text 0 t.now s.now }
-    ensures after { IsTrue result.after ↔ StartsEarly by_text 0 s.now t.now }
+    ensures before { (trace : traces.Trace)
+        → IsTrue result.before ↔ StartsEarly by_text trace t.now s.now }
+    ensures after { (trace : traces.Trace)
+        → IsTrue result.after ↔ StartsEarly by_text trace s.now t.now }
     ensures exclusive { result.exclusive ≡ (result.after && result.before) }
 {
     let before = t.start < s.end;
@@ -63,15 +64,12 @@ fn refuted_between(s: &Segment, t: &Segment) -> Refuted
     }
 }
 
-/// What one trace, in which the segment of the first name was looked for, refutes of two names.
-fn refuted_by(trace: &Trace, found: Option<&Segment>, a: &PlainName, b: &PlainName) -> Refuted
+/// Tells what one trace refutes of two names, given its segment of the first name, if it has one.
+fn refuted_by(trace: &Trace, found: Option<&Segment>, a: &NameText, b: &NameText) -> Refuted
     requires { MatchOption found
-        (All (λ (s : Segment). name_of s ≢ named a.now) trace.now.segments)
-        (λ s. Contains trace.now.segments s.now × (name_of s.now ≡ named a.now)) }
-    ensures apart { IsTrue result.apart ↔ in_trace (RefutesApart by_text (named a.now) (named b.now)) trace.now }
-    ensures before { IsTrue result.before ↔ in_trace (RefutesBefore by_text 0 (named a.now) (named b.now)) trace.now }
-    ensures after { IsTrue result.after ↔ in_trace (RefutesBefore by_text 0 (named b.now) (named a.now)) trace.now }
-    ensures exclusive { IsTrue result.exclusive ↔ in_trace (RefutesExclusive by_text 0 (named a.now) (named b.now)) trace.now }
+        (All (λ (s : Segment). name_of s ≢ a.now) trace.now.segments)
+        (λ s. Contains trace.now.segments s.now × (name_of s.now ≡ a.now)) }
+    ensures { IsTraceAnswer trace.now a.now b.now result }
 {
     let Some(s) = found else {
         return NOTHING;
@@ -82,7 +80,7 @@ fn refuted_by(trace: &Trace, found: Option<&Segment>, a: &PlainName, b: &PlainNa
     }
 }
 
-/// What either refutes.
+/// Joins two answers: what either says is refuted.
 fn either(a: Refuted, b: Refuted) -> Refuted
     ensures apart { result.apart ≡ (a.apart || b.apart) }
     ensures before { result.before ≡ (a.before || b.before) }
@@ -98,16 +96,10 @@ fn either(a: Refuted, b: Refuted) -> Refuted
 }
 
 /// Adds to the row what one more trace refutes of the first name and each of the names.
-fn add_trace(
-    traces: &[Trace],
-    at: usize,
-    first: &PlainName,
-    names: &[PlainName],
-    row: &mut [Refuted],
-)
+fn add_trace(traces: &[Trace], at: usize, first: &NameText, names: &[NameText], row: &mut [Refuted])
     requires within { at < length traces.now }
-    requires told { AreTold (take at traces.now) first.now names.now row.old }
-    ensures { AreTold (take (at + 1) traces.now) first.now names.now row.new }
+    requires told { AreAnswers (take at traces.now) first.now names.now row.old }
+    ensures { AreAnswers (take (at + 1) traces.now) first.now names.now row.new }
 {
     let trace = &traces[at];
     let found = segment_of(trace, first);
@@ -116,14 +108,14 @@ fn add_trace(
     }
 }
 
-/// What the traces refute of the first name and each of the names, by the place of the latter.
+/// Tells what the traces refute of the first name and each of the names, by index of the latter.
 pub(crate) fn refuted_row(
     alloc: Global,
     traces: &[Trace],
-    first: &PlainName,
-    names: &[PlainName],
+    first: &NameText,
+    names: &[NameText],
 ) -> Result<Vec<Refuted>, AllocError>
-    ensures { IfOk result (λ row. AreTold traces.now first.now names.now row.items) }
+    ensures { IfOk result (λ row. AreAnswers traces.now first.now names.now row.items) }
 {
     let mut row = vec![in alloc; NOTHING; names.len()]?;
     for at in 0..traces.len() {

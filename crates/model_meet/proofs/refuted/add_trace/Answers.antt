@@ -1,4 +1,4 @@
-use Rattle.model_meet.proofs.Telling.{TellsHere, told_start, told_more, told_end}
+use Rattle.model_meet.proofs.AnswerLemmas.{told_start, told_more, told_end}
 use Rattle.model_meet.proofs.refuted.add_trace.Goals as goal
 
 pub loop-place-init : goal.loop-place-init
@@ -6,14 +6,8 @@ loop-place-init c = told_start c.args.traces.now c.args.at c.args.first.now c.ar
 
 pub loop-place-preserved : goal.loop-place-preserved
 loop-place-preserved c =
-    let here : TellsHere c.index-traces-at.result c.args.first.now c.index-names-place.result c.refuted_by.result = record {
-      apart = c.refuted_by.ensures.apart;
-      before = c.refuted_by.ensures.before;
-      after = c.refuted_by.ensures.after;
-      exclusive = c.refuted_by.ensures.exclusive;
-    } in
     told_more c.args.traces.now c.args.at c.loop-place.place c.args.first.now c.args.names.now c.loop-place.row c.index-traces-at.result c.index-names-place.result _ c.refuted_by.result c.either.result
-    c.requires.within c.index-traces-at.is c.loop-place-test.true c.index-names-place.is here
+    c.requires.within c.index-traces-at.is c.loop-place-test.true c.index-names-place.is c.refuted_by.ensures
     (record { apart = c.either.ensures.apart; before = c.either.ensures.before; after = c.either.ensures.after; exclusive = c.either.ensures.exclusive }) c.loop-place.invariant
 
 pub returns : goal.returns

@@ -1,5 +1,5 @@
-use Rattle.model_meet.proofs.Deciding.{told_before, told_exclusive}
-use Rattle.model_meet.proofs.NamesOf.{told_apart, told_less}
+use Rattle.model_meet.proofs.DecisionLemmas.{told_before, told_exclusive}
+use Rattle.model_meet.proofs.NameLemmas.{told_apart, told_less}
 use Rattle.model_meet.proofs.standing.standing_of.Goals as goal
 
 pub returns-clause-before : goal.returns-clause-before

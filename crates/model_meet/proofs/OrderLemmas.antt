@@ -10,8 +10,8 @@ use Rattle.std.proofs.lemmas.List.{get_or_append_left, get_or-append_right, leng
 use Rattle.std.proofs.lemmas.List.Elements.{Contains-append_left, Contains-append_right, Contains-append_cases, Contains-get_or}
 use Rattle.std.proofs.lemmas.List.Sorted.{ranks_by, sorted_far}
 use Rattle.std.proofs.lemmas.Map.Keys.{apart_from_distinct, IsDistinct-from_apart, IsDistinct-IsPermutation}
-use Rattle.model_meet.specs.Listing.{ListsExactly}
-use Rattle.model_meet.proofs.Elements.{Contains-nil, Contains-one, Contains-itself}
+use Rattle.trace_types.specs.Listing.{ListsExactly}
+use Rattle.model_meet.proofs.ElementLemmas.{Contains-nil, Contains-one, Contains-itself}
 
 -- ---- the order
 pub less_from : (o p : Ordering) → o ≡ ordering_reverse p → is_lt p ≡ false → is_eq o ≡ false → o ≡ Less
