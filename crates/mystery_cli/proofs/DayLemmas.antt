@@ -11,7 +11,7 @@ use Rattle.std.proofs.lemmas.List.Elements.{Contains-append_left, Contains-appen
 use Rattle.std.proofs.lemmas.List.Kept.{AllPairs-from_increasing}
 use Rattle.std.specs.FinMap.{nat_cmp-IsAntisymmetric}
 use Rattle.trace_types.specs.declared.trace.Trace.{Trace}
-use Rattle.model_meet.specs.Listing.{CountsDistinct}
+use Rattle.trace_types.specs.Listing.{CountsDistinct}
 use Rattle.std.proofs.lemmas.Map.Keys.{IsStrictlyIncreasing-from_sorted}
 
 nothing : {X : Type 0} (x : X) → Contains [] x → ⊥

@@ -4,7 +4,7 @@ ghost use Rattle.trace_types.specs.EventLines.{LinesRise};
 ghost use Rattle.clock_offsets.specs.Times.{AreTimely};
 ghost use Rattle.event_lines.specs.Judged.{lines_said};
 ghost use Rattle.event_lines.specs.Whole.{TellsBad};
-ghost use Rattle.model_meet.specs.Naming.{segments_of};
+ghost use Rattle.trace_types.specs.Parts.{by_text, segments_of};
 ghost use Rattle.mystery_cli.specs.declared.outcome.Outcome.TheVariants.{Done};
 ghost use Rattle.mystery_cli.specs.Endings.{ending_of_lines};
 ghost use Rattle.mystery_cli.specs.Models.{AreJudged, AreFigures};
@@ -36,7 +36,7 @@ fn traces_in(alloc: Global, events: Vec<Event>) -> Result<JudgedTraces, AllocErr
     requires timely { AreTimely events.items }
     requires few { length events.items < 2 ^ 32 }
     ensures judged { IfOk result (λ j. AreJudged (traces_of events.items) j.kept.items j.refused.items) }
-    ensures few { IfOk result (λ j. length (segments_of j.kept.items) < 2 ^ 32) }
+    ensures few { IfOk result (λ j. length (segments_of by_text j.kept.items) < 2 ^ 32) }
 {
     let raws = gather(alloc, events)?;
     judge_all(alloc, &raws)

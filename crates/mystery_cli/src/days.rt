@@ -1,5 +1,5 @@
 ghost use Rattle.std.specs.Prelude.{map, IfOk};
-ghost use Rattle.model_meet.specs.Listing.{CountsDistinct};
+ghost use Rattle.trace_types.specs.Listing.{CountsDistinct};
 ghost use Rattle.trace_types.specs.declared.trace.Trace.{Trace};
 
 use std::alloc::{AllocError, Global};
