@@ -19,21 +19,21 @@ impl Model for PlainPairList {
 }
 
 impl PlainPairList {
-    /// Makes the list of these pairs. It takes no memory.
+    /// Makes the list of these pairs. Takes no memory.
     pub fn of(items: Vec<PlainPair>) -> PlainPairList
         ensures { result ≡ items.items }
     {
         PlainPairList { items }
     }
 
-    /// The pairs, by place.
+    /// Lends the pairs, by place.
     pub fn items(&self) -> &[PlainPair]
         ensures { result.now ≡ self.now }
     {
         &self.items
     }
 
-    /// The pairs, given back without taking memory.
+    /// Gives the pairs back. Takes no memory.
     pub fn into_items(self) -> Vec<PlainPair>
         ensures { result.items ≡ self }
     {

@@ -19,21 +19,21 @@ impl Model for EventList {
 }
 
 impl EventList {
-    /// The list of these events. It takes no memory.
+    /// Makes the list of these events. Takes no memory.
     pub fn of(items: Vec<Event>) -> EventList
         ensures { result ≡ items.items }
     {
         EventList { items }
     }
 
-    /// The events, by place.
+    /// Lends the events, in order.
     pub fn items(&self) -> &[Event]
         ensures { result.now ≡ self.now }
     {
         &self.items
     }
 
-    /// The events, given back without taking memory.
+    /// Gives the events back. Takes no memory.
     pub fn into_items(self) -> Vec<Event>
         ensures { result.items ≡ self }
     {

@@ -1,6 +1,7 @@
-//! The words that the other crates share: texts, logged events, the trace that the events of one
-//! request make, and the segments that it is cut into. Each is seen by contracts as plain data: a
-//! text as its list of bytes, a list type as its list.
+//! The types that the other crates share: texts, logged events, the trace that the events of one
+//! request make, the segments that it is cut into, and the same trace by numbers. Contracts see them
+//! as plain data: a text as its list of bytes, a list type as its list. The definitions that several
+//! crates cite stand here too: what a trace refutes, the relations that survive, renaming.
 #![tactic(auto)]
 
 mod event;
@@ -15,6 +16,8 @@ mod named_trace_list;
 mod raw_trace;
 mod segment;
 mod segment_list;
+#[cfg(test)]
+mod tests;
 mod text;
 mod trace;
 

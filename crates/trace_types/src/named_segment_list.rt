@@ -19,21 +19,21 @@ impl Model for NamedSegmentList {
 }
 
 impl NamedSegmentList {
-    /// Makes the list of these segments. It takes no memory.
+    /// Makes the list of these segments. Takes no memory.
     pub fn of(items: Vec<NamedSegment>) -> NamedSegmentList
         ensures { result ≡ items.items }
     {
         NamedSegmentList { items }
     }
 
-    /// The segments, by place.
+    /// Lends the segments, by place.
     pub fn items(&self) -> &[NamedSegment]
         ensures { result.now ≡ self.now }
     {
         &self.items
     }
 
-    /// The segments, given back without taking memory.
+    /// Gives the segments back. Takes no memory.
     pub fn into_items(self) -> Vec<NamedSegment>
         ensures { result.items ≡ self }
     {

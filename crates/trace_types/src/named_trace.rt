@@ -36,7 +36,7 @@ fn copy_segments(alloc: Global, segments: &NamedSegmentList) -> Result<NamedSegm
 }
 
 impl NamedTrace {
-    /// The trace with this grace, in nanoseconds, at most 1,000,000,000.
+    /// Sets the grace, in nanoseconds, at most 1,000,000,000.
     pub fn with_grace(self, grace: u64) -> NamedTrace
         requires { grace ≤ most_grace }
         ensures changed { result.grace ≡ grace }

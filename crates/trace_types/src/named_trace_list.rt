@@ -19,21 +19,21 @@ impl Model for NamedTraceList {
 }
 
 impl NamedTraceList {
-    /// Makes the list of these traces. It takes no memory.
+    /// Makes the list of these traces. Takes no memory.
     pub fn of(items: Vec<NamedTrace>) -> NamedTraceList
         ensures { result ≡ items.items }
     {
         NamedTraceList { items }
     }
 
-    /// The traces, by place.
+    /// Lends the traces, in order.
     pub fn items(&self) -> &[NamedTrace]
         ensures { result.now ≡ self.now }
     {
         &self.items
     }
 
-    /// The traces, given back without taking memory.
+    /// Gives the traces back. Takes no memory.
     pub fn into_items(self) -> Vec<NamedTrace>
         ensures { result.items ≡ self }
     {

@@ -19,21 +19,21 @@ impl Model for SegmentList {
 }
 
 impl SegmentList {
-    /// The list of these segments. It takes no memory.
+    /// Makes the list of these segments. Takes no memory.
     pub fn of(items: Vec<Segment>) -> SegmentList
         ensures { result ≡ items.items }
     {
         SegmentList { items }
     }
 
-    /// The segments, by place.
+    /// Lends the segments, by place.
     pub fn items(&self) -> &[Segment]
         ensures { result.now ≡ self.now }
     {
         &self.items
     }
 
-    /// The segments, given back without taking memory.
+    /// Gives the segments back. Takes no memory.
     pub fn into_items(self) -> Vec<Segment>
         ensures { result.items ≡ self }
     {

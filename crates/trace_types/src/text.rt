@@ -20,7 +20,7 @@ impl Model for Text {
 }
 
 impl Text {
-    /// A copy of the text. The only error is want of memory.
+    /// Copies the text. The only error is out of memory.
     pub fn new(alloc: Global, text: &str) -> Result<Text, AllocError>
         ensures { IfOk result (λ t. t ≡ text.now) }
     {
@@ -29,14 +29,14 @@ impl Text {
         })
     }
 
-    /// The text, lent.
+    /// Lends the text.
     pub fn as_str(&self) -> &str
         ensures { result.now ≡ self.now }
     {
         self.text.as_str()
     }
 
-    /// A second text with the same bytes. The only error is want of memory.
+    /// Makes a second text with the same bytes. The only error is out of memory.
     pub fn copy(&self, alloc: Global) -> Result<Text, AllocError>
         ensures { IfOk result (λ t. t ≡ self.now) }
     {
