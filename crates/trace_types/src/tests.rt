@@ -1,6 +1,6 @@
 use crate::{
-    Event, EventList, LATEST_TIME, LATEST_TIME_IN_MICROSECONDS, NameText, NamedSegment,
-    NamedSegmentList, NamedTrace, NamedTraceList, Segment, SegmentList, Text,
+    Event, EventList, LATEST_TIME, NameText, NamedSegment, NamedSegmentList, NamedTrace,
+    NamedTraceList, Segment, SegmentList, Text,
 };
 use std::alloc::{AllocError, Global};
 use std::cmp::Ordering;
@@ -16,39 +16,20 @@ fn name(alloc: Global, task: &str, start: &str, end: &str) -> Result<NameText, A
 }
 
 #[test]
-fn texts_are_copied_and_ordered_by_their_bytes(rt: HostRuntime) -> Result<(), Fail> {
-    let alloc = rt.alloc();
-    let rows = [
-        ("", "a", Ordering::Less),
-        ("a", "a", Ordering::Equal),
-        ("a", "B", Ordering::Greater),
-        ("ab", "b", Ordering::Less),
-        ("z", "\u{e9}", Ordering::Less),
-    ];
-    for (left, right, order) in rows {
-        let left = Text::new(alloc, left)?;
-        let right = Text::new(alloc, right)?;
-        assert!(rt; left.cmp(&right) == order);
-        assert_eq!(rt; left == right, order == Ordering::Equal);
-        assert_eq!(rt; left.copy(alloc)?.as_str(), left.as_str());
-    }
-    Ok(())
-}
-
-#[test]
-fn names_are_ordered_by_task_then_start_then_end(rt: HostRuntime) -> Result<(), Fail> {
+fn names_are_ordered_by_the_bytes_of_task_start_and_end(rt: HostRuntime) -> Result<(), Fail> {
     let alloc = rt.alloc();
     let rows = [
         (["a", "z", "z"], ["b", "a", "a"], Ordering::Less),
         (["a", "s", "z"], ["a", "t", "a"], Ordering::Less),
         (["a", "s", "f"], ["a", "s", "e"], Ordering::Greater),
+        (["z", "s", "e"], ["\u{e9}", "s", "e"], Ordering::Less),
+        (["ab", "s", "e"], ["a", "s", "e"], Ordering::Greater),
         (["a", "s", "e"], ["a", "s", "e"], Ordering::Equal),
     ];
     for (left, right, order) in rows {
         let left = name(alloc, left[0], left[1], left[2])?;
         let right = name(alloc, right[0], right[1], right[2])?;
-        assert!(rt; left.cmp(&right) == order);
-        assert!(rt; left.copy(alloc)? == left);
+        assert!(rt; left.copy(alloc)?.cmp(&right) == order);
     }
     Ok(())
 }
@@ -106,20 +87,8 @@ fn a_named_trace_is_copied_with_its_grace(rt: HostRuntime) -> Result<(), Fail> {
     assert_eq!(rt; traces.items().len(), 2);
     for trace in traces.into_items() {
         assert_eq!(rt; trace.request.as_str(), "r");
-        assert_eq!(rt; trace.day, 19800);
-        assert_eq!(rt; trace.latency, 4);
         assert_eq!(rt; trace.grace, 1_000_000_000);
-        let segments = trace.segments.into_items();
-        assert_eq!(rt; segments.len(), 1);
-        assert_eq!(rt; segments[0].name, 511);
-        assert!(rt; segments[0].element == Some(0));
+        assert!(rt; trace.segments.into_items()[0].element == Some(0));
     }
-    Ok(())
-}
-
-#[test]
-fn the_latest_time_is_the_start_of_the_year_2100(rt: HostRuntime) -> Result<(), Fail> {
-    assert_eq!(rt; LATEST_TIME, 4_102_444_800_000_000_000);
-    assert_eq!(rt; LATEST_TIME_IN_MICROSECONDS, 4_102_444_800_000_000);
     Ok(())
 }
