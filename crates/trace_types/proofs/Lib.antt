@@ -1,3 +1,4 @@
+pub mod ListingLemmas
 pub mod MatchLemmas
 pub mod NumberingLemmas
 pub mod OrderLemmas

@@ -1,9 +1,12 @@
 //! Laws over the definitions alone: each function does nothing, and its contract is the law.
 ghost use Rattle.std.specs.Prelude.{◌≡◌, ◌≢◌, ◌↔◌, ℕ, List, AllPairs, Contains, slice_get, Some};
 ghost use Rattle.std.specs.List.{enumerate_from};
+ghost use Rattle.std.specs.Cmp.{IsTotalOrder};
 ghost use Rattle.std.specs.declared.cmp.Ordering.{Ordering};
 ghost use Rattle.std.specs.declared.cmp.Ordering.TheVariants.{Less};
 ghost use Rattle.trace_types.specs.declared.latest_time.TheConstants.{LATEST_TIME, LATEST_TIME_IN_MICROSECONDS};
+ghost use Rattle.trace_types.specs.Listing.{CountsDistinct};
+ghost use Rattle.trace_types.specs.NameOrder.{name_cmp, pair_cmp};
 ghost use Rattle.trace_types.specs.Parts.{Parts};
 ghost use Rattle.trace_types.specs.Pipelines.{RefutesUnshared};
 ghost use Rattle.trace_types.specs.Refuting.{RefutesBefore, RefutesExclusive, RefutesApart};
@@ -72,4 +75,18 @@ pub fn numbering_is_one_to_one<X>()
         → IsOneToOne (enumerate_from 0 xs) }
     ensures matched { (xs : List X) (k : ℕ) (x : X)
         → Contains (enumerate_from 0 xs) (k, x) ↔ (slice_get xs k ≡ Some x) }
+{}
+
+/// Names, and pairs of what is ordered, are totally ordered.
+pub fn names_are_totally_ordered<N>()
+    ensures names { IsTotalOrder name_cmp }
+    ensures pairs { (cmp : N → N → Ordering) → IsTotalOrder cmp → IsTotalOrder (pair_cmp cmp) }
+{}
+
+/// Elements are listed in rising order in one way, and a list has one number of different elements.
+pub fn a_list_is_told_in_one_way<X>()
+    ensures listed { (cmp : X → X → Ordering) → IsTotalOrder cmp → (xs ys : List X)
+        → AllPairs (λ x y. cmp x y ≡ Less) xs → AllPairs (λ x y. cmp x y ≡ Less) ys
+        → ((x : X) → Contains xs x ↔ Contains ys x) → xs ≡ ys }
+    ensures counted { (n m : ℕ) (xs : List X) → CountsDistinct n xs → CountsDistinct m xs → n ≡ m }
 {}
