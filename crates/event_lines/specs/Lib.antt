@@ -1,9 +1,9 @@
 pub mod Cut
-pub mod Fields
-pub mod Gathered
-pub mod Good
-pub mod Judged
+pub mod EventFaults
+pub mod GoodLines
+pub mod InputLines
+pub mod LineResults
 pub mod Members
 pub mod Reasons
 pub mod TimeUnits
-pub mod Whole
+pub mod inner

@@ -1,21 +1,21 @@
-/// What a control line asks for.
+/// The command of a control line.
 #[derive(Clone, Copy, Debug, PartialEq, Eq)]
 pub enum Command {
-    /// Make traces of the events since the last batch, and take them up.
+    /// Cut the events since the last batch into traces, and keep these.
     Add,
-    /// Drop a day. Days count from 1970.
+    /// Drop the traces of a day.
     Drop {
-        /// The day.
+        /// The day, in days since 1970.
         day: u32,
     },
-    /// Keep the newest days alone.
+    /// Keep the traces of the newest days alone.
     Keep {
-        /// How many.
+        /// The number of days.
         days: u32,
     },
-    /// Print the counts while traces are taken up.
+    /// Print counts while traces are added.
     Watch {
-        /// After how many traces each time.
+        /// The number of traces from one print to the next.
         every: u32,
     },
     /// Print the model.

@@ -1,14 +1,14 @@
-//! The lines of the input: cut at line feeds, numbered, and read as events and commands, or
-//! refused at the first bad line with the reason.
+//! The lines of the input: cut at line feeds, numbered, and read as events and commands, up to the
+//! first bad line, which is an error with its reason. Events are gathered into traces by request.
 #![tactic(auto)]
 
-mod bytes;
+mod blank_lines;
 mod command;
 mod event_fields;
 mod gathering;
-mod judging;
 mod line;
 mod line_error;
+mod line_reading;
 mod lines;
 mod rising;
 mod text_rules;

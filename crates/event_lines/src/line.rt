@@ -4,16 +4,16 @@ use trace_types::Event;
 /// A good line of the input.
 #[derive(Debug, Drop)]
 pub enum Line {
-    /// An event of a request, which has the number of its line.
+    /// An event line.
     Event {
-        /// The event.
+        /// The event, which has the number of its line.
         event: Event,
     },
-    /// A command.
+    /// A control line.
     Control {
         /// The number of the line, from 1 over the whole input.
         line: u32,
-        /// What it asks for.
+        /// The command.
         command: Command,
     },
 }

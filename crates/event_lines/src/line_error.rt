@@ -4,13 +4,13 @@ use std::alloc::{AllocError, AllocFailed};
 /// Why the lines of an input were not read.
 #[derive(Clone, Copy, Debug, PartialEq, Eq)]
 pub enum LineError {
-    /// Want of memory.
+    /// Out of memory.
     Memory,
-    /// The first bad line.
+    /// The input has a bad line: the first one.
     Bad {
         /// Its number, from 1 over the whole input.
         line: u32,
-        /// What is wrong with it.
+        /// The first reason that holds of it.
         why: Why,
     },
 }
@@ -21,6 +21,7 @@ impl From<AllocError> for LineError {
 
     ghost from_gives = { λ _ e. e ≡ Memory };
 
+    /// Gives the error of a call that is out of memory.
     fn from(_: AllocError) -> Self {
         LineError::Memory
     }
@@ -32,6 +33,7 @@ impl<T: Drop> From<AllocFailed<T>> for LineError {
 
     ghost from_gives = { λ _ e. e ≡ Memory };
 
+    /// Gives the error of a call that is out of memory.
     fn from(_: AllocFailed<T>) -> Self {
         LineError::Memory
     }

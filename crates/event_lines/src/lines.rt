@@ -1,25 +1,19 @@
-ghost use Rattle.std.specs.Prelude.{◌≡◌, ◌≤◌, All, length, Ok, IfOk, IfErr, OnOk, vec_len, ◌+◌};
+ghost use Rattle.std.specs.Prelude.{◌≡◌, ◌≤◌, ◌<◌, ◌+◌, ◌∷◌, [], ◌++◌, All, length, vec_len};
+ghost use Rattle.std.specs.Prelude.{Ok, IfOk, IfErr, OnOk, IsOkAnd};
 ghost use Rattle.std.specs.List.{position_or_len};
-ghost use Rattle.event_lines.specs.Cut.{is_feed, is_blank};
-ghost use Rattle.event_lines.specs.Whole.{added, Adds, TellsBad};
-ghost use Rattle.event_lines.specs.Good.{IsInRange, NumbersRise};
-ghost use Rattle.event_lines.specs.Judged.{judged, lines_said};
+ghost use Rattle.event_lines.specs.Cut.{is_line_feed};
+ghost use Rattle.event_lines.specs.GoodLines.{IsTimely, NumbersRise};
+ghost use Rattle.event_lines.specs.InputLines.{lines_said, lines_said_from, IsLineError};
 
-use crate::bytes::is_space;
-use crate::judging::judge;
+use crate::blank_lines::is_blank_line;
+use crate::line_reading::read_line;
 use crate::{Line, LineError};
 use memchr::memchr;
 use std::alloc::Global;
 
-fn is_blank(line: &[u8]) -> bool
-    ensures { result ≡ is_blank line.now }
-{
-    line.iter().all(|byte| is_space(*byte))
-}
-
-// Where the first line ends.
+/// Finds where the first line ends.
 fn line_end(bytes: &[u8]) -> usize
-    ensures first { position_or_len is_feed bytes.now ≡ result }
+    ensures first { position_or_len is_line_feed bytes.now ≡ result }
     ensures within { result ≤ length bytes.now }
 {
     match bytes.first() {
@@ -29,32 +23,34 @@ fn line_end(bytes: &[u8]) -> usize
     }
 }
 
-// Adds what a line says, unless it is blank.
+/// Appends what a line says; a blank line adds nothing.
 fn add_line(alloc: Global, number: u32, line: &[u8], lines: &mut Vec<Line>) -> Result<(), LineError>
-    ensures ok { OnOk result (Adds (added judged number line.now) lines.old.items lines.new.items) }
+    ensures ok { OnOk result (IsOkAnd (lines_said_from number (line.now ∷ []))
+        (λ said. lines.new.items ≡ lines.old.items ++ said)) }
     ensures one { OnOk result (vec_len lines.new ≤ vec_len lines.old + 1) }
-    ensures err { IfErr result (TellsBad (added judged number line.now)) }
+    ensures err { IfErr result (IsLineError (lines_said_from number (line.now ∷ []))) }
 {
-    if is_blank(line) {
+    if is_blank_line(line) {
         return Ok(());
     }
-    match judge(alloc, number, line)? {
+    match read_line(alloc, number, line)? {
         Ok(said) => Ok(lines.push(said)?),
         Err(why) => Err(LineError::Bad { line: number, why }),
     }
 }
 
-/// Reads the lines of an input: an event for each line that is not blank.
+/// Reads the lines of an input: one entry for each line that is not blank, in order.
 ///
-/// The errors are want of memory, and `Bad` with the number of the first line that is neither
-/// blank nor good, and the first reason that holds of it. An event whose name has an `@`, and a
-/// command, are not built.
+/// An input has fewer than 2^32 - 1 bytes, so that the number of each line fits 32 bits.
+///
+/// The errors are `Memory`, and `Bad` with the number of the first bad line and the first reason
+/// that holds of it. A control line, and an event with an `@`, are not built yet.
 pub fn read_lines(alloc: Global, bytes: &[u8]) -> Result<Vec<Line>, LineError>
-    requires { length bytes.now ≤ 67108864 }
+    requires { length bytes.now < u32.MAX }
     ensures lines_read { IfOk result (λ v. lines_said bytes.now ≡ Ok v.items) }
-    ensures first_bad { IfErr result (TellsBad (lines_said bytes.now)) }
+    ensures first_bad { IfErr result (IsLineError (lines_said bytes.now)) }
     ensures rising { IfOk result (λ v. NumbersRise v.items) }
-    ensures in_range { IfOk result (λ v. All IsInRange v.items) }
+    ensures timely { IfOk result (λ v. All IsTimely v.items) }
     ensures few { IfOk result (λ v. length v.items ≤ length bytes.now + 1) }
 {
     let mut lines = Vec::new(alloc);

@@ -3,12 +3,12 @@ ghost use Rattle.trace_types.specs.EventLines.{LinesRise};
 
 use trace_types::Event;
 
-/// Whether each event has a greater line than the one before it, as `gather` asks of a batch.
+/// Tells whether each event has a greater line than the one before it, as `gather` requires.
 pub fn lines_rise(events: &[Event]) -> bool
     ensures { IsTrue result ↔ LinesRise events.now }
 {
-    for place in 1..events.len() {
-        if events[place].line <= events[place - 1].line {
+    for index in 1..events.len() {
+        if events[index].line <= events[index - 1].line {
             return false;
         }
     }

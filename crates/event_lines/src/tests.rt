@@ -3,7 +3,7 @@ use std::alloc::Global;
 use std::test::Fail;
 use trace_types::{Event, Text};
 
-// The first bad line of a short input, and its reason.
+/// Finds the first bad line of a short input, and its printed reason.
 fn fault_of(alloc: Global, bytes: &[u8]) -> Option<(u32, &'static str)> {
     if bytes.len() > 1000 {
         return None;
@@ -14,7 +14,7 @@ fn fault_of(alloc: Global, bytes: &[u8]) -> Option<(u32, &'static str)> {
     }
 }
 
-// The times of the events of a short input.
+/// Reads the times of the events of a short input.
 fn times_of(alloc: Global, bytes: &[u8]) -> Result<Vec<u64>, LineError> {
     let mut times = Vec::new(alloc);
     if bytes.len() > 1000 {
@@ -28,7 +28,7 @@ fn times_of(alloc: Global, bytes: &[u8]) -> Result<Vec<u64>, LineError> {
     Ok(times)
 }
 
-// A reason, and a line that is bad for it, though some also have faults that come later.
+/// Rows of a reason and a line that is bad for it; some lines have later reasons too.
 const BAD: &str = r#"
 not a JSON object|[]
 not a JSON object|x
@@ -68,14 +68,15 @@ not built|{"do":"add"}
 not built|{"do":5}
 "#;
 
-// A time in nanoseconds, and a good line that has it.
+/// Rows of a time in nanoseconds and a good line that has it.
 const GOOD: &str = r#"
 0|{"request":"r1","machine":"m","task":"a","event":"s","time":0}
 4102444800000000000|{"request":"r1","machine":"m","task":"a","event":"s","time":4102444800000000}
 5000|{"request":"r1","machine":"m","task":"a","event":"s","time":5,"send":null,"nanos":null}
 1500|{"request":"r1","machine":"m","task":"a","event":"s","time":"x","nanos":1500}
 0|{"request":"r1","machine":"m","task":"a","event":"s","time":-1,"nanos":0}
-4102444800000000000| {"nanos":4102444800000000000,"request":"r1","machine":"\u0080","task":"\u00e9","event":"s","recv":"x","more":[{}]}
+4102444800000000000| {"nanos":4102444800000000000,"request":"r","machine":"m","task":"a","event":"s"}
+2000|{"request":"r1","machine":"\u0080","task":"\u00e9","event":"s","time":2,"recv":"x","more":[{}]}
 "#;
 
 #[test]
@@ -121,7 +122,8 @@ fn texts_have_at_most_64_bytes_and_values_at_most_127_levels(rt: HostRuntime) ->
         let opened = "[".repeat(rt.alloc(), nested)?;
         let closed = "]".repeat(rt.alloc(), nested)?;
         let line = format!(in rt.alloc();
-            "{{\"request\":\"r1\",\"machine\":\"m\",\"task\":\"{task}\",\"event\":\"s\",\"time\":0,\"more\":{opened}0{closed}}}"
+            "{{\"request\":\"r1\",\"machine\":\"m\",\"task\":\"{task}\",\"event\":\"s\",\"time\":0,\
+             \"more\":{opened}0{closed}}}"
         )?;
         assert_eq!(rt;
             fault_of(rt.alloc(), line.as_str().as_bytes()),
@@ -141,8 +143,8 @@ fn bytes_that_are_no_text_are_no_object(rt: HostRuntime) {
 
 #[test]
 fn blank_lines_count_in_the_numbering(rt: HostRuntime) -> Result<(), Fail> {
-    let input =
-        b"\n \t\r\n{\"request\":\"r1\",\"machine\":\"m\",\"task\":\"a\",\"event\":\"s\",\"time\":7}\r\n\n[]\n{}\n";
+    let input = b"\n \t\r\n{\"request\":\"r1\",\"machine\":\"m\",\"task\":\"a\",\"event\":\"s\",\
+        \"time\":7}\r\n\n[]\n{}\n";
     assert_eq!(rt; fault_of(rt.alloc(), input), Some((5, "not a JSON object")));
     assert_eq!(rt;
         times_of(rt.alloc(), &input[..70])
@@ -154,6 +156,7 @@ fn blank_lines_count_in_the_numbering(rt: HostRuntime) -> Result<(), Fail> {
     Ok(())
 }
 
+/// Makes an event of a request on a line.
 fn event(alloc: Global, line: u32, request: &str) -> Result<Event, Fail> {
     Ok(Event {
         line,

@@ -1,32 +1,34 @@
 ghost use Rattle.std.specs.Prelude.{◌≡◌};
 ghost use Rattle.std.specs.List.{list_any};
-ghost use Rattle.event_lines.specs.Judged.{is_control, is_bad, has_at};
+ghost use Rattle.event_lines.specs.EventFaults.{is_control_character, is_bad_text, contains_at};
 
-// The greatest length of a text in bytes.
+/// The greatest length of a text in bytes.
 const LONGEST: usize = 64;
 
-fn is_control(byte: u8) -> bool
-    ensures { result ≡ is_control byte }
+/// Tells whether a byte is an ASCII control character.
+fn is_control_character(byte: u8) -> bool
+    ensures { result ≡ is_control_character byte }
 {
     byte.is_ascii_control()
 }
 
-fn has_control(text: &str) -> bool
-    ensures { result ≡ list_any is_control text.now }
+/// Tells whether a text has a control character.
+fn has_control_character(text: &str) -> bool
+    ensures { result ≡ list_any is_control_character text.now }
 {
-    text.bytes().any(is_control)
+    text.bytes().any(is_control_character)
 }
 
-/// Whether a text is empty, too long, or has a control character.
-pub fn is_bad(text: &str) -> bool
-    ensures { result ≡ is_bad text.now }
+/// Tells whether a text is empty, too long, or has a control character.
+pub(crate) fn is_bad_text(text: &str) -> bool
+    ensures { result ≡ is_bad_text text.now }
 {
-    text.is_empty() || text.len() > LONGEST || has_control(text)
+    text.is_empty() || text.len() > LONGEST || has_control_character(text)
 }
 
-/// Whether a text has an `@`.
-pub fn has_at(text: &str) -> bool
-    ensures { result ≡ has_at text.now }
+/// Tells whether a text has an `@`.
+pub(crate) fn contains_at(text: &str) -> bool
+    ensures { result ≡ contains_at text.now }
 {
     text.bytes().any(|byte| byte == b'@')
 }

@@ -1,18 +1,21 @@
 ghost use Rattle.std.specs.Prelude.{◌≡◌, codes};
 ghost use Rattle.serde_json.specs.View.{view};
 ghost use Rattle.event_lines.specs.Members.{is_given};
-ghost use Rattle.event_lines.specs.TimeUnits.{unit_of, member_of, last_of, nanoseconds_in};
+ghost use Rattle.event_lines.specs.TimeUnits.{time_unit_of, time_member, latest_in, nanoseconds_in};
 
 use serde_json::Value;
+use trace_types::{LATEST_TIME, LATEST_TIME_IN_MICROSECONDS};
 
-/// The unit in which an event line tells its time, since 1970.
+/// The unit in which an event line states its time, since 1970.
 #[derive(Clone, Copy)]
-pub enum TimeUnit {
+pub(crate) enum TimeUnit {
+    /// The number of `time`.
     Microseconds,
+    /// The number of `nanos`.
     Nanoseconds,
 }
 
-// Whether the member is there and is not null.
+/// Tells whether the object has the member, and its value is not null.
 fn is_given(value: &Value, name: &str) -> bool
     ensures { result ≡ is_given name.now (view value.now) }
 {
@@ -23,9 +26,9 @@ fn is_given(value: &Value, name: &str) -> bool
 }
 
 impl TimeUnit {
-    /// The unit of an event line.
-    pub fn of(value: &Value) -> TimeUnit
-        ensures { result ≡ unit_of (view value.now) }
+    /// Finds the unit of an event line.
+    pub(crate) fn of(value: &Value) -> TimeUnit
+        ensures { result ≡ time_unit_of (view value.now) }
     {
         if is_given(value, "nanos") {
             TimeUnit::Nanoseconds
@@ -34,9 +37,9 @@ impl TimeUnit {
         }
     }
 
-    /// The name of the member that has the time.
-    pub fn member(self) -> &'static str
-        ensures { result.now ≡ member_of self }
+    /// Gives the name of the member that has the number.
+    pub(crate) fn member(self) -> &'static str
+        ensures { result.now ≡ time_member self }
     {
         match self {
             TimeUnit::Microseconds => "time",
@@ -44,18 +47,18 @@ impl TimeUnit {
         }
     }
 
-    /// The greatest time that is in range, in this unit.
-    pub fn last(self) -> u64
-        ensures { result ≡ last_of self }
+    /// Gives the latest time in this unit.
+    pub(crate) fn latest(self) -> u64
+        ensures { result ≡ latest_in self }
     {
         match self {
-            TimeUnit::Microseconds => 4_102_444_800_000_000,
-            TimeUnit::Nanoseconds => 4_102_444_800_000_000_000,
+            TimeUnit::Microseconds => LATEST_TIME_IN_MICROSECONDS,
+            TimeUnit::Nanoseconds => LATEST_TIME,
         }
     }
 
-    /// How many nanoseconds it has.
-    pub fn nanoseconds(self) -> u64
+    /// Gives the unit's length in nanoseconds.
+    pub(crate) fn nanoseconds(self) -> u64
         ensures { result ≡ nanoseconds_in self }
     {
         match self {

@@ -1,14 +1,14 @@
 ghost use Rattle.std.specs.Prelude.{◌≡◌, ◌≤◌, length};
-ghost use Rattle.event_lines.specs.Reasons.{reason_text};
+ghost use Rattle.event_lines.specs.Reasons.{why_text};
 
-/// Why a line is bad. Where several reasons hold of an event line, it has the first of this list.
+/// Why a line is bad. Where several reasons hold, the line has the first of this list.
 #[derive(Clone, Copy, Debug, PartialEq, Eq)]
 pub enum Why {
-    /// The line has no reading as JSON, or is no object.
+    /// The line is no JSON value, or none that is an object.
     NotJson,
-    /// A member that has to be there is absent.
+    /// A required member is absent.
     Missing,
-    /// A member is no text, or no whole number, where it has to be one.
+    /// A member that must be a text or a whole number is neither.
     WrongKind,
     /// A number is below or above its range.
     OutOfRange,
@@ -16,15 +16,15 @@ pub enum Why {
     BadText,
     /// A control line names no command. No line has this reason while control lines are not built.
     UnknownCommand,
-    /// Nothing takes the line yet: it is a control line, looked at no further, or an event line
-    /// of which no other reason holds and whose event has an `@`.
+    /// The line is a control line, which is looked at no further, or an otherwise good event line
+    /// whose event has an `@`. Nothing carries these out yet.
     NotBuilt,
 }
 
 impl Why {
-    /// The reason in the words in which it is printed.
+    /// Gives the text in which the reason is printed.
     pub fn as_str(self) -> &'static str
-        ensures told { result.now ≡ reason_text self }
+        ensures told { result.now ≡ why_text self }
         ensures short { length result.now ≤ 20 }
     {
         match self {

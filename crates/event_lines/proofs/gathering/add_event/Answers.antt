@@ -3,8 +3,8 @@ use Rattle.std.specs.Str.{bytes_eq}
 use Rattle.std.specs.HashMap.{get_by, keys}
 use Rattle.std.proofs.lemmas.List.Quantifiers.{position-Some}
 use Rattle.indexmap.specs.IndexMap.{insert_entry}
-use Rattle.event_lines.specs.Gathered.{all_gathered}
-use Rattle.event_lines.proofs.Table.{pushed, fresh, none_where_not_some}
+use Rattle.event_lines.specs.inner.Gathered.{entry_traces}
+use Rattle.event_lines.proofs.TableLemmas.{pushed, fresh, none_where_not_some}
 use Rattle.event_lines.proofs.gathering.add_event.Goals as goal
 
 pub returns-in_ok-push-in-Some : goal.returns-in_ok-push-in-Some
@@ -15,6 +15,6 @@ returns-in_ok-push-in-Some c =
 pub returns-in_ok-insert-in-None : goal.returns-in_ok-insert-in-None
 returns-in_ok-insert-in-None c =
     let absent : get_by (bytes_eq c.args.event.request) c.args.table.now ≡ None = none_where_not_some _ c.in-None.ensures.found in
-    ap all_gathered c.in_ok-insert-in-None.ensures.entries
-    ∙ ap (λ request. all_gathered (insert_entry bytes_eq c.args.table.now.entries request c.in_ok-vec-in-None.field-0)) c.in_ok-request-in-None.ensures
+    ap entry_traces c.in_ok-insert-in-None.ensures.entries
+    ∙ ap (λ request. entry_traces (insert_entry bytes_eq c.args.table.now.entries request c.in_ok-vec-in-None.field-0)) c.in_ok-request-in-None.ensures
     ∙ fresh c.args.event c.args.table.now.entries c.in_ok-vec-in-None.field-0 absent c.in_ok-vec-in-None.ensures.items

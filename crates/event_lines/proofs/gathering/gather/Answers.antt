@@ -1,14 +1,14 @@
 use Rattle.std.proofs.Common.{All, sym, subst, ◌∙◌}
-use Rattle.event_lines.specs.Gathered.{IsTrace}
-use Rattle.event_lines.proofs.Totals.{all_events, all_within}
-use Rattle.event_lines.proofs.Traces.{all_traces}
+use Rattle.event_lines.specs.inner.Gathered.{IsRawTrace}
+use Rattle.event_lines.proofs.TotalLemmas.{all_events, all_within}
+use Rattle.event_lines.proofs.TraceLemmas.{all_traces}
 use Rattle.event_lines.proofs.gathering.gather.Goals as goal
 
 pub into_traces-requires : goal.into_traces-requires
-into_traces-requires c = subst (All IsTrace) (sym c.in_ok-table.ensures) (all_traces c.args.events.items c.requires.rising)
+into_traces-requires c = subst (All IsRawTrace) (sym c.in_ok-table.ensures) (all_traces c.args.events.items c.requires.rising)
 
 pub returns-clause-within : goal.returns-clause-within
-returns-clause-within c = all_within c.args.events.items c.in_ok-gathered.gathered.items (c.in_ok-gathered.ensures ∙ c.in_ok-table.ensures)
+returns-clause-within c = all_within c.args.events.items c.in_ok-traces.traces.items (c.in_ok-traces.ensures ∙ c.in_ok-table.ensures)
 
 pub returns-clause-all : goal.returns-clause-all
-returns-clause-all c = all_events c.args.events.items c.in_ok-gathered.gathered.items (c.in_ok-gathered.ensures ∙ c.in_ok-table.ensures)
+returns-clause-all c = all_events c.args.events.items c.in_ok-traces.traces.items (c.in_ok-traces.ensures ∙ c.in_ok-table.ensures)

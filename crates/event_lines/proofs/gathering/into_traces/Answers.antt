@@ -1,11 +1,11 @@
 use Rattle.std.proofs.Common.{ap, ◌∙◌}
-use Rattle.event_lines.specs.Gathered.{IsTrace, gathered}
-use Rattle.event_lines.proofs.Traces.{first_trace, other_traces, moved}
+use Rattle.event_lines.specs.inner.Gathered.{IsRawTrace, entry_trace}
+use Rattle.event_lines.proofs.TraceLemmas.{first_trace, other_traces, moved}
 use Rattle.event_lines.proofs.gathering.into_traces.Goals as goal
 
 pub invariant_of-push : goal.invariant_of-push
 invariant_of-push c =
-    let trace : IsTrace (gathered (c.in-Some.request, c.in-Some.events)) = first_trace c.loop-request.request-iterator c.next.new.self _ c.in-Some.ensures.steps c.loop-request.invariant.facts in record {
+    let trace : IsRawTrace (entry_trace (c.in-Some.request, c.in-Some.events)) = first_trace c.loop-request.request-iterator c.next.new.self _ c.in-Some.ensures.steps c.loop-request.invariant.facts in record {
       not_empty = rw c.of-events.ensures trace.not_empty;
       of_request = rw c.of-events.ensures trace.of_request;
       rising = rw c.of-events.ensures trace.rising;

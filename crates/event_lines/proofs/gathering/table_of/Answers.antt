@@ -1,8 +1,8 @@
 use Rattle.std.proofs.Common.{◌≡◌, ◌∷◌, [], List, length, sym, ap, ◌∙◌, append_assoc, append-nil, refl, arith}
 use Rattle.std.specs.Vec.Iter.{into_iter_items}
 use Rattle.trace_types.specs.Batch.{traces_of}
-use Rattle.event_lines.specs.Gathered.{with_event}
-use Rattle.event_lines.proofs.Batch.{traces_of-push}
+use Rattle.event_lines.specs.inner.Gathered.{traces_with}
+use Rattle.event_lines.proofs.BatchLemmas.{traces_of-push}
 use Rattle.event_lines.proofs.gathering.table_of.Goals as goal
 
 nothing_left : {X : Type 0} (xs : List X) → length xs ≡ 0 → xs ≡ []
@@ -15,7 +15,7 @@ loop-event-preserved c =
     let event = c.in-Some.event in
     let steps : into_iter_items at.event-iterator ≡ event ∷ into_iter_items c.next.new.self = c.in-Some.ensures.steps.0 in record {
       so_far = append_assoc at.yielded (event ∷ []) _ ∙ rw (← steps) at.invariant.so_far;
-      told = c.in_ok-add_event.ensures ∙ ap (λ traces. with_event traces event) at.invariant.told ∙ sym (traces_of-push at.yielded event);
+      told = c.in_ok-add_event.ensures ∙ ap (λ traces. traces_with traces event) at.invariant.told ∙ sym (traces_of-push at.yielded event);
       left =
           let was = at.invariant.left in
           let gone = c.in-Some.ensures.steps.1 in

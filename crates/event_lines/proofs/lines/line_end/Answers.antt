@@ -1,5 +1,5 @@
 use Rattle.std.proofs.Common.{sym, ◌∙◌}
-use Rattle.event_lines.proofs.Cut.{end_found}
+use Rattle.event_lines.proofs.CutLemmas.{end_found}
 use Rattle.event_lines.proofs.lines.line_end.Goals as goal
 
 pub returns-in_default-clause-first : goal.returns-in_default-clause-first

@@ -1,7 +1,7 @@
 use Rattle.std.proofs.Common.{◌≡◌, ◌+◌, ◌-◌, ◌≤◌, length, drop, Ok}
-use Rattle.event_lines.specs.Cut.{lines_of}
-use Rattle.event_lines.specs.Whole.{and_then, reading}
-use Rattle.event_lines.specs.Judged.{judged, lines_said}
+use Rattle.event_lines.specs.Cut.{input_lines}
+use Rattle.event_lines.specs.InputLines.{lines_said_from, lines_said}
+use Rattle.event_lines.proofs.InputLineLemmas.{and_then}
 use Rattle.event_lines.proofs.lines.read_lines.Given as goal
 
 -- the lines so far and those of the rest are those of all
@@ -10,7 +10,7 @@ invariant-lines l = record {
   within : l.start ≤ length l.bytes;
   few : l.number ≤ l.start + 1;
   short : length l.lines.items ≤ l.start;
-  told : and_then (Ok l.lines.items) (reading judged l.number (lines_of (drop l.start l.bytes))) ≡ lines_said l.bytes;
+  told : and_then (Ok l.lines.items) (lines_said_from l.number (input_lines (drop l.start l.bytes))) ≡ lines_said l.bytes;
 }
 
 abbrev pub decreases-lines : goal.decreases-lines

@@ -1,6 +1,6 @@
-use Rattle.event_lines.proofs.Rise.{RiseBelow}
+use Rattle.event_lines.proofs.RiseLemmas.{RiseBelow}
 use Rattle.event_lines.proofs.rising.lines_rise.Given as goal
 
--- the lines before the place rise
-abbrev pub invariant-loop-place : goal.invariant-loop-place
-invariant-loop-place l = RiseBelow l.place l.events
+-- the lines before the index rise
+abbrev pub invariant-loop-index : goal.invariant-loop-index
+invariant-loop-index l = RiseBelow l.index l.events

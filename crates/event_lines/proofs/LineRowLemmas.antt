@@ -6,7 +6,7 @@ use Rattle.event_lines.specs.declared.why.Why.{Why}
 use Rattle.event_lines.specs.declared.why.Why.TheVariants.{NotJson, Missing, WrongKind, OutOfRange, BadText, NotBuilt}
 use Rattle.event_lines.specs.declared.line.Line.{Line}
 use Rattle.event_lines.specs.declared.line.Line.TheVariants.{Event}
-use Rattle.event_lines.specs.Judged.{judged}
+use Rattle.event_lines.specs.LineResults.{line_result}
 
 -- an object with these members
 abbrev object : List ℕ → List ℕ
@@ -21,7 +21,7 @@ abbrev task : List ℕ → List ℕ
 task text = object (codes "\"request\":\"r\",\"machine\":\"m\",\"task\":\"" ++ text ++ codes "\",\"event\":\"e\",\"time\":0")
 
 abbrev said : List ℕ → Result Line Why
-said = judged 1
+said = line_result 1
 
 no_objects : map said (codes "[]" ∷ codes "5" ∷ codes "{" ∷ codes "x" ∷ codes "{} {}" ∷ (codes "{\"a\":\"" ++ 255 ∷ codes "\"}") ∷ [])
     ≡ replicate 6 (Err NotJson)
@@ -102,7 +102,7 @@ good : map said (
 unfolding serde_json_on_literals is_utf8 chars
 good = refl
 
-messages : judged 7 (line (codes ",\"time\":1,\"send\":\"x\",\"recv\":\"y\""))
+messages : line_result 7 (line (codes ",\"time\":1,\"send\":\"x\",\"recv\":\"y\""))
     ≡ Ok (Event (record { line = 7; request = codes "r"; machine = codes "m"; task = codes "t"; event = codes "e"; time = 1000; send = Some (codes "x"); recv = Some (codes "y") }))
 unfolding serde_json_on_literals is_utf8 chars
 messages = refl

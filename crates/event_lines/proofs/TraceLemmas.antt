@@ -13,7 +13,7 @@ use Rattle.trace_types.specs.declared.event.Event.{Event}
 use Rattle.trace_types.specs.declared.raw_trace.RawTrace.{RawTrace}
 use Rattle.trace_types.specs.EventLines.{AreOfRequest, LinesRise}
 use Rattle.trace_types.specs.Batch.{plain, is_of, events_of, requests_of, trace_of, traces_of}
-use Rattle.event_lines.specs.Gathered.{IsTrace, gathered, all_gathered}
+use Rattle.event_lines.specs.inner.Gathered.{IsRawTrace, entry_trace, entry_traces}
 
 laws : IsEquivalence bytes_eq
 laws = search (comparing, rules)
@@ -63,26 +63,26 @@ events_of_there (first ∷ batch) k d within =
     (All-filter (λ request. not (is_of request first)) (λ request. 0 < length (events_of request (first ∷ batch))) (requests_of batch)
     (λ j e lt. events_of_more (get_or (requests_of batch) j e) first batch (events_of_there batch j e lt))) k d within
 
-pub all_traces : (batch : List Event) → LinesRise batch → All IsTrace (traces_of batch)
-all_traces batch rising = All-map IsTrace (trace_of batch) (requests_of batch) (λ k d within. record {
+pub all_traces : (batch : List Event) → LinesRise batch → All IsRawTrace (traces_of batch)
+all_traces batch rising = All-map IsRawTrace (trace_of batch) (requests_of batch) (λ k d within. record {
   not_empty = events_of_there batch k d within;
   of_request = of_request-events_of (get_or (requests_of batch) k d) batch;
   rising = rising-events_of (get_or (requests_of batch) k d) batch rising;
 })
 
 -- the first entry is a trace, and the others are
-pub first_trace : (entries rest : List (List ℕ × Vec Event Global)) (entry : List ℕ × Vec Event Global) → entries ≡ entry ∷ rest → All IsTrace (all_gathered entries) → IsTrace (gathered entry)
-first_trace entries rest entry is facts = (subst (λ es. All IsTrace (all_gathered es)) is facts) 0 (gathered entry) (omega arith)
+pub first_trace : (entries rest : List (List ℕ × Vec Event Global)) (entry : List ℕ × Vec Event Global) → entries ≡ entry ∷ rest → All IsRawTrace (entry_traces entries) → IsRawTrace (entry_trace entry)
+first_trace entries rest entry is facts = (subst (λ es. All IsRawTrace (entry_traces es)) is facts) 0 (entry_trace entry) (omega arith)
 
-pub other_traces : (entries rest : List (List ℕ × Vec Event Global)) (entry : List ℕ × Vec Event Global) → entries ≡ entry ∷ rest → All IsTrace (all_gathered entries) → All IsTrace (all_gathered rest)
-other_traces entries rest entry is facts k d within = (subst (λ es. All IsTrace (all_gathered es)) is facts) (suc k) d (omega arith)
+pub other_traces : (entries rest : List (List ℕ × Vec Event Global)) (entry : List ℕ × Vec Event Global) → entries ≡ entry ∷ rest → All IsRawTrace (entry_traces entries) → All IsRawTrace (entry_traces rest)
+other_traces entries rest entry is facts k d within = (subst (λ es. All IsRawTrace (entry_traces es)) is facts) (suc k) d (omega arith)
 
 -- an entry that became a trace
 pub moved : (old new : List RawTrace) (trace : RawTrace) (entries rest : List (List ℕ × Vec Event Global)) (entry : List ℕ × Vec Event Global)
-    → new ≡ old ++ trace ∷ [] → plain trace ≡ gathered entry → entries ≡ entry ∷ rest → map plain new ++ all_gathered rest ≡ map plain old ++ all_gathered entries
+    → new ≡ old ++ trace ∷ [] → plain trace ≡ entry_trace entry → entries ≡ entry ∷ rest → map plain new ++ entry_traces rest ≡ map plain old ++ entry_traces entries
 moved old new trace entries rest entry push same is =
-    ap (λ traces. map plain traces ++ all_gathered rest) push
-    ∙ ap (λ traces. traces ++ all_gathered rest) (map-append plain old (trace ∷ []))
-    ∙ append_assoc (map plain old) (plain trace ∷ []) (all_gathered rest)
-    ∙ ap (λ first. map plain old ++ first ∷ all_gathered rest) same
-    ∙ ap (λ es. map plain old ++ all_gathered es) (sym is)
+    ap (λ traces. map plain traces ++ entry_traces rest) push
+    ∙ ap (λ traces. traces ++ entry_traces rest) (map-append plain old (trace ∷ []))
+    ∙ append_assoc (map plain old) (plain trace ∷ []) (entry_traces rest)
+    ∙ ap (λ first. map plain old ++ first ∷ entry_traces rest) same
+    ∙ ap (λ es. map plain old ++ entry_traces es) (sym is)

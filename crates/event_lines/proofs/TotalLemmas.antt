@@ -9,29 +9,29 @@ use Rattle.std.proofs.lemmas.List.Elements.{All-cons}
 use Rattle.trace_types.specs.declared.event.Event.{Event}
 use Rattle.trace_types.specs.declared.raw_trace.RawTrace.{RawTrace}
 use Rattle.trace_types.specs.Batch.{PlainTrace, plain, is_of, requests_of, trace_of, traces_of}
-use Rattle.event_lines.specs.Gathered.{with_event}
-use Rattle.event_lines.proofs.Batch.{traces_of-push}
+use Rattle.event_lines.specs.inner.Gathered.{traces_with}
+use Rattle.event_lines.proofs.BatchLemmas.{traces_of-push}
 
 abbrev size : PlainTrace → ℕ
 size trace = length trace.events
 
-total_with : (traces : List PlainTrace) (event : Event) → sum_by size (with_event traces event) ≡ sum_by size traces + 1
+total_with : (traces : List PlainTrace) (event : Event) → sum_by size (traces_with traces event) ≡ sum_by size traces + 1
 total_with [] event = refl
 total_with (trace ∷ traces) event = by (bytes_eq event.request trace.request) (total_with traces event)
   where
     longer : PlainTrace
     longer = record { request = trace.request; events = trace.events ++ event ∷ [] }
 
-    by : (b : Bool) → sum_by size (with_event traces event) ≡ sum_by size traces + 1 → sum_by size (if b then record { request = trace.request; events = trace.events ++ event ∷ [] } ∷ traces else trace ∷ with_event traces event) ≡ sum_by size (trace ∷ traces) + 1
+    by : (b : Bool) → sum_by size (traces_with traces event) ≡ sum_by size traces + 1 → sum_by size (if b then record { request = trace.request; events = trace.events ++ event ∷ [] } ∷ traces else trace ∷ traces_with traces event) ≡ sum_by size (trace ∷ traces) + 1
     by true rest = omega (arith, sum_by-cons size (record { request = trace.request; events = trace.events ++ event ∷ [] }) traces, sum_by-cons size trace traces, length-append trace.events (event ∷ []))
-    by false rest = omega (arith, sum_by-cons size trace (with_event traces event), sum_by-cons size trace traces, rest)
+    by false rest = omega (arith, sum_by-cons size trace (traces_with traces event), sum_by-cons size trace traces, rest)
 
 total_upto : (batch : List Event) (d : Event) (n : ℕ) → n ≤ length batch → sum_by size (traces_of (take n batch)) ≡ n
 total_upto batch d zero le = refl
 total_upto batch d (suc n) le =
     let lt : n < length batch = omega (arith, le) in
     let more : take (suc n) batch ≡ take n batch ++ get_or batch n d ∷ [] = take_more_suc n ∙ take_more batch n d lt in
-    let step : sum_by size (traces_of (take (suc n) batch)) ≡ sum_by size (with_event (traces_of (take n batch)) (get_or batch n d)) = ap (λ (b : List Event). sum_by size (traces_of b)) more ∙ ap (sum_by size) (traces_of-push (take n batch) (get_or batch n d)) in
+    let step : sum_by size (traces_of (take (suc n) batch)) ≡ sum_by size (traces_with (traces_of (take n batch)) (get_or batch n d)) = ap (λ (b : List Event). sum_by size (traces_of b)) more ∙ ap (sum_by size) (traces_of-push (take n batch) (get_or batch n d)) in
     omega (arith, step, total_with (traces_of (take n batch)) (get_or batch n d), total_upto batch d n (omega (arith, le)))
   where
     take_more_suc : (n : ℕ) → take (suc n) batch ≡ take (n + 1) batch

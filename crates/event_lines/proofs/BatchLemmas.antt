@@ -6,7 +6,7 @@ use Rattle.std.specs.Cmp.Rules.{comparing}
 use Rattle.std.specs.Str.{bytes_eq}
 use Rattle.trace_types.specs.declared.event.Event.{Event}
 use Rattle.trace_types.specs.Batch.{is_of, events_of, requests_of, trace_of, traces_of}
-use Rattle.event_lines.specs.Gathered.{with_event}
+use Rattle.event_lines.specs.inner.Gathered.{traces_with}
 
 laws : IsEquivalence bytes_eq
 laws = search (comparing, rules)
@@ -16,9 +16,9 @@ abbrev without : List ℕ → List (List ℕ) → List (List ℕ)
 without text texts = filter (λ other. not (bytes_eq text other)) texts
 
 -- the texts with one more, unless it is there
-abbrev added : List (List ℕ) → List ℕ → List (List ℕ)
-added [] text = text ∷ []
-added (first ∷ texts) text = if bytes_eq text first then first ∷ texts else first ∷ added texts text
+abbrev with_text : List (List ℕ) → List ℕ → List (List ℕ)
+with_text [] text = text ∷ []
+with_text (first ∷ texts) text = if bytes_eq text first then first ∷ texts else first ∷ with_text texts text
 
 -- each text once
 abbrev AreApart : List (List ℕ) → Type 0
@@ -27,20 +27,20 @@ AreApart (text ∷ texts) = (list_any (bytes_eq text) texts ≡ false) × AreApa
 
 -- ---- what is added to the texts without one
 
-without-added_same : (text more : List ℕ) (texts : List (List ℕ)) → bytes_eq more text ≡ true → without text (added texts more) ≡ without text texts
-without-added_same text more [] same = let there : bytes_eq text more ≡ true = laws.symm text more ∙ same in rw there refl
-without-added_same text more (first ∷ texts) same = by (bytes_eq more first) refl (without-added_same text more texts same)
+without-with_text_same : (text more : List ℕ) (texts : List (List ℕ)) → bytes_eq more text ≡ true → without text (with_text texts more) ≡ without text texts
+without-with_text_same text more [] same = let there : bytes_eq text more ≡ true = laws.symm text more ∙ same in rw there refl
+without-with_text_same text more (first ∷ texts) same = by (bytes_eq more first) refl (without-with_text_same text more texts same)
   where
-    by : (b : Bool) → bytes_eq more first ≡ b → without text (added texts more) ≡ without text texts → without text (added (first ∷ texts) more) ≡ without text (first ∷ texts)
+    by : (b : Bool) → bytes_eq more first ≡ b → without text (with_text texts more) ≡ without text texts → without text (with_text (first ∷ texts) more) ≡ without text (first ∷ texts)
     by true e rest = rw e refl
     by false e rest = rw (e, rest) refl
 
-without-added_other : (text more : List ℕ) (texts : List (List ℕ)) → bytes_eq more text ≡ false → without text (added texts more) ≡ added (without text texts) more
-without-added_other text more [] other = let apart : bytes_eq text more ≡ false = laws.symm text more ∙ other in rw apart refl
-without-added_other text more (first ∷ texts) other = by (bytes_eq more first) (bytes_eq text first) refl refl (without-added_other text more texts other)
+without-with_text_other : (text more : List ℕ) (texts : List (List ℕ)) → bytes_eq more text ≡ false → without text (with_text texts more) ≡ with_text (without text texts) more
+without-with_text_other text more [] other = let apart : bytes_eq text more ≡ false = laws.symm text more ∙ other in rw apart refl
+without-with_text_other text more (first ∷ texts) other = by (bytes_eq more first) (bytes_eq text first) refl refl (without-with_text_other text more texts other)
   where
-    by : (b d : Bool) → bytes_eq more first ≡ b → bytes_eq text first ≡ d → without text (added texts more) ≡ added (without text texts) more
-        → without text (added (first ∷ texts) more) ≡ added (without text (first ∷ texts)) more
+    by : (b d : Bool) → bytes_eq more first ≡ b → bytes_eq text first ≡ d → without text (with_text texts more) ≡ with_text (without text texts) more
+        → without text (with_text (first ∷ texts) more) ≡ with_text (without text (first ∷ texts)) more
     by true true e f rest = let h = laws.congr more first text e in absurd (cc (h, laws.symm text first))
     by true false e f rest = rw (e, f, e) refl
     by false true e f rest = rw (e, f, rest) refl
@@ -48,14 +48,14 @@ without-added_other text more (first ∷ texts) other = by (bytes_eq more first)
 
 -- ---- the requests of a batch
 
-requests_of-push : (batch : List Event) (event : Event) → requests_of (batch ++ event ∷ []) ≡ added (requests_of batch) event.request
+requests_of-push : (batch : List Event) (event : Event) → requests_of (batch ++ event ∷ []) ≡ with_text (requests_of batch) event.request
 requests_of-push [] event = refl
 requests_of-push (first ∷ batch) event = by (bytes_eq event.request first.request) refl (requests_of-push batch event)
   where
-    by : (b : Bool) → bytes_eq event.request first.request ≡ b → requests_of (batch ++ event ∷ []) ≡ added (requests_of batch) event.request
-        → requests_of ((first ∷ batch) ++ event ∷ []) ≡ added (requests_of (first ∷ batch)) event.request
-    by true e rest = rw (rest, e) (ap (λ texts. first.request ∷ texts) (without-added_same first.request event.request (requests_of batch) e))
-    by false e rest = rw (rest, e) (ap (λ texts. first.request ∷ texts) (without-added_other first.request event.request (requests_of batch) e))
+    by : (b : Bool) → bytes_eq event.request first.request ≡ b → requests_of (batch ++ event ∷ []) ≡ with_text (requests_of batch) event.request
+        → requests_of ((first ∷ batch) ++ event ∷ []) ≡ with_text (requests_of (first ∷ batch)) event.request
+    by true e rest = rw (rest, e) (ap (λ texts. first.request ∷ texts) (without-with_text_same first.request event.request (requests_of batch) e))
+    by false e rest = rw (rest, e) (ap (λ texts. first.request ∷ texts) (without-with_text_other first.request event.request (requests_of batch) e))
 
 any-without : (text other : List ℕ) (texts : List (List ℕ)) → bytes_eq other text ≡ false → list_any (bytes_eq other) (without text texts) ≡ list_any (bytes_eq other) texts
 any-without text other [] apart = refl
@@ -153,24 +153,24 @@ traces_stay batch event (request ∷ requests) none = by (bytes_eq event.request
     by false e rest = rw (events_of-push_other request batch event e) (ap (λ traces. trace_of batch request ∷ traces) (rest (rw e at none)))
 
 -- the traces of these requests, with one event more
-traces_with : (batch : List Event) (event : Event) (requests : List (List ℕ)) → AreApart requests → (list_any (bytes_eq event.request) requests ≡ false → events_of event.request batch ≡ [])
-    → map (trace_of (batch ++ event ∷ [])) (added requests event.request) ≡ with_event (map (trace_of batch) requests) event
-traces_with batch event [] apart none =
+traces_of-with : (batch : List Event) (event : Event) (requests : List (List ℕ)) → AreApart requests → (list_any (bytes_eq event.request) requests ≡ false → events_of event.request batch ≡ [])
+    → map (trace_of (batch ++ event ∷ [])) (with_text requests event.request) ≡ traces_with (map (trace_of batch) requests) event
+traces_of-with batch event [] apart none =
     ap (λ events. record { request = event.request; events = events } ∷ []) (events_of-push_same event.request batch event (laws.refl event.request) ∙ ap (λ events. events ++ event ∷ []) (none refl))
-traces_with batch event (request ∷ requests) apart none = by (bytes_eq event.request request) refl (traces_with batch event requests apart.1)
+traces_of-with batch event (request ∷ requests) apart none = by (bytes_eq event.request request) refl (traces_of-with batch event requests apart.1)
   where
     by : (b : Bool) → bytes_eq event.request request ≡ b
-        → ((list_any (bytes_eq event.request) requests ≡ false → events_of event.request batch ≡ []) → map (trace_of (batch ++ event ∷ [])) (added requests event.request) ≡ with_event (map (trace_of batch) requests) event)
-        → map (trace_of (batch ++ event ∷ [])) (added (request ∷ requests) event.request) ≡ with_event (map (trace_of batch) (request ∷ requests)) event
+        → ((list_any (bytes_eq event.request) requests ≡ false → events_of event.request batch ≡ []) → map (trace_of (batch ++ event ∷ [])) (with_text requests event.request) ≡ traces_with (map (trace_of batch) requests) event)
+        → map (trace_of (batch ++ event ∷ [])) (with_text (request ∷ requests) event.request) ≡ traces_with (map (trace_of batch) (request ∷ requests)) event
     by true e rest =
         let elsewhere : list_any (bytes_eq event.request) requests ≡ false = none_like request event.request requests e apart.0 in
         rw e (ap (λ events. record { request = request; events = events } ∷ map (trace_of (batch ++ event ∷ [])) requests) (events_of-push_same request batch event e)
         ∙ ap (λ traces. record { request = request; events = events_of request batch ++ event ∷ [] } ∷ traces) (sym (traces_stay batch event requests elsewhere)))
     by false e rest =
-        rw e (ap (λ events. record { request = request; events = events } ∷ map (trace_of (batch ++ event ∷ [])) (added requests event.request)) (events_of-push_other request batch event e)
+        rw e (ap (λ events. record { request = request; events = events } ∷ map (trace_of (batch ++ event ∷ [])) (with_text requests event.request)) (events_of-push_other request batch event e)
         ∙ ap (λ traces. trace_of batch request ∷ traces) (rest (λ h. none (rw e h))))
 
-pub traces_of-push : (batch : List Event) (event : Event) → traces_of (batch ++ event ∷ []) ≡ with_event (traces_of batch) event
+pub traces_of-push : (batch : List Event) (event : Event) → traces_of (batch ++ event ∷ []) ≡ traces_with (traces_of batch) event
 traces_of-push batch event =
     ap (map (trace_of (batch ++ event ∷ []))) (requests_of-push batch event)
-    ∙ traces_with batch event (requests_of batch) (requests_apart batch) (events_of-none event.request batch)
+    ∙ traces_of-with batch event (requests_of batch) (requests_apart batch) (events_of-none event.request batch)

@@ -1,15 +1,15 @@
 ghost use Rattle.std.specs.Prelude.{◌≡◌, IfOk, option_map};
 ghost use Rattle.serde_json.specs.View.{view};
-ghost use Rattle.event_lines.specs.Judged.{json_of, object_judged, data_judged, judged};
+ghost use Rattle.event_lines.specs.LineResults.{json_value, object_result, line_result};
 
 use crate::event_fields::EventFields;
 use crate::{Line, Why};
 use serde_json::Value;
 use std::alloc::{AllocError, Global};
 
-// The JSON value that a line is.
+/// Reads a line as a JSON value; none where it has no such reading.
 fn parse(alloc: Global, line: &[u8]) -> Result<Option<Value>, AllocError>
-    ensures { IfOk result (λ v. option_map view v ≡ json_of line.now) }
+    ensures { IfOk result (λ v. option_map view v ≡ json_value line.now) }
 {
     match Value::from_slice(alloc, line) {
         Ok(value) => Ok(Some(value)),
@@ -18,9 +18,9 @@ fn parse(alloc: Global, line: &[u8]) -> Result<Option<Value>, AllocError>
     }
 }
 
-// What an object says.
-fn judge_object(alloc: Global, number: u32, value: &Value) -> Result<Result<Line, Why>, AllocError>
-    ensures { IfOk result (λ said. said ≡ object_judged number (view value.now)) }
+/// Reads an object: its event, or why it is bad.
+fn read_object(alloc: Global, number: u32, value: &Value) -> Result<Result<Line, Why>, AllocError>
+    ensures { IfOk result (λ said. said ≡ object_result number (view value.now)) }
 {
     if value.get("do").is_some() {
         return Ok(Err(Why::NotBuilt));
@@ -37,13 +37,16 @@ fn judge_object(alloc: Global, number: u32, value: &Value) -> Result<Result<Line
     }
 }
 
-/// Reads a line that is not blank: what it says, or why it is bad. The only error is want of
-/// memory.
-pub fn judge(alloc: Global, number: u32, line: &[u8]) -> Result<Result<Line, Why>, AllocError>
-    ensures { IfOk result (λ said. said ≡ judged number line.now) }
+/// Reads a line that is not blank: its event, or why it is bad. The only error is out of memory.
+pub(crate) fn read_line(
+    alloc: Global,
+    number: u32,
+    line: &[u8],
+) -> Result<Result<Line, Why>, AllocError>
+    ensures { IfOk result (λ said. said ≡ line_result number line.now) }
 {
     match parse(alloc, line)? {
-        Some(value) if value.is_object() => judge_object(alloc, number, &value),
+        Some(value) if value.is_object() => read_object(alloc, number, &value),
         _ => Ok(Err(Why::NotJson)),
     }
 }

@@ -1,0 +1,120 @@
+-- The lines that an input says have rising numbers, and timely events.
+use Rattle.std.proofs.Common.{◌≡◌, ℕ, zero, suc, ◌+◌, ◌*◌, ◌≤◌, List, [], ◌∷◌, ◌++◌, Bool, true, false, Option, Some, None, Result, Ok, Err, refl, sym, subst, ◌∙◌, true≢false, arith, codes, nat_lt, unwrap_or, is_some, if◌then◌else◌}
+use Rattle.std.specs.Prelude.{All}
+use Rattle.std.proofs.lemmas.List.Elements.{All-cons}
+use Rattle.std.specs.Option.{option_map_or}
+use Rattle.std.proofs.lemmas.Bool.{ltb-false}
+use Rattle.serde_json.specs.Data.{Data}
+use Rattle.serde_json.specs.Find.{as_object}
+use Rattle.event_lines.specs.declared.line.Line.{Line}
+use Rattle.event_lines.specs.declared.line.Line.TheVariants.{Event}
+use Rattle.event_lines.specs.declared.why.Why.{Why}
+use Rattle.event_lines.specs.declared.why.Why.TheVariants.{NotJson, Missing, WrongKind, OutOfRange, NotBuilt}
+use Rattle.event_lines.specs.declared.time_unit.TimeUnit.{TimeUnit}
+use Rattle.event_lines.specs.declared.time_unit.TimeUnit.TheVariants.{Microseconds, Nanoseconds}
+use Rattle.event_lines.specs.Cut.{input_lines, is_blank_line}
+use Rattle.event_lines.specs.GoodLines.{line_number, NumbersRise, IsTimely}
+use Rattle.event_lines.specs.EventFaults.{event_line_fault, time_name, lacks_member, has_wrong_kind, is_out_of_range}
+use Rattle.event_lines.specs.LineResults.{line_event, event_line_result, value_result, line_result, json_value}
+use Rattle.event_lines.specs.Members.{has_member, number_at}
+use Rattle.event_lines.specs.TimeUnits.{time_unit_of, latest_in, nanoseconds_in}
+use Rattle.event_lines.specs.InputLines.{LineFault, lines_said_from, lines_said}
+use Rattle.event_lines.proofs.InputLineLemmas.{one_or_fault, lines_said_from-cons, lines_said_from-one, and_then}
+
+-- a good line has its number, and is timely
+record IsGood (n : ℕ) (line : Line) : Type 0 where
+  pub numbered : line_number line ≡ n
+  pub timely : IsTimely line
+
+-- ---- one line
+
+bounded : (unit : TimeUnit) (number : Option ℕ) → option_map_or (nat_lt (latest_in unit)) number true ≡ false → nanoseconds_in unit * unwrap_or number 0 ≤ 4102444800000000000
+bounded unit None out = absurd (true≢false out)
+bounded Microseconds (Some t) out = let le : t ≤ 4102444800000000 = ltb-false 4102444800000000 t out in omega arith
+bounded Nanoseconds (Some t) out = let le : t ≤ 4102444800000000000 = ltb-false 4102444800000000000 t out in omega arith
+
+third_holds_not : (a b c : Bool) (rest : Option Why) → (if a then Some Missing else (if b then Some WrongKind else (if c then Some OutOfRange else rest))) ≡ None → c ≡ false
+third_holds_not true b c rest h = absurd (cc h)
+third_holds_not false true c rest h = absurd (cc h)
+third_holds_not false false true rest h = absurd (cc h)
+third_holds_not false false false rest h = refl
+
+good_event : (n : ℕ) (d : Data) (line : Line) → event_line_result n d ≡ Ok line → IsGood n line
+good_event n d line said = by (event_line_fault d) refl
+  where
+    by : (fault : Option Why) → event_line_fault d ≡ fault → IsGood n line
+    by (Some why) e = absurd (cc (rw e at said))
+    by None e =
+        let is : Ok (Event (line_event n d)) ≡ Ok line = rw e at said in
+        let same : Event (line_event n d) ≡ line = cc in
+        subst (IsGood n) same (record {
+          numbered = refl;
+          timely = bounded (time_unit_of d) (number_at (time_name d) d) (third_holds_not (lacks_member d) (has_wrong_kind d) (is_out_of_range d) _ e);
+        })
+
+from_else : (b : Bool) (why : Why) (said : Result Line Why) (line : Line) → (if b then Err why else said) ≡ Ok line → said ≡ Ok line
+from_else true why said line h = absurd (cc h)
+from_else false why said line h = h
+
+from_then : (b : Bool) (why : Why) (said : Result Line Why) (line : Line) → (if b then said else Err why) ≡ Ok line → said ≡ Ok line
+from_then true why said line h = h
+from_then false why said line h = absurd (cc h)
+
+good_value : (n : ℕ) (value : Option Data) (line : Line) → option_map_or (value_result n) value (Err NotJson) ≡ Ok line → IsGood n line
+good_value n None line said = absurd (cc said)
+good_value n (Some d) line said = good_event n d line (from_else (has_member (codes "do") d) NotBuilt _ line (from_then (is_some (as_object d)) NotJson _ line said))
+
+good_line : (n : ℕ) (bytes : List ℕ) (line : Line) → line_result n bytes ≡ Ok line → IsGood n line
+good_line n bytes line said = good_value n (json_value bytes) line said
+
+-- ---- all lines
+
+-- the lines are good, and their numbers rise from n on
+abbrev AreGoodFrom : ℕ → List Line → Type 0
+AreGoodFrom n [] = Unit {0}
+AreGoodFrom n (line ∷ lines) = (n ≤ line_number line) × IsTimely line × AreGoodFrom (line_number line + 1) lines
+
+from_later : (n : ℕ) (lines : List Line) → AreGoodFrom (n + 1) lines → AreGoodFrom n lines
+from_later n [] good = tt
+from_later n (line ∷ lines) good = (omega (arith, good.0), good.1, good.2)
+
+good_added : (n : ℕ) (blank : Bool) (said : Result Line Why) (lines rest : List Line) → ((line : Line) → said ≡ Ok line → IsGood n line)
+    → (if blank then Ok [] else one_or_fault n said) ≡ Ok lines → AreGoodFrom (n + 1) rest → AreGoodFrom n (lines ++ rest)
+good_added n true said lines rest good is more = let none : [] ≡ lines = cc in subst (λ ls. AreGoodFrom n (ls ++ rest)) none (from_later n rest more)
+good_added n false (Err why) lines rest good is more = absurd (cc is)
+good_added n false (Ok line) lines rest good is more =
+    let one : line ∷ [] ≡ lines = cc in
+    let g = good line refl in
+    subst (λ ls. AreGoodFrom n (ls ++ rest)) one (omega (arith, g.numbered), g.timely, subst (λ m. AreGoodFrom (m + 1) rest) (sym g.numbered) more)
+
+good_lines : (n : ℕ) (parts : List (List ℕ)) (lines : List Line) → lines_said_from n parts ≡ Ok lines → AreGoodFrom n lines
+good_lines n [] lines said = let none : [] ≡ lines = cc in subst (AreGoodFrom n) none tt
+good_lines n (part ∷ parts) lines said = by (lines_said_from n (part ∷ [])) (lines_said_from (n + 1) parts) refl refl (sym (lines_said_from-cons n part parts) ∙ said) (good_lines (n + 1) parts)
+  where
+    by : (one rest : Result (List Line) LineFault) → lines_said_from n (part ∷ []) ≡ one → lines_said_from (n + 1) parts ≡ rest → and_then one rest ≡ Ok lines
+        → ((more : List Line) → lines_said_from (n + 1) parts ≡ Ok more → AreGoodFrom (n + 1) more) → AreGoodFrom n lines
+    by (Err e) rest is more all good = absurd (cc all)
+    by (Ok first) (Err e) is more all good = absurd (cc all)
+    by (Ok first) (Ok later) is more all good =
+        let joined : first ++ later ≡ lines = cc in
+        subst (AreGoodFrom n) joined (good_added n (is_blank_line part) (line_result n part) first later (good_line n part) (sym (lines_said_from-one n part) ∙ is) (good later more))
+
+-- ---- as the contracts say it
+
+rise : (n : ℕ) (lines : List Line) → AreGoodFrom n lines → NumbersRise lines
+rise n [] good k within = absurd (omega arith)
+rise n (line ∷ []) good k within = absurd (omega arith)
+rise n (line ∷ next ∷ lines) good zero within = omega (arith, good.2.0)
+rise n (line ∷ next ∷ lines) good (suc k) within =
+    let e : suc k + 1 ≡ suc (k + 1) = omega arith in
+    rw e (rise (line_number line + 1) (next ∷ lines) good.2 k (omega arith))
+
+lines_timely : (n : ℕ) (lines : List Line) → AreGoodFrom n lines → All IsTimely lines
+lines_timely n [] good k d within = absurd (omega arith)
+lines_timely n (line ∷ lines) good k d within = All-cons IsTimely line lines good.1 (lines_timely (line_number line + 1) lines good.2) k d within
+
+pub numbers_rise : (bytes : List ℕ) (lines : List Line) → lines_said bytes ≡ Ok lines → NumbersRise lines
+numbers_rise bytes lines said = rise 1 lines (good_lines 1 (input_lines bytes) lines said)
+
+pub all_timely : (bytes : List ℕ) (lines : List Line) → lines_said bytes ≡ Ok lines → All IsTimely lines
+all_timely bytes lines said = lines_timely 1 lines (good_lines 1 (input_lines bytes) lines said)

@@ -1,9 +1,0 @@
-use Rattle.std.proofs.Common.{sym, ◌∙◌}
-use Rattle.event_lines.proofs.JsonOf.{json_of-utf8, json_of-refused}
-use Rattle.event_lines.proofs.judging.parse.Goals as goal
-
-pub returns-in-Ok : goal.returns-in-Ok
-returns-in-Ok c = sym (json_of-utf8 c.args.line.now c.in-Ok.ensures.ok.0 ∙ c.in-Ok.ensures.ok.1)
-
-pub returns-in-Err-2 : goal.returns-in-Err-2
-returns-in-Err-2 c = sym (json_of-refused c.args.line.now (c.in-Err.ensures.err (λ m. cc (c.is_memory.ensures.1 m))))
