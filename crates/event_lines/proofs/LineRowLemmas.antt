@@ -6,6 +6,7 @@ use Rattle.event_lines.specs.declared.why.Why.{Why}
 use Rattle.event_lines.specs.declared.why.Why.TheVariants.{NotJson, Missing, WrongKind, OutOfRange, BadText, NotBuilt}
 use Rattle.event_lines.specs.declared.line.Line.{Line}
 use Rattle.event_lines.specs.declared.line.Line.TheVariants.{Event}
+use Rattle.event_lines.specs.InputLines.{lines_said}
 use Rattle.event_lines.specs.LineResults.{line_result}
 
 -- an object with these members
@@ -111,3 +112,11 @@ longest : said (task (replicate 62 120 ++ 195 ∷ 169 ∷ []))
     ≡ Ok (Event (record { line = 1; request = codes "r"; machine = codes "m"; task = replicate 62 120 ++ 195 ∷ 169 ∷ []; event = codes "e"; time = 0; send = None; recv = None }))
 unfolding serde_json_on_literals is_utf8 chars
 longest = refl
+
+-- blank lines are counted, and the first bad line is told
+first_bad_line : lines_said (10 ∷ 32 ∷ 13 ∷ 10 ∷ line (codes ",\"time\":0") ++ 10 ∷ codes "[]" ++ 10 ∷ codes "{}") ≡ Err (record { line = 4; why = NotJson })
+unfolding serde_json_on_literals is_utf8 chars
+first_bad_line = refl
+
+no_line : lines_said (10 ∷ 10 ∷ []) ≡ Ok []
+no_line = refl

@@ -28,7 +28,10 @@ fn add_event(
 }
 
 /// Gathers the events of each request, in the order of the first event of each.
-fn table_of(alloc: Global, events: Vec<Event>) -> Result<IndexMap<Text, Vec<Event>>, AllocError>
+fn gather_by_request(
+    alloc: Global,
+    events: Vec<Event>,
+) -> Result<IndexMap<Text, Vec<Event>>, AllocError>
     ensures { IfOk result (λ t. entry_traces t.entries ≡ traces_of events.items) }
 {
     let mut table = IndexMap::new(alloc);
@@ -67,7 +70,7 @@ pub fn gather(alloc: Global, events: Vec<Event>) -> Result<Vec<RawTrace>, AllocE
     ensures all { IfOk result (λ v.
         sum_by (λ (trace : RawTrace). length trace.events) v.items ≡ length events.items) }
 {
-    let table = table_of(alloc, events)?;
+    let table = gather_by_request(alloc, events)?;
     let traces = into_traces(alloc, table)?;
     Ok(traces)
 }

@@ -75,7 +75,8 @@ const GOOD: &str = r#"
 5000|{"request":"r1","machine":"m","task":"a","event":"s","time":5,"send":null,"nanos":null}
 1500|{"request":"r1","machine":"m","task":"a","event":"s","time":"x","nanos":1500}
 0|{"request":"r1","machine":"m","task":"a","event":"s","time":-1,"nanos":0}
-4102444800000000000| {"nanos":4102444800000000000,"request":"r","machine":"m","task":"a","event":"s"}
+3| {"nanos":3,"request":"r","machine":"m","task":"a","event":"s"}
+4102444800000000000|{"nanos":4102444800000000000,"request":"r","machine":"m","task":"a","event":"s"}
 2000|{"request":"r1","machine":"\u0080","task":"\u00e9","event":"s","time":2,"recv":"x","more":[{}]}
 "#;
 
@@ -157,7 +158,7 @@ fn blank_lines_count_in_the_numbering(rt: HostRuntime) -> Result<(), Fail> {
 }
 
 /// Makes an event of a request on a line.
-fn event(alloc: Global, line: u32, request: &str) -> Result<Event, Fail> {
+fn event_on(alloc: Global, line: u32, request: &str) -> Result<Event, Fail> {
     Ok(Event {
         line,
         request: Text::new(alloc, request)?,
@@ -176,7 +177,7 @@ fn a_trace_has_all_events_of_a_request_and_traces_stand_by_their_first(
 ) -> Result<(), Fail> {
     let mut events = Vec::new(rt.alloc());
     for (line, request) in [(3, "b"), (5, "a"), (6, "b"), (9, "c"), (12, "a")] {
-        events.push(event(rt.alloc(), line, request)?)?;
+        events.push(event_on(rt.alloc(), line, request)?)?;
     }
     assert!(rt; lines_rise(events.as_slice()));
     let mut gathered = Vec::new(rt.alloc());

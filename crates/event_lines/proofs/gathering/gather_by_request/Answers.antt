@@ -3,7 +3,7 @@ use Rattle.std.specs.Vec.Iter.{into_iter_items}
 use Rattle.trace_types.specs.Batch.{traces_of}
 use Rattle.event_lines.specs.inner.Gathered.{traces_with}
 use Rattle.event_lines.proofs.BatchLemmas.{traces_of-push}
-use Rattle.event_lines.proofs.gathering.table_of.Goals as goal
+use Rattle.event_lines.proofs.gathering.gather_by_request.Goals as goal
 
 nothing_left : {X : Type 0} (xs : List X) → length xs ≡ 0 → xs ≡ []
 nothing_left [] h = refl
