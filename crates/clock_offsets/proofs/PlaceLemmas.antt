@@ -7,13 +7,23 @@ use Rattle.std.proofs.lemmas.Bool.{cases_lt}
 use Rattle.std.proofs.lemmas.List.{get_or-map, length-map}
 use Rattle.std.proofs.lemmas.Slice.Eq.{bytes_eq-Decides}
 use Rattle.trace_types.specs.declared.event.Event.{Event}
+use Rattle.trace_types.specs.Events.{sends_of}
+use Rattle.clock_offsets.specs.declared.clock_fault.ClockFault.{ClockFault}
 use Rattle.clock_offsets.specs.declared.places.End.{End}
-use Rattle.clock_offsets.specs.Placing.{key_of, keys_of, place_in, ArePlaces}
-use Rattle.clock_offsets.specs.Repeats.{IsRepeated, IsFirstRepeat, AreDistinct}
+use Rattle.clock_offsets.specs.declared.places.End.TheVariants.{Sending, Receipt}
+use Rattle.clock_offsets.specs.Faults.{IsClockFault}
+use Rattle.clock_offsets.specs.inner.Places.{message_at, messages_at, place_in, ArePlaces, IsRepeatAt}
+use Rattle.trace_types.specs.Repeats.{IsRepeated, IsFirstRepeat, AreDistinct}
 
--- the key of the event at n
-pub key_at : (end : End) (events : List Event) (n : ℕ) (e : Event) → n < length events → e ≡ get_or events n e → get_or (keys_of end events) n None ≡ key_of end e
-key_at end events n e l is = get_or-map (key_of end) events n e None l ∙ ap (key_of end) (sym is)
+-- each event has a message or none
+pub length-messages_at : (end : End) (events : List Event) → length (messages_at end events) ≡ length events
+length-messages_at Sending events = length-map events (λ (e : Event). e.send)
+length-messages_at Receipt events = length-map events (λ (e : Event). e.recv)
+
+-- the message of an event that was read
+pub message_read : (end : End) (events : List Event) (n : ℕ) (e : Event) → n < length events → e ≡ get_or events n e → get_or (messages_at end events) n None ≡ message_at end e
+message_read Sending events n e l is = get_or-map (λ (x : Event). x.send) events n e None l ∙ ap (λ (x : Event). x.send) (sym is)
+message_read Receipt events n e l is = get_or-map (λ (x : Event). x.recv) events n e None l ∙ ap (λ (x : Event). x.recv) (sym is)
 
 -- one key more, where the event has none
 pub places_skip : (keys : List (Option (List ℕ))) (n : ℕ) (m : BTreeMap (Bor (List ℕ)) ℕ) → ArePlaces keys n m → get_or keys n None ≡ None → ArePlaces keys (n + 1) m
@@ -83,5 +93,14 @@ pub none_from_is_some : {X : Type 0} (o : Option X) → is_some o ≡ false → 
 none_from_is_some None h = refl
 none_from_is_some (Some x) h = cc
 
-pub events_distinct : (end : End) (events : List Event) (m : BTreeMap (Bor (List ℕ)) ℕ) → ArePlaces (keys_of end events) (length events) m → AreDistinct (keys_of end events)
-events_distinct end events m a = places_distinct (keys_of end events) m (subst (λ (n : ℕ). ArePlaces (keys_of end events) n m) (sym (length-map events (key_of end))) a)
+-- the messages at an end differ where the map has the index of each
+pub messages_distinct : (end : End) (events : List Event) (m : BTreeMap (Bor (List ℕ)) ℕ) → ArePlaces (messages_at end events) (length events) m → AreDistinct (messages_at end events)
+messages_distinct end events m a = places_distinct (messages_at end events) m (subst (λ (n : ℕ). ArePlaces (messages_at end events) n m) (sym (length-messages_at end events)) a)
+
+-- a send that is repeated is the fault of the events
+pub send_repeats : (events : List Event) (fault : ClockFault) → IsRepeatAt events Sending fault → IsClockFault events fault
+send_repeats events fault (line, is, first) = subst (λ (f : ClockFault). IsClockFault events f) (sym is) first
+
+-- and so is a receipt, where each message is sent once
+pub receipt_repeats : (events : List Event) (fault : ClockFault) → AreDistinct (sends_of events) → IsRepeatAt events Receipt fault → IsClockFault events fault
+receipt_repeats events fault once (line, is, first) = subst (λ (f : ClockFault). IsClockFault events f) (sym is) (once, first)

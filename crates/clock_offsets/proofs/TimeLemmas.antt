@@ -9,7 +9,7 @@ use mir.Syntax.{w64}
 use mir.Val.{to_z, of_z}
 use Rattle.trace_types.specs.declared.event.Event.{Event}
 use Rattle.clock_offsets.specs.Messages.{IsHalf}
-use Rattle.clock_offsets.specs.Times.{latest_time, AreTimely}
+use Rattle.trace_types.specs.Times.{latest_time, AreTimely}
 
 pub event_time : (events : List Event) (e : Event) → AreTimely events → Contains events e → e.time ≤ latest_time
 event_time events e a h = All-contains (λ (x : Event). x.time ≤ latest_time) events e a h

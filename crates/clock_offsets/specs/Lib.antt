@@ -1,11 +1,7 @@
-pub mod Times
 pub mod Machines
 pub mod Messages
-pub mod Levels
+pub mod Depths
 pub mod Offsets
-pub mod Repeats
 pub mod Faults
-pub mod Spreading
-pub mod Placing
-pub mod Sending
-pub mod Linking
+pub mod FirstEvents
+pub mod inner

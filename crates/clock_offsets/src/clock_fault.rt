@@ -3,11 +3,10 @@ ghost use Rattle.clock_offsets.specs.declared.clock_fault.ClockFault.TheVariants
 
 use std::alloc::{AllocError, AllocFailed};
 
-/// Why a trace has no offsets. The first that holds is answered; want of memory may come at any
-/// time.
+/// Why a trace has no offsets: out of memory, or the first fault that holds.
 #[derive(Clone, Copy, Debug, PartialEq, Eq)]
 pub enum ClockFault {
-    /// There was no memory.
+    /// Out of memory.
     Memory,
     /// A line sends a message that an earlier line sent; the first such line.
     RepeatedSend {
@@ -24,6 +23,7 @@ pub enum ClockFault {
 impl From<AllocError> for ClockFault {
     ghost from_gives = { λ _ e. e ≡ Memory };
 
+    /// Answers that memory ran out.
     fn from(_error: AllocError) -> ClockFault {
         ClockFault::Memory
     }
@@ -32,6 +32,7 @@ impl From<AllocError> for ClockFault {
 impl<T: Drop> From<AllocFailed<T>> for ClockFault {
     ghost from_gives = { λ _ e. e ≡ Memory };
 
+    /// Answers that memory ran out.
     fn from(_error: AllocFailed<T>) -> ClockFault {
         ClockFault::Memory
     }

@@ -1,22 +1,23 @@
+//! Laws over the definitions alone: each function does nothing, and its contract is the law.
 ghost use Rattle.std.specs.Prelude.{◌≡◌, ℕ, ℤ, pos, ◌+ℤ◌, ◌≤ℤ◌, List};
 ghost use Rattle.trace_types.specs.declared.event.Event.{Event};
-ghost use Rattle.clock_offsets.specs.Messages.{Took, IsLeast};
-ghost use Rattle.clock_offsets.specs.Offsets.{IsParent, IsOffset, adjusted};
+ghost use Rattle.clock_offsets.specs.Messages.{IsOneWayDelay, IsLeastDelay};
+ghost use Rattle.clock_offsets.specs.Offsets.{IsParent, IsOffset, adjusted_time};
 
 /// A machine has one offset.
 pub fn a_machine_has_one_offset()
     ensures { (events : List Event) (m : List ℕ) (a b : ℤ) → IsOffset events m a → IsOffset events m b → a ≡ b }
 {}
 
-/// Where the least that messages took from the parent to a machine and back is together not
-/// negative, no message between the two is received, by adjusted times, before it was sent.
+/// Where the round trip of least delays between a parent and a machine is not negative, no message
+/// between the two is received, by adjusted times, before it was sent.
 pub fn a_message_is_received_after_it_was_sent()
     ensures there { (events : List Event) (k : ℕ) (p m : List ℕ) (a o f g : ℤ) → IsParent events k p m
         → IsOffset events p a → IsOffset events m o
-        → IsLeast events p m f → IsLeast events m p g → pos 0 ≤ℤ (f +ℤ g)
-        → (d : ℤ) (t : Took events p m d) → adjusted t.sender.time a ≤ℤ adjusted t.receiver.time o }
+        → IsLeastDelay events p m f → IsLeastDelay events m p g → pos 0 ≤ℤ (f +ℤ g)
+        → (d : ℤ) (t : IsOneWayDelay events p m d) → adjusted_time t.sender.time a ≤ℤ adjusted_time t.receiver.time o }
     ensures back { (events : List Event) (k : ℕ) (p m : List ℕ) (a o f g : ℤ) → IsParent events k p m
         → IsOffset events p a → IsOffset events m o
-        → IsLeast events p m f → IsLeast events m p g → pos 0 ≤ℤ (f +ℤ g)
-        → (d : ℤ) (t : Took events m p d) → adjusted t.sender.time o ≤ℤ adjusted t.receiver.time a }
+        → IsLeastDelay events p m f → IsLeastDelay events m p g → pos 0 ≤ℤ (f +ℤ g)
+        → (d : ℤ) (t : IsOneWayDelay events m p d) → adjusted_time t.sender.time o ≤ℤ adjusted_time t.receiver.time a }
 {}

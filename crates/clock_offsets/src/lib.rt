@@ -1,22 +1,26 @@
-//! The offsets of the machines' clocks from the clock of the first line's machine.
+//! Clock offsets of the machines of a trace, by a breadth-first search from the reference.
+//!
+//! The reference is the machine of the first event. Machines are paired where messages go in both
+//! directions; the search goes from paired machine to paired machine, and each machine's offset is
+//! its parent's plus its own relative to the parent.
 #![tactic(auto)]
 
 mod clock_fault;
-mod laws;
-mod least;
+mod delays;
+mod first_events;
+mod frontier;
+pub mod laws;
 mod link;
 mod links;
 mod message;
 mod messages;
-mod numbers;
+mod parents;
 mod places;
-mod settle;
-mod spread;
+mod search;
 #[cfg(test)]
 mod tests;
 mod trace_offsets;
-mod widen;
 
 pub use clock_fault::ClockFault;
-pub use laws::{a_machine_has_one_offset, a_message_is_received_after_it_was_sent};
+pub use first_events::{Field, find_first_events};
 pub use trace_offsets::offsets;

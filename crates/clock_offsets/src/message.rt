@@ -5,6 +5,7 @@ pub(crate) struct Message {
     pub(crate) from: usize,
     /// The machine that received it.
     pub(crate) to: usize,
-    /// Its receipt by the one's clock less its sending by the other's, in nanoseconds.
-    pub(crate) took: i64,
+    /// Receive time minus send time, each by its own machine's clock, in nanoseconds; may be
+    /// negative.
+    pub(crate) delay: i64,
 }

@@ -1,7 +1,9 @@
-ghost use Rattle.std.specs.Prelude.{◌≡◌, option_copied, IfOk, IfErr, length};
-ghost use Rattle.clock_offsets.specs.Placing.{key_of, keys_of, ArePlaces, IsUnplaced};
+ghost use Rattle.std.specs.Prelude.{◌≡◌, ◌≢◌, option_copied, IfOk, IfErr, length};
+ghost use Rattle.clock_offsets.specs.declared.clock_fault.ClockFault.TheVariants.{Memory};
+ghost use Rattle.clock_offsets.specs.inner.Places.{message_at, messages_at, repeat_at, ArePlaces, IsRepeatAt};
 
-use std::alloc::{AllocError, AllocFailed, Global};
+use crate::ClockFault;
+use std::alloc::Global;
 use std::collections::BTreeMap;
 use trace_types::{Event, Text};
 
@@ -12,37 +14,9 @@ pub(crate) enum End {
     Receipt,
 }
 
-/// Why messages have no places by their texts.
-pub(crate) enum Unplaced {
-    /// There was no memory.
-    Memory,
-    /// The event on this line has the text of an earlier one; the first such line.
-    Repeated { line: u32 },
-}
-
-impl From<AllocError> for Unplaced {
-    ghost use Rattle.clock_offsets.specs.declared.places.Unplaced.TheVariants.{Memory};
-
-    ghost from_gives = { λ _ e. e ≡ Memory };
-
-    fn from(_error: AllocError) -> Unplaced {
-        Unplaced::Memory
-    }
-}
-
-impl<T: Drop> From<AllocFailed<T>> for Unplaced {
-    ghost use Rattle.clock_offsets.specs.declared.places.Unplaced.TheVariants.{Memory};
-
-    ghost from_gives = { λ _ e. e ≡ Memory };
-
-    fn from(_error: AllocFailed<T>) -> Unplaced {
-        Unplaced::Memory
-    }
-}
-
-/// The text of the message that an event has at this end.
-pub(crate) fn text_at(event: &Event, end: End) -> Option<&Text>
-    ensures { option_copied result ≡ key_of end event.now }
+/// Reads the message of an event at this end.
+fn read_message(event: &Event, end: End) -> Option<&Text>
+    ensures { option_copied result ≡ message_at end event.now }
 {
     match end {
         End::Sending => event.send.as_ref(),
@@ -50,23 +24,33 @@ pub(crate) fn text_at(event: &Event, end: End) -> Option<&Text>
     }
 }
 
-/// The place of the event that has each text at this end.
-pub(crate) fn places(
+/// Makes the fault of a message that occurs twice at this end.
+fn repeat(end: End, line: u32) -> ClockFault
+    ensures { result ≡ repeat_at end line }
+{
+    match end {
+        End::Sending => ClockFault::RepeatedSend { line },
+        End::Receipt => ClockFault::RepeatedRecv { line },
+    }
+}
+
+/// Maps each message to the index of the event that has it at this end.
+pub(crate) fn index_messages(
     alloc: Global,
     events: &[Event],
     end: End,
-) -> Result<BTreeMap<&str, usize>, Unplaced>
-    ensures ok { IfOk result (λ m. ArePlaces (keys_of end events.now) (length events.now) m) }
-    ensures err { IfErr result (IsUnplaced events.now end) }
+) -> Result<BTreeMap<&str, usize>, ClockFault>
+    ensures ok { IfOk result (λ m. ArePlaces (messages_at end events.now) (length events.now) m) }
+    ensures err { IfErr result (λ fault. fault ≢ Memory → IsRepeatAt events.now end fault) }
 {
     let mut places = BTreeMap::new(alloc);
     for (at, event) in events.iter().enumerate() {
-        let Some(text) = text_at(event, end) else {
+        let Some(message) = read_message(event, end) else {
             continue;
         };
-        let text = text.as_str();
+        let text = message.as_str();
         if places.contains_key(text) {
-            return Err(Unplaced::Repeated { line: event.line });
+            return Err(repeat(end, event.line));
         }
         places.insert(text, at)?;
     }

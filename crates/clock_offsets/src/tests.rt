@@ -1,5 +1,5 @@
 ghost use Rattle.std.specs.Prelude.{◌≡◌, ◌^◌, ◌<◌, IfOk, length, codes};
-ghost use Rattle.clock_offsets.specs.Times.{AreTimely};
+ghost use Rattle.trace_types.specs.Times.{AreTimely};
 
 use crate::{ClockFault, offsets};
 use std::alloc::{AllocError, Global};

@@ -1,23 +1,25 @@
-ghost use Rattle.std.specs.Prelude.{◌^◌, ◌<◌, IfOk, IfErr, OnOk, length};
-ghost use Rattle.clock_offsets.specs.Times.{AreTimely};
+ghost use Rattle.std.specs.Prelude.{◌≢◌, ◌^◌, ◌<◌, IfOk, IfErr, OnOk, length};
+ghost use Rattle.trace_types.specs.Times.{AreTimely};
+ghost use Rattle.trace_types.specs.Events.{sends_of};
+ghost use Rattle.clock_offsets.specs.declared.clock_fault.ClockFault.TheVariants.{Memory};
 ghost use Rattle.clock_offsets.specs.Offsets.{AreOffsets};
-ghost use Rattle.clock_offsets.specs.Faults.{sends_of, AreMessagesOnce, IsClockFault};
-ghost use Rattle.clock_offsets.specs.Placing.{ArePlaces};
-ghost use Rattle.clock_offsets.specs.Spreading.{AreNumbers, AreMachineOffsets};
+ghost use Rattle.clock_offsets.specs.Faults.{AreMessagesOnce, IsClockFault};
+ghost use Rattle.clock_offsets.specs.inner.Places.{ArePlaces};
+ghost use Rattle.clock_offsets.specs.inner.Links.{AreNumbers};
+ghost use Rattle.clock_offsets.specs.inner.Search.{AreMachineOffsets};
 
 use crate::ClockFault;
-use crate::least::least;
-use crate::links::links;
-use crate::messages::messages;
-use crate::numbers::machine_numbers;
-use crate::places::{End, Unplaced, places};
-use crate::spread::machine_offsets;
+use crate::delays::find_least_delays;
+use crate::first_events::{Field, find_first_events};
+use crate::links::link_machines;
+use crate::places::{End, index_messages};
+use crate::search::search_offsets;
 use std::alloc::{AllocError, Global};
 use std::collections::BTreeMap;
 use trace_types::{Event, RawTrace};
 
-/// The offset of each event, where each machine has one.
-fn by_event(
+/// Gives each event the offset of its machine.
+fn spread_to_events(
     alloc: Global,
     events: &[Event],
     numbers: &[usize],
@@ -27,57 +29,53 @@ fn by_event(
     requires offset { AreMachineOffsets events.now numbers.now offsets.now }
     ensures { IfOk result (λ each. AreOffsets events.now each.items) }
 {
-    let mut each = Vec::new(alloc);
+    let mut each = Vec::with_capacity(alloc, numbers.len())?;
     for number in numbers {
         each.push(offsets[*number])?;
     }
     Ok(each)
 }
 
-/// The places of the events that send each message, where each is sent once and received once.
-fn senders(alloc: Global, events: &[Event]) -> Result<BTreeMap<&str, usize>, ClockFault>
+/// Maps each message to the index of the event that sends it, once it is known that each is sent
+/// once and received once.
+fn index_senders(alloc: Global, events: &[Event]) -> Result<BTreeMap<&str, usize>, ClockFault>
     ensures ok { IfOk result (λ m. ArePlaces (sends_of events.now) (length events.now) m) }
     ensures once { OnOk result (AreMessagesOnce events.now) }
-    ensures err { IfErr result (IsClockFault events.now) }
+    ensures err { IfErr result (λ fault. fault ≢ Memory → IsClockFault events.now fault) }
 {
-    let senders = match places(alloc, events, End::Sending) {
-        Ok(senders) => senders,
-        Err(Unplaced::Memory) => return Err(ClockFault::Memory),
-        Err(Unplaced::Repeated { line }) => return Err(ClockFault::RepeatedSend { line }),
-    };
-    match places(alloc, events, End::Receipt) {
+    let senders = index_messages(alloc, events, End::Sending)?;
+    match index_messages(alloc, events, End::Receipt) {
         Ok(_receivers) => Ok(senders),
-        Err(Unplaced::Memory) => Err(ClockFault::Memory),
-        Err(Unplaced::Repeated { line }) => Err(ClockFault::RepeatedRecv { line }),
+        Err(fault) => Err(fault),
     }
 }
 
-/// For each event of the trace, by place, the offset of its machine's clock from that of the
+/// Finds for each event of the trace, by index, the offset of its machine's clock from that of the
 /// reference, the machine of the first event, in nanoseconds.
 ///
-/// A message counts where one machine sends it and another receives it. Two machines are paired
-/// where messages count both ways, and the one's offset against the other is half of the least
-/// that a message took there less the least that one took back, rounded towards minus infinity.
-/// The offset of a machine is that of its parent, the paired machine one pairing nearer to the
-/// reference with the least name, plus its own against the parent. It is 0 where no pairings lead
-/// to the machine. This is the symmetric half round trip of M. Chow et al., "The Mystery Machine",
-/// OSDI 2014, section 3.1; the choice of parents is this project's own.
+/// Two machines are paired where messages go between them in both directions. The one-way delay of
+/// a message is its receive time minus its send time, each by its own machine's clock. The offset
+/// of one machine relative to another is half of the least delay to it minus the least delay from
+/// it, rounded towards minus infinity. A breadth-first search from the reference gives each machine
+/// its depth; its parent is, of the paired machines one depth nearer to the reference, the one with
+/// the least name, and its offset is the parent's plus its own relative to the parent. It is 0
+/// where no pairings lead to the machine. This is the symmetric half round trip of M. Chow et al.,
+/// "The Mystery Machine", OSDI 2014, section 3.1; the choice of parents is this project's own.
 ///
-/// Times are at most `latest_time`. The first fault that holds is answered: a message that is sent
-/// twice, then one that is received twice. Want of memory may come at any time.
+/// Times are at most `trace_types::LATEST_TIME`. The error is the first fault that holds, a message
+/// that is sent twice and then one that is received twice, or out of memory.
 pub fn offsets(alloc: Global, raw: &RawTrace) -> Result<Vec<i128>, ClockFault>
     requires few { length raw.now.events < 2 ^ 32 }
     requires timely { AreTimely raw.now.events }
     ensures ok { IfOk result (λ offsets. AreOffsets raw.now.events offsets.items) }
     ensures once { OnOk result (AreMessagesOnce raw.now.events) }
-    ensures err { IfErr result (IsClockFault raw.now.events) }
+    ensures err { IfErr result (λ fault. fault ≢ Memory → IsClockFault raw.now.events fault) }
 {
     let events = raw.events.items();
-    let senders = senders(alloc, events)?;
-    let numbers = machine_numbers(alloc, events)?;
-    let messages = messages(alloc, events, &numbers, &senders)?;
-    let least = least(alloc, &messages)?;
-    let links = links(alloc, events, &numbers, &messages, &least)?;
-    let by_number = machine_offsets(alloc, events, &numbers, &links)?;
-    Ok(by_event(alloc, events, &numbers, &by_number)?)
+    let senders = index_senders(alloc, events)?;
+    let numbers = find_first_events(alloc, events, Field::Machine)?;
+    let least = find_least_delays(alloc, events, &numbers, &senders)?;
+    let links = link_machines(alloc, events, &numbers, &least)?;
+    let by_number = search_offsets(alloc, events, &numbers, &links)?;
+    Ok(spread_to_events(alloc, events, &numbers, &by_number)?)
 }

@@ -7,7 +7,7 @@ use Rattle.std.proofs.lemmas.List.Elements.{All-cons}
 use Rattle.trace_types.specs.declared.event.Event as events
 use Rattle.trace_types.specs.declared.raw_trace.RawTrace.{RawTrace}
 use Rattle.trace_types.specs.EventLines.{LinesRise}
-use Rattle.clock_offsets.specs.Times.{AreTimely, latest_time}
+use Rattle.trace_types.specs.Times.{AreTimely, latest_time}
 use Rattle.event_lines.specs.declared.line.Line.{Line}
 use Rattle.event_lines.specs.declared.line.Line.TheVariants.{Event, Control}
 use Rattle.event_lines.specs.Good.{number_of, NumbersRise, IsInRange}

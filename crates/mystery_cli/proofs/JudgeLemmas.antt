@@ -8,7 +8,7 @@ use Rattle.std.proofs.lemmas.List.Sums.{sum_by_more_le, sum_by_push}
 use Rattle.trace_types.specs.declared.raw_trace.RawTrace.{RawTrace}
 use Rattle.trace_types.specs.declared.trace.Trace.{Trace}
 use Rattle.trace_types.specs.Batch.{PlainTrace, plain}
-use Rattle.clock_offsets.specs.Times.{AreTimely}
+use Rattle.trace_types.specs.Times.{AreTimely}
 use Rattle.segment_cut.specs.declared.trace_fault.TraceFault.{TraceFault}
 use Rattle.mystery_cli.specs.declared.refused.Refused.{Refused}
 use Rattle.mystery_cli.specs.declared.judged.JudgedTraces.{JudgedTraces}

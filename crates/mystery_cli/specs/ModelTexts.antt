@@ -4,15 +4,15 @@ use Rattle.std.specs.List.{flat_map}
 use Rattle.trace_types.specs.declared.event.Event.{Event}
 use Rattle.trace_types.specs.declared.trace.Trace.{Trace}
 use Rattle.trace_types.specs.Batch.{traces_of}
-use Rattle.segment_cut.specs.Refusals.{reason_text, number_of}
-use Rattle.trace_types.specs.Segments.{SegmentName}
+use Rattle.segment_cut.specs.Faults.{fault_reason, fault_number}
+use Rattle.model_meet.specs.declared.plain_pair.PlainPair.{PlainPair}
 use Rattle.mystery_cli.specs.declared.refused.Refused.{Refused}
 use Rattle.mystery_cli.specs.Models.{Figures, AreFigures, AreJudged}
 use Rattle.mystery_cli.specs.Rows.{row_of}
 
 -- `refused`, the request, the reason and its number
 abbrev pub refused_row : Refused → List ℕ
-refused_row refused = row_of (codes "refused" ∷ refused.request ∷ reason_text refused.fault ∷ decimal (number_of refused.fault) ∷ [])
+refused_row refused = row_of (codes "refused" ∷ refused.request ∷ fault_reason refused.fault ∷ decimal (fault_number refused.fault) ∷ [])
 
 -- a name and its number
 abbrev pub figure : List ℕ → ℕ → List ℕ
@@ -24,8 +24,8 @@ header_row traces figures = row_of (codes "model" ∷ figure (codes "traces") tr
     ∷ figure (codes "hb") (length figures.hb) ∷ figure (codes "mx") (length figures.mx) ∷ figure (codes "pipe") 0 ∷ [])
 
 -- the word of a relation, and the task, the start event and the end event of both names
-abbrev pub pair_row : List ℕ → SegmentName × SegmentName → List ℕ
-pair_row word pair = row_of (word ∷ pair.0.0 ∷ pair.0.1 ∷ pair.0.2 ∷ pair.1.0 ∷ pair.1.1 ∷ pair.1.2 ∷ [])
+abbrev pub pair_row : List ℕ → PlainPair → List ℕ
+pair_row word pair = row_of (word ∷ pair.first.task ∷ pair.first.start ∷ pair.first.end ∷ pair.second.task ∷ pair.second.start ∷ pair.second.end ∷ [])
 
 -- the refused traces, the header, the ordered pairs and the exclusive pairs
 abbrev pub model_text : List Refused → ℕ → Figures → List ℕ

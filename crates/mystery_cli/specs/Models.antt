@@ -4,17 +4,17 @@ use Rattle.std.specs.List.{AllZip, filter_map}
 use Rattle.trace_types.specs.declared.event.Event as events
 use Rattle.trace_types.specs.declared.trace.Trace.{Trace}
 use Rattle.trace_types.specs.Batch.{PlainTrace}
-use Rattle.trace_types.specs.Segments.{SegmentName, name_of, task_of}
+use Rattle.trace_types.specs.Segments.{name_of, task_of}
 use Rattle.event_lines.specs.declared.line.Line.{Line}
 use Rattle.event_lines.specs.declared.line.Line.TheVariants.{Event, Control}
 use Rattle.segment_cut.specs.declared.trace_fault.TraceFault.{TraceFault}
 use Rattle.segment_cut.specs.declared.trace_fault.TraceFault.TheVariants.{Memory}
 use Rattle.segment_cut.specs.Cutting.{IsCut}
-use Rattle.segment_cut.specs.Refusals.{IsTraceFault}
-use Rattle.trace_types.specs.Listing.{ListsExactly, CountsDistinct}
-use Rattle.trace_types.specs.NameOrder.{name_cmp, pair_cmp}
-use Rattle.trace_types.specs.Parts.{by_text, segments_of}
-use Rattle.trace_types.specs.Relations.{HappensBefore, ExcludesUnordered}
+use Rattle.segment_cut.specs.Faults.{IsTraceFault}
+use Rattle.model_meet.specs.declared.plain_pair.PlainPair.{PlainPair}
+use Rattle.model_meet.specs.Listing.{ListsExactly, CountsDistinct}
+use Rattle.model_meet.specs.Naming.{pair_cmp, segments_of}
+use Rattle.model_meet.specs.Relations.{HappensBefore, ExcludesUnordered}
 use Rattle.mystery_cli.specs.declared.refused.Refused.{Refused}
 
 -- the event that a line is
@@ -59,13 +59,13 @@ pub record Figures : Type 0 where
   pub days : ℕ
   pub names : ℕ
   pub tasks : ℕ
-  pub hb : List (SegmentName × SegmentName)
-  pub mx : List (SegmentName × SegmentName)
+  pub hb : List PlainPair
+  pub mx : List PlainPair
 
 -- these are the figures of the kept traces
 pub record AreFigures (kept : List Trace) (figures : Figures) : Type 0 where
   pub days : CountsDistinct figures.days (map (λ (trace : Trace). trace.day) kept)
-  pub names : CountsDistinct figures.names (map name_of (segments_of by_text kept))
-  pub tasks : CountsDistinct figures.tasks (map task_of (segments_of by_text kept))
-  pub hb : ListsExactly (pair_cmp name_cmp) (λ pair. HappensBefore by_text kept pair.0 pair.1) figures.hb
-  pub mx : ListsExactly (pair_cmp name_cmp) (λ pair. ExcludesUnordered by_text name_cmp kept pair.0 pair.1) figures.mx
+  pub names : CountsDistinct figures.names (map name_of (segments_of kept))
+  pub tasks : CountsDistinct figures.tasks (map task_of (segments_of kept))
+  pub hb : ListsExactly pair_cmp (λ (pair : PlainPair). HappensBefore kept pair.first pair.second) figures.hb
+  pub mx : ListsExactly pair_cmp (λ (pair : PlainPair). ExcludesUnordered kept pair.first pair.second) figures.mx

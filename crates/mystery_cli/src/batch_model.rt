@@ -1,7 +1,7 @@
 ghost use Rattle.std.specs.Prelude.{◌≡◌, ◌≤◌, ◌<◌, ◌^◌, length, IfOk, IfErr, OnOk};
 ghost use Rattle.trace_types.specs.Batch.{traces_of};
 ghost use Rattle.trace_types.specs.EventLines.{LinesRise};
-ghost use Rattle.clock_offsets.specs.Times.{AreTimely};
+ghost use Rattle.trace_types.specs.Times.{AreTimely};
 ghost use Rattle.event_lines.specs.Judged.{lines_said};
 ghost use Rattle.event_lines.specs.Whole.{TellsBad};
 ghost use Rattle.trace_types.specs.Parts.{by_text, segments_of};

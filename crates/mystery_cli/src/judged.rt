@@ -1,8 +1,8 @@
 ghost use Rattle.std.specs.Prelude.{◌≡◌, ◌≤◌, ◌<◌, ◌+◌, ◌^◌, length, map, All, sum_by, IfOk, OnOk};
 ghost use Rattle.trace_types.specs.declared.raw_trace.RawTrace.{RawTrace};
 ghost use Rattle.trace_types.specs.Batch.{plain};
-ghost use Rattle.clock_offsets.specs.Times.{AreTimely};
-ghost use Rattle.trace_types.specs.Parts.{by_text, segments_of};
+ghost use Rattle.trace_types.specs.Times.{AreTimely};
+ghost use Rattle.model_meet.specs.Naming.{segments_of};
 ghost use Rattle.mystery_cli.specs.Models.{AreJudged};
 ghost use Rattle.mystery_cli.specs.Steps.{Judges};
 
@@ -25,7 +25,7 @@ fn judge(alloc: Global, raw: &RawTrace, judged: &mut JudgedTraces) -> Result<(),
     requires few { length raw.now.events < 2 ^ 32 }
     requires timely { AreTimely raw.now.events }
     ensures judges { OnOk result (Judges (plain raw.now) judged.old judged.new) }
-    ensures few { OnOk result (length (segments_of by_text judged.new.kept.items) ≤ length (segments_of by_text judged.old.kept.items) + length raw.now.events) }
+    ensures few { OnOk result (length (segments_of judged.new.kept.items) ≤ length (segments_of judged.old.kept.items) + length raw.now.events) }
 {
     match cut(alloc, raw) {
         Ok(trace) => judged.kept.push(trace)?,
@@ -43,7 +43,7 @@ pub(crate) fn judge_all(alloc: Global, raws: &[RawTrace]) -> Result<JudgedTraces
     requires few { sum_by (λ (raw : RawTrace). length raw.events) raws.now < 2 ^ 32 }
     requires timely { All (λ (raw : RawTrace). AreTimely raw.events) raws.now }
     ensures judged { IfOk result (λ j. AreJudged (map plain raws.now) j.kept.items j.refused.items) }
-    ensures few { IfOk result (λ j. length (segments_of by_text j.kept.items) < 2 ^ 32) }
+    ensures few { IfOk result (λ j. length (segments_of j.kept.items) < 2 ^ 32) }
 {
     let mut judged = JudgedTraces {
         kept: Vec::new(alloc),

@@ -9,13 +9,17 @@ use Rattle.trace_types.specs.declared.event.Event.{Event}
 use Rattle.trace_types.specs.declared.segment.Segment.{Segment}
 use Rattle.trace_types.specs.Segments.{name_of, task_of, start_of, end_of}
 use Rattle.trace_types.specs.SegmentLists.{NamesDiffer, TasksStandTogether, JoinInTasks}
-use Rattle.clock_offsets.specs.Repeats.{AreDistinct, IsRepeated}
-use Rattle.segment_cut.specs.Places.{task_at, name_at, time_at, named_events}
-use Rattle.segment_cut.specs.Adjusting.{adjusted_at}
-use Rattle.segment_cut.specs.Neighbours.{IsBefore, AreNeighbours, IsListedBefore, AreAllNeighbours}
+use Rattle.trace_types.specs.Repeats.{AreDistinct, IsRepeated}
+use Rattle.trace_types.specs.Events.{task_at, name_at, time_at, named_events}
+use Rattle.segment_cut.specs.AdjustedTimes.{adjusted_at}
+use Rattle.segment_cut.specs.Neighbours.{AreNeighbours, IsListedBefore, AreAllNeighbours, IsEarlier}
 use Rattle.segment_cut.specs.Cutting.{IsSegment}
-use Rattle.segment_cut.specs.Working.{ArePlacesInOrder}
-use Rattle.segment_cut.proofs.NamingLemmas.{named_at}
+use Rattle.segment_cut.specs.inner.Keys.{Key, AreKeys, ArePlacesInOrder, adjacent_pairs}
+use Rattle.segment_cut.specs.inner.Segments.{AreListed}
+use Rattle.clock_offsets.specs.declared.first_events.Field.TheVariants.{Task}
+use Rattle.clock_offsets.specs.FirstEvents.{AreFirstEvents}
+use Rattle.segment_cut.proofs.PairLemmas.{ArePairs, adjacent_are, all_neighbours, pairs_join}
+use Rattle.segment_cut.proofs.RepeatLemmas.{named_at}
 
 -- the task and the name of an event, by its place
 pub task_is : (events : List Event) (k : ℕ) (e : Event) → k < length events → e ≡ get_or events k e → e.task ≡ task_at events k
@@ -59,7 +63,7 @@ segments_more events times pairs n segments x s lt is z here = rw (take_more pai
 in_order : (events : List Event) (times : List ℤ) (x : ℕ × ℕ) → AreNeighbours events times x.0 x.1 → ArePlacesInOrder (length events) times x
 in_order events times x n = (n.first, n.second, by n.before)
   where
-    by : IsBefore times x.0 x.1 → adjusted_at times x.0 ≤ℤ adjusted_at times x.1
+    by : IsEarlier times x.0 x.1 → adjusted_at times x.0 ≤ℤ adjusted_at times x.1
     by (inl low) = omega (arith, ints)
     by (inr same) = let e : adjusted_at times x.0 ≡ adjusted_at times x.1 = same.0 in omega (arith, ints)
 
@@ -146,3 +150,22 @@ module _ (events : List Event) (times : List ℤ) (pairs : List (ℕ × ℕ)) (s
   -- there are no more segments than pairs of events
   pub few_segments : (most : ℕ) → length pairs ≤ most → length segments ≤ most
   few_segments most few = let c : length pairs ≡ length segments = count in omega arith
+
+-- what is cut at the adjacent keys is the list of the trace's segments
+pub listed_are : (events : List Event) (tasks : List ℕ) (times : List ℤ) (keys : List Key) (pairs : List (ℕ × ℕ)) (segments : List Segment) → AreFirstEvents Task events tasks → AreKeys tasks times keys → pairs ≡ adjacent_pairs keys → AreDistinct (named_events events)
+    → AllZip (IsSegment events times) pairs segments → AreListed events times segments
+listed_are events tasks times keys pairs segments firsts sorted is distinct zip =
+    let are : ArePairs keys pairs = subst (λ (ps : List (ℕ × ℕ)). ArePairs keys ps) (sym is) (adjacent_are keys) in
+    let all : AreAllNeighbours events times pairs = all_neighbours events tasks times keys firsts sorted pairs are in
+    record {
+      segments_are = record { pairs = pairs; neighbours = all; each = zip };
+      names_differ = names_differ events times pairs segments all zip distinct;
+      together = together events times pairs segments all zip;
+      joined = joined events times pairs segments all zip (pairs_join events tasks times keys firsts sorted pairs are);
+      few = few_segments events times pairs segments all zip (length events) (let f : length pairs ≤ length keys = are.few in let k : length keys ≡ length tasks = sorted.each in let e : length tasks ≡ length events = firsts.each in omega arith);
+    }
+
+-- the events of adjacent keys are in order
+pub adjacent_in_order : (events : List Event) (tasks : List ℕ) (times : List ℤ) (keys : List Key) (pairs : List (ℕ × ℕ)) → AreFirstEvents Task events tasks → AreKeys tasks times keys → pairs ≡ adjacent_pairs keys → All (ArePlacesInOrder (length events) times) pairs
+adjacent_in_order events tasks times keys pairs firsts sorted is =
+    places_in_order events times pairs (all_neighbours events tasks times keys firsts sorted pairs (subst (λ (ps : List (ℕ × ℕ)). ArePairs keys ps) (sym is) (adjacent_are keys)))

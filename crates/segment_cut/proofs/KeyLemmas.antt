@@ -13,8 +13,8 @@ use Rattle.std.proofs.lemmas.List.{get_or_append_left, get_or_push, length_push,
 use Rattle.std.proofs.lemmas.List.Elements.{All-from_get_or, All-get_or, Contains-get_or}
 use Rattle.std.proofs.lemmas.List.Sorted.{All-permutation, Contains-permutation, length_permutation, sorted_far, ranks_by}
 use Rattle.std.proofs.lemmas.Map.Keys.{IsDistinct-from_apart, IsDistinct-IsPermutation, apart_from_distinct}
-use Rattle.segment_cut.specs.Adjusting.{adjusted_at}
-use Rattle.segment_cut.specs.Working.{Key, no_key, key_at, IsKeyBefore, AreKeys}
+use Rattle.segment_cut.specs.AdjustedTimes.{adjusted_at}
+use Rattle.segment_cut.specs.inner.Keys.{Key, no_key, key_at, IsKeyBefore, AreKeys}
 
 -- the keys of the first n events, by place
 pub record AreMadeTo (tasks : List ℕ) (times : List ℤ) (n : ℕ) (keys : List Key) : Type 0 where

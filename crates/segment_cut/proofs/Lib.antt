@@ -1,5 +1,4 @@
-pub mod FirstLemmas
-pub mod NamingLemmas
+pub mod RepeatLemmas
 pub mod TimeLemmas
 pub mod KeyLemmas
 pub mod PairLemmas
@@ -7,5 +6,6 @@ pub mod CutLemmas
 pub mod SpanLemmas
 pub mod ElementLemmas
 pub mod FaultLemmas
-pub mod UniqueLists
+pub mod UniqueListLemmas
+pub mod VerdictLemmas
 pub mod ScalingLemmas

@@ -1,42 +1,37 @@
 -- A trace of one machine in thousandfold times is cut alike.
-use Rattle.std.proofs.Common.{◌≡◌, ℕ, ◌*◌, ◌<◌, ◌≤◌, ℤ, pos, ◌-ℤ◌, ◌*ℤ◌, ◌≤ℤ◌, Option, Some, None, List, [], ◌∷◌, length, get_or, All, Contains, arith, refl, sym, ap, ◌∙◌, subst, ⊎_elim, inl, inr}
+use Rattle.std.proofs.Common.{◌≡◌, ℕ, ◌*◌, ◌<◌, ◌≤◌, ℤ, pos, ◌-ℤ◌, ◌*ℤ◌, ◌≤ℤ◌, Option, Some, None, List, [], ◌∷◌, length, get_or, All, Contains, arith, refl, sym, ap, ◌∙◌, subst, inl, inr}
 use Rattle.std.specs.List.{AllPairs, AllZip}
-use Rattle.std.proofs.lemmas.Bool.{cases_lt}
 use Rattle.std.proofs.lemmas.Int.{ints}
 use Rattle.std.proofs.lemmas.List.{length-map, get_or-map, get_or_default}
 use Rattle.std.proofs.lemmas.List.Elements.{All-head, All-tail, All-get_or, All-from_get_or, All-contains}
 use Rattle.trace_types.specs.declared.event.Event.{Event}
 use Rattle.trace_types.specs.declared.segment.Segment.{Segment}
 use Rattle.trace_types.specs.declared.trace.Trace.{Trace}
-use Rattle.clock_offsets.specs.Machines.{machine_at, IsReference}
-use Rattle.clock_offsets.specs.Offsets.{IsOffset, adjusted}
-use Rattle.clock_offsets.specs.Repeats.{AreDistinct}
-use Rattle.segment_cut.specs.Places.{task_at, name_at, time_at, named_events}
-use Rattle.segment_cut.specs.Adjusting.{AreAdjusted, HasAdjusted, adjusted_at, IsInRange}
-use Rattle.segment_cut.specs.Neighbours.{IsBefore, AreNeighbours, IsListedBefore, AreAllNeighbours}
+use Rattle.clock_offsets.specs.Machines.{IsReference}
+use Rattle.trace_types.specs.Events.{machine_at, task_at, name_at, time_at, named_events}
+use Rattle.clock_offsets.specs.Offsets.{adjusted_time}
+use Rattle.trace_types.specs.Repeats.{AreDistinct}
+use Rattle.segment_cut.specs.AdjustedTimes.{AreAdjustedTimes, HasAdjustedTime, adjusted_at, IsInClockRange}
+use Rattle.segment_cut.specs.Neighbours.{AreNeighbours, IsListedBefore, AreAllNeighbours, IsEarlier}
 use Rattle.segment_cut.specs.Cutting.{most_events, IsValid, IsSpan, IsSegment, IsCut}
 use Rattle.segment_cut.specs.Elements.{HasElement}
 use Rattle.segment_cut.specs.Scaling.{AreOfOneMachine, AreTimelyMicroseconds, AreThousandfold, IsThousandfold, IsTraceThousandfold}
-use Rattle.segment_cut.proofs.NamingLemmas.{no_event, named_at}
-use Rattle.segment_cut.proofs.PairLemmas.{time_asym}
-use Rattle.segment_cut.proofs.UniqueLists.{one_list, one_element}
-
--- a machine has one offset
-abbrev pub HaveOneOffset : Type 0
-HaveOneOffset = (events : List Event) (m : List ℕ) (a b : ℤ) → IsOffset events m a → IsOffset events m b → a ≡ b
+use Rattle.segment_cut.proofs.RepeatLemmas.{no_event, named_at}
+use Rattle.segment_cut.proofs.VerdictLemmas.{HaveOneOffset, listed_asym}
+use Rattle.segment_cut.proofs.UniqueListLemmas.{one_list, one_element}
 
 reference_is : (events : List Event) → 0 < length events → IsReference events (machine_at events 0)
 reference_is [] lt = absurd (omega arith)
 reference_is (e ∷ es) lt = refl
 
--- where all events are of one machine, no time is adjusted
-own_time : HaveOneOffset → (events : List Event) (k : ℕ) (t : ℤ) → AreOfOneMachine events → k < length events → HasAdjusted events k t → t ≡ pos (time_at events k)
+-- where all events are of one machine, no time is adjusted_time
+own_time : HaveOneOffset → (events : List Event) (k : ℕ) (t : ℤ) → AreOfOneMachine events → k < length events → HasAdjustedTime events k t → t ≡ pos (time_at events k)
 own_time unique events k t one lt (o, offset, is) =
     let first : IsReference events (machine_at events k) = subst (λ (m : List ℕ). IsReference events m) (one 0 k (omega arith) lt) (reference_is events (omega arith)) in
     let none : o ≡ pos 0 = unique events (machine_at events k) o (pos 0) offset (inl (0, (first, refl))) in
-    is ∙ (ap (λ (x : ℤ). adjusted (time_at events k) x) none ∙ omega (arith, ints))
+    is ∙ (ap (λ (x : ℤ). adjusted_time (time_at events k) x) none ∙ omega (arith, ints))
 
-module _ (unique : HaveOneOffset) (events scaled : List Event) (times more : List ℤ) (one : AreOfOneMachine events) (s : AreThousandfold events scaled) (a : AreAdjusted events times) (b : AreAdjusted scaled more) where
+module _ (unique : HaveOneOffset) (events scaled : List Event) (times more : List ℤ) (one : AreOfOneMachine events) (s : AreThousandfold events scaled) (a : AreAdjustedTimes events times) (b : AreAdjustedTimes scaled more) where
   same_length : length scaled ≡ length events
   same_length = sym (length-map scaled (λ (e : Event). e.task)) ∙ (ap (λ (ts : List (List ℕ)). length ts) s.tasks ∙ length-map events (λ (e : Event). e.task))
 
@@ -60,17 +55,17 @@ module _ (unique : HaveOneOffset) (events scaled : List Event) (times more : Lis
       let here : k < length scaled = omega arith in
       own_time unique scaled k (adjusted_at more k) scaled_one here (b.value k here) ∙ ap pos (s.times k lt)
 
-  before_scaled : (i j : ℕ) → i < length events → j < length events → IsBefore times i j → IsBefore more i j
+  before_scaled : (i j : ℕ) → i < length events → j < length events → IsEarlier times i j → IsEarlier more i j
   before_scaled i j li lj h = by h
     where
-      by : IsBefore times i j → IsBefore more i j
+      by : IsEarlier times i j → IsEarlier more i j
       by (inl low) = let p = time_is i li in let q = time_is j lj in let u = more_is i li in let v = more_is j lj in inl (omega (arith, ints))
       by (inr tie) = let e : adjusted_at times i ≡ adjusted_at times j = tie.0 in let p = time_is i li in let q = time_is j lj in let u = more_is i li in let v = more_is j lj in inr (omega (arith, ints), tie.1)
 
-  before_back : (i j : ℕ) → i < length events → j < length events → IsBefore more i j → IsBefore times i j
+  before_back : (i j : ℕ) → i < length events → j < length events → IsEarlier more i j → IsEarlier times i j
   before_back i j li lj h = by h
     where
-      by : IsBefore more i j → IsBefore times i j
+      by : IsEarlier more i j → IsEarlier times i j
       by (inl low) = let p = time_is i li in let q = time_is j lj in let u = more_is i li in let v = more_is j lj in inl (omega (arith, ints))
       by (inr tie) = let e : adjusted_at more i ≡ adjusted_at more j = tie.0 in let p = time_is i li in let q = time_is j lj in let u = more_is i li in let v = more_is j lj in inr (omega (arith, ints), tie.1)
 
@@ -110,17 +105,8 @@ module _ (unique : HaveOneOffset) (events scaled : List Event) (times more : Lis
       by (inr (same, before)) = inr (sym (task_same i) ∙ (same ∙ task_same j), before_back i j li lj before)
 
   same_pairs : (pairs others : List (ℕ × ℕ)) → AreAllNeighbours events times pairs → AreAllNeighbours scaled more others → pairs ≡ others
-  same_pairs pairs others p q = one_list (λ x y. IsListedBefore events times x.0 y.0) (λ x y. listed_asym x.0 y.0) pairs others p.order order into back
+  same_pairs pairs others p q = one_list (λ x y. IsListedBefore events times x.0 y.0) (λ x y. listed_asym events times x.0 y.0) pairs others p.order order into back
     where
-      listed_asym : (i j : ℕ) → IsListedBefore events times i j → IsListedBefore events times j i → ⊥
-      listed_asym i j (inl (f, lf, tf, none_f)) (inl (g, lg, tg, none_g)) = ⊎_elim
-          (λ (low : f < g). none_g f (omega arith) tf)
-          (λ (high : g ≤ f). none_f g high tg)
-          (cases_lt f g)
-      listed_asym i j (inl (f, lf, tf, none_f)) (inr (same, before)) = none_f f (omega arith) (tf ∙ sym same)
-      listed_asym i j (inr (same, before)) (inl (f, lf, tf, none_f)) = none_f f (omega arith) (tf ∙ sym same)
-      listed_asym i j (inr (same, before)) (inr (other, after)) = time_asym (adjusted_at times i) (adjusted_at times j) i j before after
-
       near : (k : ℕ) (d : ℕ × ℕ) → k < length others → AreNeighbours events times (get_or others k d).0 (get_or others k d).1
       near k d lt = near_back (get_or others k d).0 (get_or others k d).1 (All-get_or (λ x. AreNeighbours scaled more x.0 x.1) others k d lt q.right)
 
@@ -197,8 +183,8 @@ module _ (unique : HaveOneOffset) (events scaled : List Event) (times more : Lis
           let n : length scaled ≡ length events = same_length in
           named_at events i (omega arith) ∙ (ap (λ (t : List ℕ). Some (t, name_at events i)) (sym (task_same i)) ∙ (ap (λ (t : List ℕ). Some (task_at scaled i, t)) (sym (name_same i)) ∙ sym (named_at scaled i lt)))
 
-  range_scaled : AreTimelyMicroseconds events → All IsInRange more
-  range_scaled early = All-from_get_or IsInRange more (pos 0) (λ k lt.
+  range_scaled : AreTimelyMicroseconds events → All IsInClockRange more
+  range_scaled early = All-from_get_or IsInClockRange more (pos 0) (λ k lt.
       let f : length more ≡ length scaled = b.each in
       let n : length scaled ≡ length events = same_length in
       let within : k < length events = omega arith in
@@ -215,7 +201,7 @@ cut_alike unique request events scaled t u one s p q =
       latency = scaled_span unique events scaled p.times q.times one s p.adjusted q.adjusted t.latency u.latency p.latency q.latency;
     }
 
-pub valid_alike : HaveOneOffset → (events scaled : List Event) (times more : List ℤ) → AreOfOneMachine events → AreTimelyMicroseconds events → AreThousandfold events scaled → AreAdjusted events times → AreAdjusted scaled more → IsValid events times → IsValid scaled more
+pub valid_alike : HaveOneOffset → (events scaled : List Event) (times more : List ℤ) → AreOfOneMachine events → AreTimelyMicroseconds events → AreThousandfold events scaled → AreAdjustedTimes events times → AreAdjustedTimes scaled more → IsValid events times → IsValid scaled more
 valid_alike unique events scaled times more one early s a b v = record {
   short = subst (λ (n : ℕ). n ≤ most_events) (sym (same_length unique events scaled times more one s a b)) v.short;
   named_once = named_scaled unique events scaled times more one s a b v.named_once;

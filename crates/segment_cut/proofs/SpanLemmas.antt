@@ -4,7 +4,7 @@ use Rattle.std.specs.Int.{int_max, int_min}
 use Rattle.std.specs.Prelude.{unsigned_abs}
 use Rattle.std.proofs.lemmas.Int.{ints, fold-int_max_bounds, fold-int_max_reached, fold-int_min_bounds, fold-int_min_reached}
 use Rattle.std.proofs.lemmas.List.Elements.{All-contains, Contains-get_or}
-use Rattle.segment_cut.specs.Adjusting.{IsInRange}
+use Rattle.segment_cut.specs.AdjustedTimes.{IsInClockRange}
 use Rattle.segment_cut.specs.Cutting.{IsSpan}
 
 abbrev pub first_of : List ℤ → ℤ
@@ -23,10 +23,10 @@ least_there times l some is = ⊎_elim
     (fold-int_min_reached (first_of times) times l is)
 
 -- both are in range, and the least is not greater
-pub span_bounds : (times : List ℤ) (g l : ℤ) → 0 < length times → All IsInRange times → g ≡ fold int_max (first_of times) times → l ≡ fold int_min (first_of times) times → IsInRange g × IsInRange l × (l ≤ℤ g)
+pub span_bounds : (times : List ℤ) (g l : ℤ) → 0 < length times → All IsInClockRange times → g ≡ fold int_max (first_of times) times → l ≡ fold int_min (first_of times) times → IsInClockRange g × IsInClockRange l × (l ≤ℤ g)
 span_bounds times g l some range is_g is_l = (
-  All-contains IsInRange times g range (greatest_there times g some is_g),
-  All-contains IsInRange times l range (least_there times l some is_l),
+  All-contains IsInClockRange times g range (greatest_there times g some is_g),
+  All-contains IsInClockRange times l range (least_there times l some is_l),
   All-contains (λ (t : ℤ). l ≤ℤ t) times g (fold-int_min_bounds (first_of times) times l is_l).1 (greatest_there times g some is_g),
 )
 

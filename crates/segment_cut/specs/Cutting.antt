@@ -5,9 +5,9 @@ use Rattle.trace_types.specs.declared.event.Event.{Event}
 use Rattle.trace_types.specs.declared.segment.Segment.{Segment}
 use Rattle.trace_types.specs.declared.trace.Trace.{Trace}
 use Rattle.clock_offsets.specs.Faults.{AreMessagesOnce}
-use Rattle.clock_offsets.specs.Repeats.{AreDistinct}
-use Rattle.segment_cut.specs.Places.{task_at, name_at, time_at, named_events}
-use Rattle.segment_cut.specs.Adjusting.{AreAdjusted, adjusted_at, IsInRange}
+use Rattle.trace_types.specs.Repeats.{AreDistinct}
+use Rattle.trace_types.specs.Events.{task_at, name_at, time_at, named_events}
+use Rattle.segment_cut.specs.AdjustedTimes.{AreAdjustedTimes, adjusted_at, IsInClockRange}
 use Rattle.segment_cut.specs.Neighbours.{AreAllNeighbours}
 use Rattle.segment_cut.specs.Elements.{HasElement}
 
@@ -24,7 +24,7 @@ pub record IsValid (events : List Event) (times : List ℤ) : Type 0 where
   pub short : IsShort events
   pub named_once : AreDistinct (named_events events)
   pub messages_once : AreMessagesOnce events
-  pub in_range : All IsInRange times
+  pub in_range : All IsInClockRange times
 
 -- a day of 86,400 seconds, in nanoseconds
 abbrev pub nanoseconds_per_day : ℕ
@@ -58,7 +58,7 @@ pub record AreSegments (events : List Event) (times : List ℤ) (segments : List
 -- the events of a request are valid, and the trace is what they are cut into
 pub record IsCut (request : List ℕ) (events : List Event) (trace : Trace) : Type 0 where
   pub times : List ℤ
-  pub adjusted : AreAdjusted events times
+  pub adjusted : AreAdjustedTimes events times
   pub valid : IsValid events times
   pub named : trace.request ≡ request
   pub day : trace.day ≡ time_at events 0 / nanoseconds_per_day

@@ -1,8 +1,7 @@
-pub mod Places
-pub mod Adjusting
+pub mod AdjustedTimes
 pub mod Neighbours
 pub mod Elements
 pub mod Cutting
-pub mod Refusals
+pub mod Faults
 pub mod Scaling
-pub mod Working
+pub mod inner

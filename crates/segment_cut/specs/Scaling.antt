@@ -5,9 +5,8 @@ use Rattle.trace_types.specs.declared.event.Event.{Event}
 use Rattle.trace_types.specs.declared.segment.Segment.{Segment}
 use Rattle.trace_types.specs.declared.trace.Trace.{Trace}
 use Rattle.trace_types.specs.Segments.{name_of}
-use Rattle.clock_offsets.specs.Machines.{machines_of, machine_at}
-use Rattle.clock_offsets.specs.Faults.{sends_of, receipts_of}
-use Rattle.segment_cut.specs.Places.{tasks_of, names_of, time_at}
+use Rattle.trace_types.specs.Times.{latest_time_in_microseconds}
+use Rattle.trace_types.specs.Events.{machines_of, machine_at, sends_of, receipts_of, tasks_of, names_of, time_at}
 
 -- all events are of one machine
 abbrev pub AreOfOneMachine : List Event → Type 0
@@ -15,7 +14,7 @@ AreOfOneMachine events = (j k : ℕ) → j < length events → k < length events
 
 -- no event is later than the start of the year 2100, in microseconds since 1970
 abbrev pub AreTimelyMicroseconds : List Event → Type 0
-AreTimelyMicroseconds events = All (λ (e : Event). e.time ≤ 4102444800000000) events
+AreTimelyMicroseconds events = All (λ (e : Event). e.time ≤ latest_time_in_microseconds) events
 
 -- the scaled events are the events, each at a thousand times its time
 pub record AreThousandfold (events scaled : List Event) : Type 0 where

@@ -4,9 +4,9 @@ ghost use Rattle.segment_cut.specs.Elements.{HasElement};
 use std::alloc::{AllocError, Global};
 use trace_types::Text;
 
-/// The data element that an event's name gives: the text after its first `@`, where that is not
-/// empty.
-pub(crate) fn element_of(alloc: Global, name: &Text) -> Result<Option<Text>, AllocError>
+/// Copies the data element that an event's name gives: the text after its first `@`, where that is
+/// not empty.
+pub(crate) fn copy_element(alloc: Global, name: &Text) -> Result<Option<Text>, AllocError>
     ensures { IfOk result (λ element. HasElement name.now element) }
 {
     let Some((_before, after)) = name.as_str().split_once('@') else {

@@ -1,11 +1,14 @@
-ghost use Rattle.std.specs.Prelude.{ℕ, ℤ, List};
+//! Laws over the definitions alone: each function does nothing, and its contract is the law.
+ghost use Rattle.std.specs.Prelude.{◌≡◌, ℕ, ℤ, List};
 ghost use Rattle.trace_types.specs.declared.event.Event.{Event};
 ghost use Rattle.trace_types.specs.declared.trace.Trace.{Trace};
-ghost use Rattle.segment_cut.specs.Adjusting.{AreAdjusted};
+ghost use Rattle.segment_cut.specs.declared.trace_fault.TraceFault.{TraceFault};
+ghost use Rattle.segment_cut.specs.AdjustedTimes.{AreAdjustedTimes};
 ghost use Rattle.segment_cut.specs.Cutting.{IsValid, IsCut};
+ghost use Rattle.segment_cut.specs.Faults.{IsTraceFault};
 ghost use Rattle.segment_cut.specs.Scaling.{AreOfOneMachine, AreTimelyMicroseconds, AreThousandfold, IsTraceThousandfold};
 
-use clock_offsets::a_machine_has_one_offset;
+use clock_offsets::laws::a_machine_has_one_offset;
 
 /// Where all events of a trace are of one machine, and each time becomes a thousand times what it
 /// was, the trace is cut alike: names, places and elements stay, and starts, ends and the latency
@@ -16,8 +19,19 @@ pub fn a_trace_in_thousandfold_times_is_cut_alike()
         → AreThousandfold events scaled → IsCut request events t → IsCut request scaled u
         → IsTraceThousandfold t u }
     ensures valid { (events scaled : List Event) (times scaled_times : List ℤ) → AreOfOneMachine events
-        → AreTimelyMicroseconds events → AreThousandfold events scaled → AreAdjusted events times
-        → AreAdjusted scaled scaled_times → IsValid events times → IsValid scaled scaled_times }
+        → AreTimelyMicroseconds events → AreThousandfold events scaled → AreAdjustedTimes events times
+        → AreAdjustedTimes scaled scaled_times → IsValid events times → IsValid scaled scaled_times }
+{
+    a_machine_has_one_offset();
+}
+
+/// A trace has one verdict: its events are cut in one way, or they have one fault, and never both.
+pub fn a_trace_has_one_verdict()
+    ensures trace { (request : List ℕ) (events : List Event) (t u : Trace) → IsCut request events t
+        → IsCut request events u → t ≡ u }
+    ensures fault { (events : List Event) (f g : TraceFault) → IsTraceFault events f → IsTraceFault events g → f ≡ g }
+    ensures not_both { (request : List ℕ) (events : List Event) (t : Trace) (f : TraceFault) → IsCut request events t
+        → IsTraceFault events f → ⊥ }
 {
     a_machine_has_one_offset();
 }

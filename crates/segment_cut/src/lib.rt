@@ -1,13 +1,12 @@
-//! The traces of requests, cut into segments by one clock. A trace that cannot be cut has its first
-//! fault as the answer.
+//! The traces of requests, cut into segments by one clock. The error of a trace that cannot be cut
+//! is its first fault.
 #![tactic(auto)]
 
 mod elements;
-mod first_places;
-mod laws;
-mod naming;
+pub mod laws;
 mod neighbours;
 mod ordering;
+mod repeats;
 mod segments;
 mod span;
 #[cfg(test)]
@@ -16,6 +15,5 @@ mod times;
 mod trace_cut;
 mod trace_fault;
 
-pub use laws::a_trace_in_thousandfold_times_is_cut_alike;
 pub use trace_cut::cut;
 pub use trace_fault::TraceFault;

@@ -1,16 +1,16 @@
-ghost use Rattle.std.specs.Prelude.{IfOk};
-ghost use Rattle.segment_cut.specs.Working.{ArePairs};
+ghost use Rattle.std.specs.Prelude.{◌≡◌, IfOk};
+ghost use Rattle.segment_cut.specs.inner.Keys.{adjacent_pairs};
 
 use std::alloc::{AllocError, Global};
 
-/// The places of each two events that stand beside one another in the order and are of one task.
-pub(crate) fn neighbours(
+/// Lists the indices of each two events whose keys are adjacent and of one task.
+pub(crate) fn pair_neighbours(
     alloc: Global,
     keys: &[(usize, i64, usize)],
 ) -> Result<Vec<(usize, usize)>, AllocError>
-    ensures { IfOk result (λ pairs. ArePairs keys.now pairs.items) }
+    ensures { IfOk result (λ pairs. pairs.items ≡ adjacent_pairs keys.now) }
 {
-    let mut pairs = Vec::new(alloc);
+    let mut pairs = Vec::with_capacity(alloc, keys.len())?;
     for at in 1..keys.len() {
         let (task, _time, place) = keys[at - 1];
         let (next_task, _next_time, next_place) = keys[at];

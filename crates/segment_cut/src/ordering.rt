@@ -1,11 +1,11 @@
 ghost use Rattle.std.specs.Prelude.{◌≡◌, IfOk, length};
-ghost use Rattle.segment_cut.specs.Working.{AreKeys};
+ghost use Rattle.segment_cut.specs.inner.Keys.{AreKeys};
 
 use std::alloc::{AllocError, Global};
 
-/// The events by the first line of their task, then by their adjusted time, and then by their line:
-/// for each of them the first place of its task, its adjusted time and its place.
-pub(crate) fn in_order(
+/// Sorts the events by the first event of their task, then by adjusted time, and then by line. The
+/// key of each is the index of its task's first event, its adjusted time and its index.
+pub(crate) fn sort_keys(
     alloc: Global,
     tasks: &[usize],
     times: &[i64],
@@ -13,10 +13,10 @@ pub(crate) fn in_order(
     requires { length times.now ≡ length tasks.now }
     ensures { IfOk result (λ keys. AreKeys tasks.now times.now keys.items) }
 {
-    let mut keys = Vec::new(alloc);
+    let mut keys = Vec::with_capacity(alloc, tasks.len())?;
     for (at, task) in tasks.iter().enumerate() {
         keys.push((*task, times[at], at))?;
     }
-    keys.sort()?;
+    keys.sort_unstable();
     Ok(keys)
 }

@@ -1,15 +1,21 @@
 ghost use Rattle.std.specs.Prelude.{◌≡◌, ◌<◌, ◌≤ℤ◌, IfOk, All, length};
 ghost use Rattle.std.specs.List.{AllZip};
-ghost use Rattle.segment_cut.specs.Adjusting.{adjusted_at};
+ghost use Rattle.trace_types.specs.Events.{named_events};
+ghost use Rattle.trace_types.specs.Repeats.{AreDistinct};
+ghost use Rattle.segment_cut.specs.AdjustedTimes.{adjusted_at};
+ghost use Rattle.segment_cut.specs.inner.Segments.{AreListed};
 ghost use Rattle.segment_cut.specs.Cutting.{IsSegment};
-ghost use Rattle.segment_cut.specs.Working.{ArePlacesInOrder};
+ghost use Rattle.segment_cut.specs.inner.Keys.{ArePlacesInOrder};
 
-use crate::elements::element_of;
+use crate::elements::copy_element;
+use crate::neighbours::pair_neighbours;
+use crate::ordering::sort_keys;
+use clock_offsets::{Field, find_first_events};
 use std::alloc::{AllocError, Global};
 use trace_types::{Event, Segment};
 
-/// The segment from one event to another.
-fn segment(
+/// Makes the segment from one event to another.
+fn make_segment(
     alloc: Global,
     events: &[Event],
     times: &[i64],
@@ -30,12 +36,12 @@ fn segment(
         end_event: second.event.copy(alloc)?,
         start: times[start],
         end: times[end],
-        element: element_of(alloc, &first.event)?,
+        element: copy_element(alloc, &first.event)?,
     })
 }
 
-/// The segments of the events at each two places.
-pub(crate) fn segments(
+/// Makes the segment of each pair of events, by their indices.
+fn make_segments(
     alloc: Global,
     events: &[Event],
     times: &[i64],
@@ -45,9 +51,25 @@ pub(crate) fn segments(
     requires pairs { All (ArePlacesInOrder (length events.now) times.now) pairs.now }
     ensures { IfOk result (λ segments. AllZip (IsSegment events.now times.now) pairs.now segments.items) }
 {
-    let mut segments = Vec::new(alloc);
+    let mut segments = Vec::with_capacity(alloc, pairs.len())?;
     for (start, end) in pairs {
-        segments.push(segment(alloc, events, times, *start, *end)?)?;
+        segments.push(make_segment(alloc, events, times, *start, *end)?)?;
     }
     Ok(segments)
+}
+
+/// Lists the segments of the events, by the first line of their task and then by their order in it.
+pub(crate) fn list_segments(
+    alloc: Global,
+    events: &[Event],
+    times: &[i64],
+) -> Result<Vec<Segment>, AllocError>
+    requires each { length times.now ≡ length events.now }
+    requires named { AreDistinct (named_events events.now) }
+    ensures { IfOk result (λ segments. AreListed events.now times.now segments.items) }
+{
+    let tasks = find_first_events(alloc, events, Field::Task)?;
+    let keys = sort_keys(alloc, &tasks, times)?;
+    let pairs = pair_neighbours(alloc, &keys)?;
+    make_segments(alloc, events, times, &pairs)
 }

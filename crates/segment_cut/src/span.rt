@@ -1,11 +1,11 @@
 ghost use Rattle.std.specs.Prelude.{◌<◌, All, length};
-ghost use Rattle.segment_cut.specs.Adjusting.{IsInRange};
+ghost use Rattle.segment_cut.specs.AdjustedTimes.{IsInClockRange};
 ghost use Rattle.segment_cut.specs.Cutting.{IsSpan};
 
-/// The greatest of the times less the least.
+/// Subtracts the least of the times from the greatest.
 pub(crate) fn span(times: &[i64]) -> u64
     requires some { 0 < length times.now }
-    requires in_range { All IsInRange times.now }
+    requires in_range { All IsInClockRange times.now }
     ensures { IsSpan times.now result }
 {
     let mut greatest = times[0];

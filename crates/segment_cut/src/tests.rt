@@ -1,5 +1,5 @@
 ghost use Rattle.std.specs.Prelude.{◌≡◌, ◌^◌, ◌<◌, ◌≤◌, IfOk, length, codes};
-ghost use Rattle.clock_offsets.specs.Times.{latest_time, AreTimely};
+ghost use Rattle.trace_types.specs.Times.{latest_time, AreTimely};
 
 use crate::{TraceFault, cut};
 use std::alloc::{AllocError, Global};

@@ -1,42 +1,42 @@
-ghost use Rattle.std.specs.Prelude.{◌≡◌, MatchOption, IfOk, IfErr};
-ghost use Rattle.clock_offsets.specs.Offsets.{AreOffsets, adjusted};
-ghost use Rattle.segment_cut.specs.Adjusting.{IsInRange};
-ghost use Rattle.segment_cut.specs.Working.{IsOutside, AreTimes, IsTimesFault};
+ghost use Rattle.std.specs.Prelude.{◌≡◌, MatchOption, MatchResult, IfOk};
+ghost use Rattle.clock_offsets.specs.Offsets.{AreOffsets, adjusted_time};
+ghost use Rattle.segment_cut.specs.AdjustedTimes.{IsInClockRange, IsLineOutOfRange};
+ghost use Rattle.segment_cut.specs.inner.Times.{AreTimes};
 
-use crate::TraceFault;
-use std::alloc::Global;
-use trace_types::Event;
+use std::alloc::{AllocError, Global};
+use trace_types::{Event, LATEST_TIME};
 
-/// The latest time of an event, in nanoseconds since 1970: the start of the year 2100.
-const LATEST_TIME: i128 = 4_102_444_800_000_000_000;
+/// The latest time of an event, as a signed number.
+const LATEST: i128 = LATEST_TIME as i128;
 
-/// A time less the offset of its machine, where it is in the range of adjusted times.
-fn adjusted_time(time: u64, offset: i128) -> Option<i64>
-    ensures { MatchOption result (IsOutside (adjusted time offset)) (λ t. (t ≡ adjusted time offset) × IsInRange t) }
+/// Subtracts the offset of a machine from a time, where the difference is in the range of adjusted
+/// times.
+fn adjust(time: u64, offset: i128) -> Option<i64>
+    ensures { MatchOption result (IsInClockRange (adjusted_time time offset) → ⊥) (λ t. (t ≡ adjusted_time time offset) × IsInClockRange t) }
 {
     let adjusted = i128::from(time).checked_sub(offset)?;
-    if adjusted < -LATEST_TIME || adjusted > 2 * LATEST_TIME {
+    if adjusted < -LATEST || adjusted > 2 * LATEST {
         return None;
     }
     Some(adjusted as i64)
 }
 
-/// The adjusted time of each event.
-pub(crate) fn adjusted_times(
+/// Computes the adjusted time of each event, or else finds the first line whose adjusted time is out
+/// of range.
+pub(crate) fn adjust_times(
     alloc: Global,
     events: &[Event],
     offsets: &[i128],
-) -> Result<Vec<i64>, TraceFault>
+) -> Result<Result<Vec<i64>, u32>, AllocError>
     requires { AreOffsets events.now offsets.now }
-    ensures ok { IfOk result (λ times. AreTimes events.now times.items) }
-    ensures err { IfErr result (IsTimesFault events.now) }
+    ensures { IfOk result (λ r. MatchResult r (λ times. AreTimes events.now times.items) (IsLineOutOfRange events.now)) }
 {
-    let mut times = Vec::new(alloc);
+    let mut times = Vec::with_capacity(alloc, events.len())?;
     for (at, event) in events.iter().enumerate() {
-        let Some(time) = adjusted_time(event.time, offsets[at]) else {
-            return Err(TraceFault::ClockRange { line: event.line });
+        let Some(time) = adjust(event.time, offsets[at]) else {
+            return Ok(Err(event.line));
         };
         times.push(time)?;
     }
-    Ok(times)
+    Ok(Ok(times))
 }

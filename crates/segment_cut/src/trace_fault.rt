@@ -1,14 +1,14 @@
 ghost use Rattle.std.specs.Prelude.{◌≡◌};
-ghost use Rattle.segment_cut.specs.Refusals.{reason_text, number_of, of_clock};
+ghost use Rattle.segment_cut.specs.Faults.{fault_reason, fault_number, fault_of_clock};
 ghost use Rattle.segment_cut.specs.declared.trace_fault.TraceFault.TheVariants.{Memory};
 
 use clock_offsets::ClockFault;
 use std::alloc::{AllocError, AllocFailed};
 
-/// Why a trace is refused. The first that holds is answered; want of memory may come at any time.
+/// Why a trace is refused: out of memory, or the first fault that holds.
 #[derive(Clone, Copy, Debug, PartialEq, Eq)]
 pub enum TraceFault {
-    /// There was no memory.
+    /// Out of memory.
     Memory,
     /// It has over 4,096 events.
     TooManyEvents {
@@ -39,9 +39,9 @@ pub enum TraceFault {
 }
 
 impl TraceFault {
-    /// The reason in the words in which it is printed.
+    /// Gives the reason as it is printed.
     pub fn reason(self) -> &'static str
-        ensures { result.now ≡ reason_text self }
+        ensures { result.now ≡ fault_reason self }
     {
         match self {
             TraceFault::Memory => "out of memory",
@@ -53,10 +53,10 @@ impl TraceFault {
         }
     }
 
-    /// The number that is printed with the reason: how many events, or which line; 0 with want of
-    /// memory.
+    /// Gives the number that is printed with the reason: how many events, or which line; 0 where
+    /// memory ran out.
     pub fn number(self) -> u32
-        ensures { result ≡ number_of self }
+        ensures { result ≡ fault_number self }
     {
         match self {
             TraceFault::Memory => 0,
@@ -72,6 +72,7 @@ impl TraceFault {
 impl From<AllocError> for TraceFault {
     ghost from_gives = { λ _ e. e ≡ Memory };
 
+    /// Answers that memory ran out.
     fn from(_error: AllocError) -> TraceFault {
         TraceFault::Memory
     }
@@ -80,14 +81,16 @@ impl From<AllocError> for TraceFault {
 impl<T: Drop> From<AllocFailed<T>> for TraceFault {
     ghost from_gives = { λ _ e. e ≡ Memory };
 
+    /// Answers that memory ran out.
     fn from(_error: AllocFailed<T>) -> TraceFault {
         TraceFault::Memory
     }
 }
 
 impl From<ClockFault> for TraceFault {
-    ghost from_gives = { λ fault e. e ≡ of_clock fault };
+    ghost from_gives = { λ fault e. e ≡ fault_of_clock fault };
 
+    /// Gives the fault of a trace that has no offsets.
     fn from(fault: ClockFault) -> TraceFault {
         match fault {
             ClockFault::Memory => TraceFault::Memory,

@@ -1,4 +1,4 @@
-use Rattle.clock_offsets.proofs.Unique.{IsOffset-unique}
+use Rattle.clock_offsets.proofs.UniqueLemmas.{IsOffset-unique}
 use Rattle.clock_offsets.proofs.laws.a_machine_has_one_offset.Goals as goal
 
 pub returns : goal.returns

@@ -5,7 +5,7 @@ use Rattle.std.proofs.lemmas.List.{get_or_append_left, get_or_push, length_push,
 use Rattle.std.proofs.lemmas.List.Elements.{All-push}
 use Rattle.trace_types.specs.declared.event.Event.{Event}
 use Rattle.trace_types.specs.EventLines.{LinesRise}
-use Rattle.clock_offsets.specs.Times.{latest_time}
+use Rattle.trace_types.specs.Times.{latest_time}
 use Rattle.segment_cut.proofs.tests.trace.Goals as goal
 
 -- a number above all the others goes last

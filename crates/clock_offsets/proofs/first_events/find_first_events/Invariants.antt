@@ -1,0 +1,5 @@
+use Rattle.clock_offsets.proofs.FirstEventLemmas.{AreFirstsTo}
+use Rattle.clock_offsets.proofs.first_events.find_first_events.Given as goal
+
+abbrev pub invariant-loop-at : goal.invariant-loop-at
+invariant-loop-at l = AreFirstsTo l.field l.events l.at l.firsts.items l.places

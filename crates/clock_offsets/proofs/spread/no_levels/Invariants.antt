@@ -1,5 +1,0 @@
-use Rattle.std.proofs.Common.{◌≡◌, ℕ, Option, None, replicate}
-use Rattle.clock_offsets.proofs.spread.no_levels.Given as goal
-
-abbrev pub invariant-loop-at : goal.invariant-loop-at
-invariant-loop-at l = l.levels.items ≡ replicate {A = Option ℕ} l._at None

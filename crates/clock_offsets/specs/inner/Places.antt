@@ -1,0 +1,48 @@
+-- Maps from texts to the indices of events.
+use Rattle.std.specs.Prelude.{◌≡◌, ℕ, ◌<◌, Option, Some, None, List, slice_index_or}
+use Rattle.std.specs.Borrow.{Bor}
+use Rattle.std.specs.BTreeMap.{BTreeMap, get_by}
+use Rattle.std.specs.Cmp.Lexicographic.{slice_cmp}
+use Rattle.std.specs.Ordering.{nat_cmp}
+use Rattle.trace_types.specs.declared.event.Event.{Event}
+use Rattle.trace_types.specs.Events.{sends_of, receipts_of}
+use Rattle.trace_types.specs.Repeats.{IsLineOfRepeat}
+use Rattle.clock_offsets.specs.declared.clock_fault.ClockFault.{ClockFault}
+use Rattle.clock_offsets.specs.declared.clock_fault.ClockFault.TheVariants.{RepeatedSend, RepeatedRecv}
+use Rattle.clock_offsets.specs.declared.first_events.Field.{Field}
+use Rattle.clock_offsets.specs.declared.first_events.Field.TheVariants.{Machine, Task}
+use Rattle.clock_offsets.specs.declared.places.End.{End}
+use Rattle.clock_offsets.specs.declared.places.End.TheVariants.{Sending, Receipt}
+
+-- the text of an event in a field
+abbrev pub text_in : Field → Event → List ℕ
+text_in Machine e = e.machine
+text_in Task e = e.task
+
+-- the message of an event at an end
+abbrev pub message_at : End → Event → Option (List ℕ)
+message_at Sending e = e.send
+message_at Receipt e = e.recv
+
+-- the message of each event at an end
+abbrev pub messages_at : End → List Event → List (Option (List ℕ))
+messages_at Sending events = sends_of events
+messages_at Receipt events = receipts_of events
+
+-- the fault of a message that occurs twice at an end
+abbrev pub repeat_at : End → ℕ → ClockFault
+repeat_at Sending line = RepeatedSend line
+repeat_at Receipt line = RepeatedRecv line
+
+-- the index that a map has for a text
+abbrev pub place_in : BTreeMap (Bor (List ℕ)) ℕ → List ℕ → Option ℕ
+place_in places text = get_by (λ k. slice_cmp nat_cmp text k.now) places
+
+-- the map has the indices of the first n keys, which differ
+pub record ArePlaces (keys : List (Option (List ℕ))) (n : ℕ) (places : BTreeMap (Bor (List ℕ)) ℕ) : Type 0 where
+  pub right : (text : List ℕ) (p : ℕ) → place_in places text ≡ Some p → (p < n) × (slice_index_or keys p None ≡ Some text)
+  pub all : (text : List ℕ) (p : ℕ) → p < n → slice_index_or keys p None ≡ Some text → place_in places text ≡ Some p
+
+-- the fault is that a message occurs twice at an end, on the first such line
+abbrev pub IsRepeatAt : List Event → End → ClockFault → Type 0
+IsRepeatAt events end fault = (line : ℕ) × (fault ≡ repeat_at end line) × IsLineOfRepeat events (messages_at end events) line

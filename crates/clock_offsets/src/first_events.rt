@@ -1,0 +1,51 @@
+ghost use Rattle.std.specs.Prelude.{◌≡◌, IfOk};
+ghost use Rattle.clock_offsets.specs.FirstEvents.{AreFirstEvents};
+ghost use Rattle.clock_offsets.specs.inner.Places.{text_in};
+
+use std::alloc::{AllocError, Global};
+use std::collections::BTreeMap;
+use trace_types::{Event, Text};
+
+/// A text that every event has.
+#[derive(Clone, Copy)]
+pub enum Field {
+    /// The machine that logged it.
+    Machine,
+    /// Its task.
+    Task,
+}
+
+/// Reads the text of an event in this field.
+fn read_field(event: &Event, field: Field) -> &Text
+    ensures { result.now ≡ text_in field event.now }
+{
+    match field {
+        Field::Machine => &event.machine,
+        Field::Task => &event.task,
+    }
+}
+
+/// Finds for each event the index of the first one with the same text in this field. So the text is
+/// told by a number, and numbers rise by first sight. The only error is out of memory.
+pub fn find_first_events(
+    alloc: Global,
+    events: &[Event],
+    field: Field,
+) -> Result<Vec<usize>, AllocError>
+    ensures { IfOk result (λ firsts. AreFirstEvents field events.now firsts.items) }
+{
+    let mut places: BTreeMap<&str, usize> = BTreeMap::new(alloc);
+    let mut firsts = Vec::with_capacity(alloc, events.len())?;
+    for (at, event) in events.iter().enumerate() {
+        let text = read_field(event, field).as_str();
+        let first = match places.get(text).copied() {
+            Some(place) => place,
+            None => {
+                places.insert(text, at)?;
+                at
+            }
+        };
+        firsts.push(first)?;
+    }
+    Ok(firsts)
+}

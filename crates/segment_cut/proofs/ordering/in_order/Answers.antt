@@ -1,6 +1,0 @@
-use Rattle.std.proofs.Common.{arith}
-use Rattle.segment_cut.proofs.KeyLemmas.{keys_done}
-use Rattle.segment_cut.proofs.ordering.in_order.Goals as goal
-
-pub returns : goal.returns
-returns c = keys_done c.args.tasks.now c.args.times.now c.loop-at.at c.loop-at.keys.items c.sort.new.self.items c.loop-at.invariant (omega arith) c.in_ok-sort.ensures.permutation c.in_ok-sort.ensures.sorted
