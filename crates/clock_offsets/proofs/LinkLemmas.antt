@@ -1,8 +1,8 @@
 -- The links that least delays give, way by way.
-use Rattle.std.proofs.Common.{◌≡◌, ℕ, zero, suc, ◌<◌, ◌≤◌, ℤ, ◌-ℤ◌, Option, Some, None, IsSome, List, [], ◌∷◌, ◌++◌, length, get_or, set, replicate, arith, rules, refl, sym, subst, ap, ◌∙◌, ⊎_elim, Contains, Vec}
+use Rattle.std.proofs.Common.{◌≡◌, ℕ, zero, suc, ◌<◌, ℤ, ◌-ℤ◌, Option, Some, None, IsSome, List, [], ◌∷◌, ◌++◌, length, get_or, set, arith, refl, sym, subst, ap, ◌∙◌, ⊎_elim, Contains, Vec}
 use Rattle.std.specs.declared.alloc.Global.{Global}
 use Rattle.std.specs.Prelude.{slice_get}
-use Rattle.std.specs.BTreeMap.{BTreeMap, is_at, get}
+use Rattle.std.specs.BTreeMap.{BTreeMap, is_at}
 use Rattle.std.proofs.lemmas.Bool.{cases_eq}
 use Rattle.std.proofs.lemmas.List.{length-map, length-set, get_or-set_same, get_or-set_other}
 use Rattle.std.proofs.lemmas.List.Elements.{Contains-append_left, Contains-push, Contains-push_cases}
@@ -11,9 +11,9 @@ use Rattle.std.proofs.lemmas.Option.{same_Some}
 use Rattle.trace_types.specs.declared.event.Event.{Event}
 use Rattle.trace_types.specs.Events.{machine_at}
 use Rattle.clock_offsets.specs.declared.link.Link.{Link}
-use Rattle.clock_offsets.specs.Messages.{ArePaired, IsHalf, IsLeastDelay}
+use Rattle.clock_offsets.specs.Messages.{IsHalf, IsLeastDelay}
 use Rattle.clock_offsets.specs.inner.Links.{AreNumbers, IsNumber, links_of, links_at, IsLink, AreLinks}
-use Rattle.clock_offsets.specs.inner.Delays.{HasDelay, least_in, way_cmp, AreLeastDelays}
+use Rattle.clock_offsets.specs.inner.Delays.{least_in, way_cmp, AreLeastDelays}
 use Rattle.clock_offsets.proofs.DelayLemmas.{way_exact}
 
 -- a way and its least delay

@@ -7,7 +7,7 @@ use Rattle.std.proofs.lemmas.List.{get_or-map, get_or_default}
 use Rattle.trace_types.specs.declared.event.Event.{Event}
 use Rattle.clock_offsets.specs.declared.message.Message.{Message}
 use Rattle.trace_types.specs.Events.{machine_at, sends_of}
-use Rattle.clock_offsets.specs.Messages.{IsMessage, IsOneWayDelay}
+use Rattle.clock_offsets.specs.Messages.{IsMessage}
 use Rattle.clock_offsets.specs.inner.Links.{AreNumbers, IsNumber}
 use Rattle.clock_offsets.specs.inner.Places.{place_in, ArePlaces}
 use Rattle.clock_offsets.specs.inner.Delays.{HasDelay, IsEventAt, HasNoSender, IsReceived}

@@ -1,5 +1,5 @@
 -- Why a trace has no offsets.
-use Rattle.std.specs.Prelude.{ℕ, List}
+use Rattle.std.specs.Prelude.{List}
 use Rattle.trace_types.specs.declared.event.Event.{Event}
 use Rattle.trace_types.specs.Events.{sends_of, receipts_of}
 use Rattle.trace_types.specs.Repeats.{AreDistinct, IsLineOfRepeat}
@@ -10,9 +10,10 @@ use Rattle.clock_offsets.specs.declared.clock_fault.ClockFault.TheVariants.{Memo
 abbrev pub AreMessagesOnce : List Event → Type 0
 AreMessagesOnce events = AreDistinct (sends_of events) × AreDistinct (receipts_of events)
 
--- the fault of the events is the first that holds: a message that is sent twice, then one that is received twice, each
--- at the first such line; out of memory is no fault of events
+-- the fault of the events is the first that holds: a message that is sent twice, then one that is
+-- received twice, each at the first such line; out of memory is no fault of events
 abbrev pub IsClockFault : List Event → ClockFault → Type 0
 IsClockFault events Memory = ⊥
 IsClockFault events (RepeatedSend line) = IsLineOfRepeat events (sends_of events) line
-IsClockFault events (RepeatedRecv line) = AreDistinct (sends_of events) × IsLineOfRepeat events (receipts_of events) line
+IsClockFault events (RepeatedRecv line) = AreDistinct (sends_of events)
+    × IsLineOfRepeat events (receipts_of events) line

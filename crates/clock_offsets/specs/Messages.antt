@@ -4,10 +4,11 @@ use Rattle.trace_types.specs.declared.event.Event.{Event}
 
 -- the first event sends a message that the second receives on another machine
 abbrev pub IsMessage : Event → Event → Type 0
-IsMessage s r = (text : List ℕ) × (s.send ≡ Some text) × (r.recv ≡ Some text) × (s.machine ≢ r.machine)
+IsMessage s r = (text : List ℕ) × (s.send ≡ Some text) × (r.recv ≡ Some text)
+    × (s.machine ≢ r.machine)
 
--- d is the one-way delay of a message from machine m to machine n: receive time minus send time, each by its own
--- machine's clock; it may be negative
+-- d is the one-way delay of a message from machine m to machine n: receive time minus send time,
+-- each by its own machine's clock; it may be negative
 pub record IsOneWayDelay (events : List Event) (m n : List ℕ) (d : ℤ) : Type 0 where
   pub sender : Event
   pub receiver : Event
@@ -20,7 +21,8 @@ pub record IsOneWayDelay (events : List Event) (m n : List ℕ) (d : ℤ) : Type
 
 -- d is the least one-way delay of a message from m to n
 abbrev pub IsLeastDelay : List Event → List ℕ → List ℕ → ℤ → Type 0
-IsLeastDelay events m n d = IsOneWayDelay events m n d × ((e : ℤ) → IsOneWayDelay events m n e → d ≤ℤ e)
+IsLeastDelay events m n d =
+    IsOneWayDelay events m n d × ((e : ℤ) → IsOneWayDelay events m n e → d ≤ℤ e)
 
 -- m and n are paired: messages go in both directions
 abbrev pub ArePaired : List Event → List ℕ → List ℕ → Type 0
@@ -30,7 +32,8 @@ ArePaired events m n = (d : ℤ) × (e : ℤ) × IsOneWayDelay events m n d × I
 abbrev pub IsHalf : ℤ → ℤ → Type 0
 IsHalf d h = ((h +ℤ h) ≤ℤ d) × (d ≤ℤ ((h +ℤ h) +ℤ pos 1))
 
--- o is the offset of n relative to m: half of the least delay from m to n minus the least delay from n to m
+-- o is the offset of n relative to m: half of the least delay from m to n minus the least delay
+-- from n to m
 abbrev pub IsRelativeOffset : List Event → List ℕ → List ℕ → ℤ → Type 0
 IsRelativeOffset events m n o =
     (f : ℤ) × (g : ℤ) × IsLeastDelay events m n f × IsLeastDelay events n m g × IsHalf (f -ℤ g) o

@@ -1,6 +1,6 @@
 ghost use Rattle.std.specs.Prelude.{◌≡◌, IfOk};
 ghost use Rattle.clock_offsets.specs.FirstEvents.{AreFirstEvents};
-ghost use Rattle.clock_offsets.specs.inner.Places.{text_in};
+ghost use Rattle.clock_offsets.specs.inner.Places.{field_of};
 
 use std::alloc::{AllocError, Global};
 use std::collections::BTreeMap;
@@ -17,7 +17,7 @@ pub enum Field {
 
 /// Reads the text of an event in this field.
 fn read_field(event: &Event, field: Field) -> &Text
-    ensures { result.now ≡ text_in field event.now }
+    ensures { result.now ≡ field_of field event.now }
 {
     match field {
         Field::Machine => &event.machine,

@@ -16,7 +16,8 @@ fn visit_linked(
     requires frontier { IsFrontier depth depths.old frontier.old.items }
     ensures visited { OnOk result (Visits (LinksTo links.now) depth depths.old depths.new) }
     ensures frontier { OnOk result (IsFrontier depth depths.new frontier.new.items) }
-    ensures counted { OnOk result (unvisited depths.new + vec_len frontier.new ≡ unvisited depths.old + vec_len frontier.old) }
+    ensures counted { OnOk result (unvisited depths.new + vec_len frontier.new
+        ≡ unvisited depths.old + vec_len frontier.old) }
 {
     for link in links {
         if depths[link.to].is_none() {
@@ -37,11 +38,14 @@ pub(crate) fn visit_next(
     depths: &mut [Option<usize>],
 ) -> Result<Vec<usize>, AllocError>
     requires frontier { All (λ v. v < length links.now) frontier.now }
-    requires within { (v : ℕ) → v < length links.now → LeadBelow (length depths.old) (links_at links.now v) }
+    requires within { (v : ℕ) → v < length links.now → LeadBelow (length depths.old)
+        (links_at links.now v) }
     requires new { (v : ℕ) → depth_at depths.old v ≡ Some depth → ⊥ }
-    ensures visited { OnOk result (Visits (FrontierLinksTo links.now frontier.now) depth depths.old depths.new) }
+    ensures visited { OnOk result
+        (Visits (FrontierLinksTo links.now frontier.now) depth depths.old depths.new) }
     ensures frontier { IfOk result (λ next. IsFrontier depth depths.new next.items) }
-    ensures counted { IfOk result (λ next. unvisited depths.new + vec_len next ≡ unvisited depths.old) }
+    ensures counted { IfOk result (λ next.
+        unvisited depths.new + vec_len next ≡ unvisited depths.old) }
 {
     let mut next = Vec::new(alloc);
     for machine in frontier {

@@ -6,18 +6,21 @@ ghost use Rattle.clock_offsets.specs.Offsets.{IsParent, IsOffset, adjusted_time}
 
 /// A machine has one offset.
 pub fn a_machine_has_one_offset()
-    ensures { (events : List Event) (m : List ℕ) (a b : ℤ) → IsOffset events m a → IsOffset events m b → a ≡ b }
+    ensures { (events : List Event) (m : List ℕ) (a b : ℤ) → IsOffset events m a
+        → IsOffset events m b → a ≡ b }
 {}
 
 /// Where the round trip of least delays between a parent and a machine is not negative, no message
 /// between the two is received, by adjusted times, before it was sent.
 pub fn a_message_is_received_after_it_was_sent()
-    ensures there { (events : List Event) (k : ℕ) (p m : List ℕ) (a o f g : ℤ) → IsParent events k p m
-        → IsOffset events p a → IsOffset events m o
+    ensures there { (events : List Event) (k : ℕ) (p m : List ℕ) (a o f g : ℤ)
+        → IsParent events k p m → IsOffset events p a → IsOffset events m o
         → IsLeastDelay events p m f → IsLeastDelay events m p g → pos 0 ≤ℤ (f +ℤ g)
-        → (d : ℤ) (t : IsOneWayDelay events p m d) → adjusted_time t.sender.time a ≤ℤ adjusted_time t.receiver.time o }
-    ensures back { (events : List Event) (k : ℕ) (p m : List ℕ) (a o f g : ℤ) → IsParent events k p m
-        → IsOffset events p a → IsOffset events m o
+        → (d : ℤ) (t : IsOneWayDelay events p m d)
+        → adjusted_time t.sender.time a ≤ℤ adjusted_time t.receiver.time o }
+    ensures back { (events : List Event) (k : ℕ) (p m : List ℕ) (a o f g : ℤ)
+        → IsParent events k p m → IsOffset events p a → IsOffset events m o
         → IsLeastDelay events p m f → IsLeastDelay events m p g → pos 0 ≤ℤ (f +ℤ g)
-        → (d : ℤ) (t : IsOneWayDelay events m p d) → adjusted_time t.sender.time o ≤ℤ adjusted_time t.receiver.time a }
+        → (d : ℤ) (t : IsOneWayDelay events m p d)
+        → adjusted_time t.sender.time o ≤ℤ adjusted_time t.receiver.time a }
 {}

@@ -21,7 +21,8 @@ pub(crate) fn find_message(
     requires numbered { AreNumbers events.now numbers.now }
     requires placed { ArePlaces (sends_of events.now) (length events.now) senders.now }
     requires timely { AreTimely events.now }
-    ensures { MatchOption result (HasNoSender events.now receiver.now) (IsReceived events.now numbers.now at receiver.now) }
+    ensures { MatchOption result (HasNoSender events.now receiver.now) (IsReceived events.now
+        numbers.now at receiver.now) }
 {
     let text = receiver.recv.as_ref()?;
     let place = senders.get(text.as_str()).copied()?;

@@ -14,7 +14,8 @@ fn find_parent(
 ) -> Option<Link>
     requires within { LeadBelow (length depths.now) links.now }
     requires each { length depths.now ≡ length events.now }
-    ensures { MatchOption result (HasNone depths.now depth links.now) (IsBest events.now depths.now depth links.now) }
+    ensures { MatchOption result (HasNone depths.now depth links.now) (IsBest events.now depths.now
+        depth links.now) }
 {
     let mut best: Option<Link> = None;
     for link in links {

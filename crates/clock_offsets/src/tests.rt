@@ -16,7 +16,7 @@ struct Row {
     recv: Option<&'static str>,
 }
 
-/// A line that sends a message.
+/// Makes a line that sends a message.
 fn sends(machine: &'static str, time: u32, message: &'static str) -> Row {
     Row {
         machine,
@@ -26,7 +26,7 @@ fn sends(machine: &'static str, time: u32, message: &'static str) -> Row {
     }
 }
 
-/// A line that receives a message.
+/// Makes a line that receives a message.
 fn receives(machine: &'static str, time: u32, message: &'static str) -> Row {
     Row {
         machine,
@@ -36,7 +36,7 @@ fn receives(machine: &'static str, time: u32, message: &'static str) -> Row {
     }
 }
 
-/// A line that does neither.
+/// Makes a line that does neither.
 fn alone(machine: &'static str, time: u32) -> Row {
     Row {
         machine,
@@ -46,14 +46,16 @@ fn alone(machine: &'static str, time: u32) -> Row {
     }
 }
 
-fn text(alloc: Global, text: Option<&str>) -> Result<Option<Text>, AllocError> {
+/// Copies a text, where there is one.
+fn copy_text(alloc: Global, text: Option<&str>) -> Result<Option<Text>, AllocError> {
     match text {
         Some(text) => Ok(Some(Text::new(alloc, text)?)),
         None => Ok(None),
     }
 }
 
-fn event(alloc: Global, row: &Row, line: u32) -> Result<Event, AllocError>
+/// Makes the event of a line.
+fn make_event(alloc: Global, row: &Row, line: u32) -> Result<Event, AllocError>
     ensures line { IfOk result (λ e. e.line ≡ line) }
     ensures request { IfOk result (λ e. e.request ≡ codes "r1") }
     ensures early { IfOk result (λ e. e.time < 2 ^ 32) }
@@ -65,21 +67,21 @@ fn event(alloc: Global, row: &Row, line: u32) -> Result<Event, AllocError>
         task: Text::new(alloc, "t")?,
         event: Text::new(alloc, "e")?,
         time: u64::from(row.time),
-        send: text(alloc, row.send)?,
-        recv: text(alloc, row.recv)?,
+        send: copy_text(alloc, row.send)?,
+        recv: copy_text(alloc, row.recv)?,
     })
 }
 
-/// The trace of these lines, numbered from 1.
-fn trace(alloc: Global, rows: &[Row]) -> Result<RawTrace, AllocError>
+/// Makes the trace of these lines, numbered from 1.
+fn make_trace(alloc: Global, rows: &[Row]) -> Result<RawTrace, AllocError>
     requires some { 0 < length rows.now }
     requires few { length rows.now < 2 ^ 32 }
     ensures each { IfOk result (λ raw. length raw.events ≡ length rows.now) }
     ensures timely { IfOk result (λ raw. AreTimely raw.events) }
 {
-    let mut events = Vec::new(alloc);
+    let mut events = Vec::with_capacity(alloc, rows.len())?;
     for (at, row) in rows.iter().enumerate() {
-        events.push(event(alloc, row, at as u32 + 1)?)?;
+        events.push(make_event(alloc, row, at as u32 + 1)?)?;
     }
     Ok(RawTrace {
         request: Text::new(alloc, "r1")?,
@@ -87,17 +89,17 @@ fn trace(alloc: Global, rows: &[Row]) -> Result<RawTrace, AllocError>
     })
 }
 
-/// What `offsets` answers for these lines: the offsets, or the fault.
+/// Finds the offsets of the trace of these lines, or its fault.
 fn answer(
     rt: &(impl Abort + AllocGlobal),
     rows: &[Row],
 ) -> Result<Result<Vec<i128>, ClockFault>, Fail> {
     assert!(rt; !rows.is_empty() && rows.len() < 5000);
-    let raw = trace(rt.alloc(), rows)?;
+    let raw = make_trace(rt.alloc(), rows)?;
     Ok(offsets(rt.alloc(), &raw))
 }
 
-/// These lines have these offsets.
+/// Asserts that these lines have these offsets.
 fn has(rt: &(impl Abort + AllocGlobal), rows: &[Row], expected: &[i128]) -> Result<(), Fail> {
     let found = answer(rt, rows)?;
     assert!(rt; found.is_ok());
@@ -107,7 +109,7 @@ fn has(rt: &(impl Abort + AllocGlobal), rows: &[Row], expected: &[i128]) -> Resu
     Ok(())
 }
 
-/// These lines have this fault.
+/// Asserts that these lines have this fault.
 fn refused(
     rt: &(impl Abort + AllocGlobal),
     rows: &[Row],
@@ -147,7 +149,7 @@ fn offsets_along_parents(rt: HostRuntime) -> Result<(), Fail> {
         alone("l", 7),
     ];
     has(&rt, &chain, &[0, 1000, 1000, -75, -75, 1000, 1000, 0, 0])?;
-    // a and b both stand at level 1 and both claim z: a has the least name
+    // a and b both have depth 1 and are paired with z: a has the least name
     let claims = [
         sends("m", 0, "m1"),
         receives("b", 200, "m1"),

@@ -7,7 +7,8 @@ use Rattle.clock_offsets.specs.Offsets.{IsOffset, adjusted_time}
 
 -- t is the adjusted time of the event at k: its own time less the offset of its machine
 abbrev pub HasAdjustedTime : List Event → ℕ → ℤ → Type 0
-HasAdjustedTime events k t = (o : ℤ) × IsOffset events (machine_at events k) o × (t ≡ adjusted_time (time_at events k) o)
+HasAdjustedTime events k t = (o : ℤ) × IsOffset events (machine_at events k) o
+    × (t ≡ adjusted_time (time_at events k) o)
 
 -- the adjusted time at k in a list of them
 abbrev pub adjusted_at : List ℤ → ℕ → ℤ
@@ -18,7 +19,8 @@ pub record AreAdjustedTimes (events : List Event) (times : List ℤ) : Type 0 wh
   pub each : length times ≡ length events
   pub value : (k : ℕ) → k < length events → HasAdjustedTime events k (adjusted_at times k)
 
--- t is in the range of adjusted times: not below minus the latest time of an event, and not above twice that time
+-- t is in the range of adjusted times: not below minus the latest time of an event, and not above
+-- twice that time
 abbrev pub IsInClockRange : ℤ → Type 0
 IsInClockRange t = (neg_ℤ (pos latest_time) ≤ℤ t) × (t ≤ℤ pos (2 * latest_time))
 

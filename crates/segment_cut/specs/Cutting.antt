@@ -41,7 +41,8 @@ pub record IsSpan (times : List ℤ) (n : ℕ) : Type 0 where
   pub span : pos n ≡ greatest -ℤ least
 
 -- the segment is that of the events at the two places
-pub record IsSegment (events : List Event) (times : List ℤ) (places : ℕ × ℕ) (s : Segment) : Type 0 where
+pub record IsSegment (events : List Event) (times : List ℤ) (places : ℕ
+    × ℕ) (s : Segment) : Type 0 where
   pub task : s.task ≡ task_at events places.0
   pub start_event : s.start_event ≡ name_at events places.0
   pub end_event : s.end_event ≡ name_at events places.1
@@ -50,7 +51,8 @@ pub record IsSegment (events : List Event) (times : List ℤ) (places : ℕ × �
   pub element : HasElement (name_at events places.0) s.element
 
 -- the segments are exactly those of the events, in order
-pub record AreSegments (events : List Event) (times : List ℤ) (segments : List Segment) : Type 0 where
+pub record AreSegments (events : List Event) (times : List ℤ)
+    (segments : List Segment) : Type 0 where
   pub pairs : List (ℕ × ℕ)
   pub neighbours : AreAllNeighbours events times pairs
   pub each : AllZip (IsSegment events times) pairs segments

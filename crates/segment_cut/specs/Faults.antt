@@ -11,18 +11,20 @@ use Rattle.segment_cut.specs.declared.trace_fault.TraceFault.TheVariants.{Memory
 use Rattle.segment_cut.specs.AdjustedTimes.{IsLineOutOfRange}
 use Rattle.segment_cut.specs.Cutting.{most_events, IsShort}
 
--- the fault of the events is the first that holds: too many of them, an event that a task has twice, a message that is
--- sent twice, one that is received twice, an adjusted time out of range, each at the first such line; out of memory is no
--- fault of events
+-- the fault of the events is the first that holds: too many of them, an event that a task has
+-- twice, a message that is sent twice, one that is received twice, an adjusted time out of range,
+-- each at the first such line; out of memory is no fault of events
 abbrev pub IsTraceFault : List Event → TraceFault → Type 0
 IsTraceFault events Memory = ⊥
 IsTraceFault events (TooManyEvents count) = (count ≡ length events) × (most_events < count)
-IsTraceFault events (RepeatedEvent line) = IsShort events × IsLineOfRepeat events (named_events events) line
+IsTraceFault events (RepeatedEvent line) = IsShort events
+    × IsLineOfRepeat events (named_events events) line
 IsTraceFault events (RepeatedSend line) = IsShort events × AreDistinct (named_events events)
     × IsLineOfRepeat events (sends_of events) line
 IsTraceFault events (RepeatedRecv line) = IsShort events × AreDistinct (named_events events)
     × AreDistinct (sends_of events) × IsLineOfRepeat events (receipts_of events) line
-IsTraceFault events (ClockRange line) = IsShort events × AreDistinct (named_events events) × AreMessagesOnce events
+IsTraceFault events (ClockRange line) = IsShort events × AreDistinct (named_events events)
+    × AreMessagesOnce events
     × IsLineOutOfRange events line
 
 -- the fault of a trace that has no offsets

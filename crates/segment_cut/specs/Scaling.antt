@@ -1,4 +1,5 @@
--- A trace in which every time is a thousand times what it was, as where microseconds become nanoseconds.
+-- A trace in which every time is a thousand times what it was, as where microseconds become
+-- nanoseconds.
 use Rattle.std.specs.Prelude.{◌≡◌, ℕ, ◌*◌, ◌<◌, ◌≤◌, pos, ◌*ℤ◌, List, length, All}
 use Rattle.std.specs.List.{AllZip}
 use Rattle.trace_types.specs.declared.event.Event.{Event}
@@ -10,7 +11,8 @@ use Rattle.trace_types.specs.Events.{machines_of, machine_at, sends_of, receipts
 
 -- all events are of one machine
 abbrev pub AreOfOneMachine : List Event → Type 0
-AreOfOneMachine events = (j k : ℕ) → j < length events → k < length events → machine_at events j ≡ machine_at events k
+AreOfOneMachine events = (j k : ℕ) → j < length events → k < length events
+    → machine_at events j ≡ machine_at events k
 
 -- no event is later than the start of the year 2100, in microseconds since 1970
 abbrev pub AreTimelyMicroseconds : List Event → Type 0

@@ -15,12 +15,13 @@ use clock_offsets::laws::a_machine_has_one_offset;
 /// are a thousand times what they were. Where the times are those of microseconds up to the year
 /// 2100, it stays valid.
 pub fn a_trace_in_thousandfold_times_is_cut_alike()
-    ensures alike { (request : List ℕ) (events scaled : List Event) (t u : Trace) → AreOfOneMachine events
-        → AreThousandfold events scaled → IsCut request events t → IsCut request scaled u
-        → IsTraceThousandfold t u }
-    ensures valid { (events scaled : List Event) (times scaled_times : List ℤ) → AreOfOneMachine events
-        → AreTimelyMicroseconds events → AreThousandfold events scaled → AreAdjustedTimes events times
-        → AreAdjustedTimes scaled scaled_times → IsValid events times → IsValid scaled scaled_times }
+    ensures alike { (request : List ℕ) (events scaled : List Event) (t u : Trace)
+        → AreOfOneMachine events → AreThousandfold events scaled → IsCut request events t
+        → IsCut request scaled u → IsTraceThousandfold t u }
+    ensures valid { (events scaled : List Event) (times scaled_times : List ℤ)
+        → AreOfOneMachine events → AreTimelyMicroseconds events → AreThousandfold events scaled
+        → AreAdjustedTimes events times → AreAdjustedTimes scaled scaled_times
+        → IsValid events times → IsValid scaled scaled_times }
 {
     a_machine_has_one_offset();
 }
@@ -29,9 +30,10 @@ pub fn a_trace_in_thousandfold_times_is_cut_alike()
 pub fn a_trace_has_one_verdict()
     ensures trace { (request : List ℕ) (events : List Event) (t u : Trace) → IsCut request events t
         → IsCut request events u → t ≡ u }
-    ensures fault { (events : List Event) (f g : TraceFault) → IsTraceFault events f → IsTraceFault events g → f ≡ g }
-    ensures not_both { (request : List ℕ) (events : List Event) (t : Trace) (f : TraceFault) → IsCut request events t
-        → IsTraceFault events f → ⊥ }
+    ensures fault { (events : List Event) (f g : TraceFault) → IsTraceFault events f
+        → IsTraceFault events g → f ≡ g }
+    ensures not_both { (request : List ℕ) (events : List Event) (t : Trace) (f : TraceFault)
+        → IsCut request events t → IsTraceFault events f → ⊥ }
 {
     a_machine_has_one_offset();
 }

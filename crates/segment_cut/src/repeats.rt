@@ -11,7 +11,8 @@ pub(crate) fn find_repeated_event(
     alloc: Global,
     events: &[Event],
 ) -> Result<Option<u32>, AllocError>
-    ensures { IfOk result (λ line. MatchOption line (AreDistinct (named_events events.now)) (IsLineOfRepeat events.now (named_events events.now))) }
+    ensures { IfOk result (λ line. MatchOption line (AreDistinct (named_events events.now))
+        (IsLineOfRepeat events.now (named_events events.now))) }
 {
     let mut seen: BTreeSet<(&str, &str)> = BTreeSet::new(alloc);
     for event in events {

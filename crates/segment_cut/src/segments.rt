@@ -49,7 +49,8 @@ fn make_segments(
 ) -> Result<Vec<Segment>, AllocError>
     requires each { length times.now ≡ length events.now }
     requires pairs { All (ArePlacesInOrder (length events.now) times.now) pairs.now }
-    ensures { IfOk result (λ segments. AllZip (IsSegment events.now times.now) pairs.now segments.items) }
+    ensures { IfOk result (λ segments. AllZip (IsSegment events.now times.now) pairs.now
+        segments.items) }
 {
     let mut segments = Vec::with_capacity(alloc, pairs.len())?;
     for (start, end) in pairs {

@@ -12,13 +12,13 @@ const LATEST: u64 = 4_102_444_800_000_000_000;
 
 /// A line of a trace: its machine, task, event and time, and the messages that it sends and
 /// receives.
-type Row = (
-    &'static str,
-    &'static str,
-    &'static str,
+type Row<'a> = (
+    &'a str,
+    &'a str,
+    &'a str,
     u64,
-    Option<&'static str>,
-    Option<&'static str>,
+    Option<&'a str>,
+    Option<&'a str>,
 );
 
 /// A segment: its task, start event and end event, its start and end, and its element.
@@ -31,14 +31,16 @@ type Cut = (
     Option<&'static str>,
 );
 
-fn text(alloc: Global, text: Option<&str>) -> Result<Option<Text>, AllocError> {
+/// Copies a text, where there is one.
+fn copy_text(alloc: Global, text: Option<&str>) -> Result<Option<Text>, AllocError> {
     match text {
         Some(text) => Ok(Some(Text::new(alloc, text)?)),
         None => Ok(None),
     }
 }
 
-fn event(alloc: Global, row: &Row, name: &str, line: u32) -> Result<Event, AllocError>
+/// Makes the event of a line.
+fn make_event(alloc: Global, row: &Row, line: u32) -> Result<Event, AllocError>
     ensures line { IfOk result (λ e. e.line ≡ line) }
     ensures request { IfOk result (λ e. e.request ≡ codes "r1") }
     ensures early { IfOk result (λ e. e.time ≤ latest_time) }
@@ -48,23 +50,23 @@ fn event(alloc: Global, row: &Row, name: &str, line: u32) -> Result<Event, Alloc
         request: Text::new(alloc, "r1")?,
         machine: Text::new(alloc, row.0)?,
         task: Text::new(alloc, row.1)?,
-        event: Text::new(alloc, name)?,
+        event: Text::new(alloc, row.2)?,
         time: row.3.min(LATEST),
-        send: text(alloc, row.4)?,
-        recv: text(alloc, row.5)?,
+        send: copy_text(alloc, row.4)?,
+        recv: copy_text(alloc, row.5)?,
     })
 }
 
-/// The trace of these lines, numbered from 1.
-fn trace(alloc: Global, rows: &[Row]) -> Result<RawTrace, AllocError>
+/// Makes the trace of these lines, numbered from 1.
+fn make_trace(alloc: Global, rows: &[Row]) -> Result<RawTrace, AllocError>
     requires some { 0 < length rows.now }
     requires few { length rows.now < 2 ^ 31 }
     ensures each { IfOk result (λ raw. length raw.events ≡ length rows.now) }
     ensures timely { IfOk result (λ raw. AreTimely raw.events) }
 {
-    let mut events = Vec::new(alloc);
+    let mut events = Vec::with_capacity(alloc, rows.len())?;
     for (at, row) in rows.iter().enumerate() {
-        events.push(event(alloc, row, row.2, at as u32 + 1)?)?;
+        events.push(make_event(alloc, row, at as u32 + 1)?)?;
     }
     Ok(RawTrace {
         request: Text::new(alloc, "r1")?,
@@ -72,40 +74,22 @@ fn trace(alloc: Global, rows: &[Row]) -> Result<RawTrace, AllocError>
     })
 }
 
-/// The trace of this many lines, all of one machine, task and time.
-fn many(alloc: Global, count: u32) -> Result<RawTrace, AllocError>
-    requires some { 0 < count }
-    requires few { count < 2 ^ 31 }
-    ensures each { IfOk result (λ raw. length raw.events ≡ count) }
-    ensures timely { IfOk result (λ raw. AreTimely raw.events) }
-{
-    let row = ("m", "a", "", 7, None, None);
-    let mut events = Vec::new(alloc);
-    for at in 0..count {
-        let line = at + 1;
-        let name = format!(in alloc; "e{line}")?;
-        events.push(event(alloc, &row, name.as_str(), at + 1)?)?;
-    }
-    Ok(RawTrace {
-        request: Text::new(alloc, "r1")?,
-        events: EventList::of(events),
-    })
-}
-
-/// What `cut` answers for these lines.
+/// Cuts the trace of these lines.
 fn answer(
     rt: &(impl Abort + AllocGlobal),
     rows: &[Row],
 ) -> Result<Result<Trace, TraceFault>, Fail> {
     assert!(rt; !rows.is_empty() && rows.len() < 5000);
-    let raw = trace(rt.alloc(), rows)?;
+    let raw = make_trace(rt.alloc(), rows)?;
     Ok(cut(rt.alloc(), &raw))
 }
 
+/// Compares a text.
 fn is(text: &Text, expected: &str) -> bool {
     text.as_str() == expected
 }
 
+/// Compares an element.
 fn is_element(element: &Option<Text>, expected: Option<&str>) -> bool {
     match (element, expected) {
         (Some(element), Some(expected)) => is(element, expected),
@@ -114,7 +98,7 @@ fn is_element(element: &Option<Text>, expected: Option<&str>) -> bool {
     }
 }
 
-/// The segment is the one that was expected.
+/// Compares a segment with the one that is expected.
 fn is_cut(segment: &Segment, cut: &Cut) -> bool {
     is(&segment.task, cut.0)
         && is(&segment.start_event, cut.1)
@@ -124,7 +108,7 @@ fn is_cut(segment: &Segment, cut: &Cut) -> bool {
         && is_element(&segment.element, cut.5)
 }
 
-/// These lines are cut into these segments, with this day and latency.
+/// Asserts that these lines are cut into these segments, with this day and latency.
 fn cuts(
     rt: &(impl Abort + AllocGlobal),
     rows: &[Row],
@@ -150,7 +134,7 @@ fn cuts(
     Ok(())
 }
 
-/// These lines have this fault.
+/// Asserts that these lines have this fault.
 fn refused(
     rt: &(impl Abort + AllocGlobal),
     rows: &[Row],
@@ -217,7 +201,7 @@ fn times_are_adjusted_by_the_machine(rt: HostRuntime) -> Result<(), Fail> {
 }
 
 #[test]
-fn refusals_come_in_their_order(rt: HostRuntime) -> Result<(), Fail> {
+fn faults_come_in_their_order(rt: HostRuntime) -> Result<(), Fail> {
     let name = ("m", "a", "e", 0, None, None);
     let other = ("m", "b", "e", 0, None, None);
     let sends = ("m", "a", "s1", 0, Some("x"), None);
@@ -242,9 +226,9 @@ fn refusals_come_in_their_order(rt: HostRuntime) -> Result<(), Fail> {
     )
 }
 
-/// Two messages between each of m, n and p, so that n and then p are each this much ahead: the
-/// latest time, or as much behind.
-fn far(ahead: bool) -> [Row; 8] {
+/// Makes two messages between each of m, n and p, so that n and then p are each the latest time
+/// ahead, or as much behind.
+fn far(ahead: bool) -> [Row<'static>; 8] {
     let (here, there) = if ahead { (0, LATEST) } else { (LATEST, 0) };
     [
         ("m", "a", "1", here, Some("x"), None),
@@ -279,18 +263,33 @@ fn adjusted_times_have_a_range(rt: HostRuntime) -> Result<(), Fail> {
     Ok(())
 }
 
+/// Makes a line for each name, all of one machine, task and time.
+fn rows_of<'a>(alloc: Global, names: &'a [String]) -> Result<Vec<Row<'a>>, AllocError> {
+    let mut rows = Vec::with_capacity(alloc, names.len())?;
+    for name in names {
+        rows.push(("m", "a", name.as_str(), 7, None, None))?;
+    }
+    Ok(rows)
+}
+
 #[test]
 fn a_trace_has_at_most_4096_events(rt: HostRuntime) -> Result<(), Fail> {
-    let most = many(rt.alloc(), 4096)?;
-    assert!(rt; cut(rt.alloc(), &most).is_ok());
-    let over = many(rt.alloc(), 4097)?;
+    let mut names = Vec::with_capacity(rt.alloc(), 4097)?;
+    for at in 0..4096u32 {
+        names.push(format!(in rt.alloc(); "e{at}")?)?;
+    }
+    assert!(rt; answer(&rt, &rows_of(rt.alloc(), &names)?)?.is_ok());
+    names.push(String::from_str(rt.alloc(), "last")?)?;
     let fault = TraceFault::TooManyEvents { count: 4097 };
-    assert_eq!(rt; cut(rt.alloc(), &over).err(), Some(fault));
+    assert_eq!(rt;
+        answer(&rt, &rows_of(rt.alloc(), &names)?)?.err(),
+        Some(fault)
+    );
     Ok(())
 }
 
 #[test]
-fn a_refusal_has_a_reason_and_a_number(rt: HostRuntime) -> Result<(), Fail> {
+fn a_fault_has_a_reason_and_a_number(rt: HostRuntime) -> Result<(), Fail> {
     let rows = [
         (TraceFault::Memory, "out of memory", 0),
         (

@@ -12,7 +12,8 @@ const LATEST: i128 = LATEST_TIME as i128;
 /// Subtracts the offset of a machine from a time, where the difference is in the range of adjusted
 /// times.
 fn adjust(time: u64, offset: i128) -> Option<i64>
-    ensures { MatchOption result (IsInClockRange (adjusted_time time offset) → ⊥) (λ t. (t ≡ adjusted_time time offset) × IsInClockRange t) }
+    ensures { MatchOption result (IsInClockRange (adjusted_time time offset) → ⊥)
+        (λ t. (t ≡ adjusted_time time offset) × IsInClockRange t) }
 {
     let adjusted = i128::from(time).checked_sub(offset)?;
     if adjusted < -LATEST || adjusted > 2 * LATEST {
@@ -21,15 +22,16 @@ fn adjust(time: u64, offset: i128) -> Option<i64>
     Some(adjusted as i64)
 }
 
-/// Computes the adjusted time of each event, or else finds the first line whose adjusted time is out
-/// of range.
+/// Computes the adjusted time of each event, or else finds the first line whose adjusted time is
+/// out of range.
 pub(crate) fn adjust_times(
     alloc: Global,
     events: &[Event],
     offsets: &[i128],
 ) -> Result<Result<Vec<i64>, u32>, AllocError>
     requires { AreOffsets events.now offsets.now }
-    ensures { IfOk result (λ r. MatchResult r (λ times. AreTimes events.now times.items) (IsLineOutOfRange events.now)) }
+    ensures { IfOk result (λ r. MatchResult r (λ times. AreTimes events.now times.items)
+        (IsLineOutOfRange events.now)) }
 {
     let mut times = Vec::with_capacity(alloc, events.len())?;
     for (at, event) in events.iter().enumerate() {

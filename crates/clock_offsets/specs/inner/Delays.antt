@@ -18,7 +18,8 @@ abbrev pub HasNoSender : List Event → Event → Type 0
 HasNoSender events r = (k : ℕ) (s : Event) → IsEventAt events k s → IsMessage s r → ⊥
 
 -- the message x is the one that the event r, at index k, receives from another machine
-pub record IsReceived (events : List Event) (numbers : List ℕ) (k : ℕ) (r : Event) (x : Message) : Type 0 where
+pub record IsReceived (events : List Event) (numbers : List ℕ) (k : ℕ) (r : Event)
+    (x : Message) : Type 0 where
   pub place : ℕ
   pub sender : Event
   pub sends : IsEventAt events place sender
@@ -30,7 +31,8 @@ pub record IsReceived (events : List Event) (numbers : List ℕ) (k : ℕ) (r : 
 
 -- d is the one-way delay of a message from machine v to machine w
 abbrev pub HasDelay : List Event → List ℕ → ℕ → ℕ → ℤ → Type 0
-HasDelay events numbers v w d = IsNumber numbers v × IsNumber numbers w × IsOneWayDelay events (machine_at events v) (machine_at events w) d
+HasDelay events numbers v w d = IsNumber numbers v × IsNumber numbers w
+    × IsOneWayDelay events (machine_at events v) (machine_at events w) d
 
 -- ways from a machine to a machine, by the first and then by the second
 abbrev pub way_cmp : ℕ × ℕ → ℕ × ℕ → Ordering
@@ -43,7 +45,8 @@ least_in least v w = get way_cmp least (v, w)
 -- the map has the least d with D v w d, for each way from v to w that has one
 pub record AreLeast (D : ℕ → ℕ → ℤ → Type 0) (least : BTreeMap (ℕ × ℕ) ℤ) : Type 0 where
   pub ordered : IsOrdered way_cmp least
-  pub some : (v w : ℕ) (d : ℤ) → least_in least v w ≡ Some d → D v w d × ((e : ℤ) → D v w e → d ≤ℤ e)
+  pub some : (v w : ℕ) (d : ℤ) → least_in least v w ≡ Some d → D v w d × ((e : ℤ) → D v w e
+      → d ≤ℤ e)
   pub none : (v w : ℕ) (d : ℤ) → least_in least v w ≡ None → D v w d → ⊥
 
 -- the map has the least one-way delay of each way

@@ -24,16 +24,20 @@ links_of links = map (λ (w : Vec Link Global). w.items) links
 abbrev pub links_at : List (Vec Link Global) → ℕ → List Link
 links_at links v = slice_index_or (links_of links) v []
 
--- each link of a machine leads to a machine that is paired with it, and has its own offset relative to that one
+-- l is a link of the machine v: it leads to a machine that is paired with v, with v's own offset
+-- relative to that one
 abbrev pub IsLink : List Event → List ℕ → ℕ → Link → Type 0
 IsLink events numbers v l = IsNumber numbers v × IsNumber numbers l.to
     × IsRelativeOffset events (machine_at events l.to) (machine_at events v) l.offset
 
 -- a machine has a link to each machine that is paired with it
-pub record AreLinks (events : List Event) (numbers : List ℕ) (links : List (Vec Link Global)) : Type 0 where
+pub record AreLinks (events : List Event) (numbers : List ℕ)
+    (links : List (Vec Link Global)) : Type 0 where
   pub each : length links ≡ length events
-  pub right : (v : ℕ) (l : Link) → v < length events → Contains (links_at links v) l → IsLink events numbers v l
-  pub all : (v w : ℕ) → IsNumber numbers v → IsNumber numbers w → ArePaired events (machine_at events v) (machine_at events w)
+  pub right : (v : ℕ) (l : Link) → v < length events → Contains (links_at links v) l
+      → IsLink events numbers v l
+  pub all : (v w : ℕ) → IsNumber numbers v → IsNumber numbers w
+      → ArePaired events (machine_at events v) (machine_at events w)
       → (l : Link) × Contains (links_at links v) l × (l.to ≡ w)
 
 -- each link leads to a number below n

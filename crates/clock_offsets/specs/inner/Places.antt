@@ -15,9 +15,9 @@ use Rattle.clock_offsets.specs.declared.places.End.{End}
 use Rattle.clock_offsets.specs.declared.places.End.TheVariants.{Sending, Receipt}
 
 -- the text of an event in a field
-abbrev pub text_in : Field → Event → List ℕ
-text_in Machine e = e.machine
-text_in Task e = e.task
+abbrev pub field_of : Field → Event → List ℕ
+field_of Machine e = e.machine
+field_of Task e = e.task
 
 -- the message of an event at an end
 abbrev pub message_at : End → Event → Option (List ℕ)
@@ -39,10 +39,14 @@ abbrev pub place_in : BTreeMap (Bor (List ℕ)) ℕ → List ℕ → Option ℕ
 place_in places text = get_by (λ k. slice_cmp nat_cmp text k.now) places
 
 -- the map has the indices of the first n keys, which differ
-pub record ArePlaces (keys : List (Option (List ℕ))) (n : ℕ) (places : BTreeMap (Bor (List ℕ)) ℕ) : Type 0 where
-  pub right : (text : List ℕ) (p : ℕ) → place_in places text ≡ Some p → (p < n) × (slice_index_or keys p None ≡ Some text)
-  pub all : (text : List ℕ) (p : ℕ) → p < n → slice_index_or keys p None ≡ Some text → place_in places text ≡ Some p
+pub record ArePlaces (keys : List (Option (List ℕ))) (n : ℕ)
+    (places : BTreeMap (Bor (List ℕ)) ℕ) : Type 0 where
+  pub right : (text : List ℕ) (p : ℕ) → place_in places text ≡ Some p → (p < n)
+      × (slice_index_or keys p None ≡ Some text)
+  pub all : (text : List ℕ) (p : ℕ) → p < n → slice_index_or keys p None ≡ Some text
+      → place_in places text ≡ Some p
 
 -- the fault is that a message occurs twice at an end, on the first such line
 abbrev pub IsRepeatAt : List Event → End → ClockFault → Type 0
-IsRepeatAt events end fault = (line : ℕ) × (fault ≡ repeat_at end line) × IsLineOfRepeat events (messages_at end events) line
+IsRepeatAt events end fault = (line : ℕ) × (fault ≡ repeat_at end line)
+    × IsLineOfRepeat events (messages_at end events) line

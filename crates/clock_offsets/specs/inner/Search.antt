@@ -1,5 +1,5 @@
 -- What the breadth-first search keeps from step to step. Machines are numbers.
-use Rattle.std.specs.Prelude.{◌≡◌, ◌⊎◌, ℕ, ◌*◌, ◌^◌, ◌<◌, ◌≤◌, ℤ, pos, neg_ℤ, ◌≤ℤ◌, Option, Some, None, IsSome, is_none, count_by, List, length, slice_index_or, Contains, Vec}
+use Rattle.std.specs.Prelude.{◌≡◌, ◌⊎◌, ℕ, ◌*◌, ◌^◌, ◌≤◌, ℤ, pos, neg_ℤ, ◌≤ℤ◌, Option, Some, None, IsSome, is_none, count_by, List, length, slice_index_or, Contains, Vec}
 use Rattle.std.specs.declared.alloc.Global.{Global}
 use Rattle.trace_types.specs.declared.event.Event.{Event}
 use Rattle.trace_types.specs.Events.{machine_at}
@@ -14,10 +14,13 @@ abbrev pub depth_at : List (Option ℕ) → ℕ → Option ℕ
 depth_at depths v = slice_index_or depths v None
 
 -- the machines up to depth k have been visited
-pub record AreVisitedTo (events : List Event) (numbers : List ℕ) (k : ℕ) (depths : List (Option ℕ)) : Type 0 where
+pub record AreVisitedTo (events : List Event) (numbers : List ℕ) (k : ℕ)
+    (depths : List (Option ℕ)) : Type 0 where
   pub each : length depths ≡ length events
-  pub right : (v j : ℕ) → depth_at depths v ≡ Some j → IsNumber numbers v × (j ≤ k) × HasDepth events j (machine_at events v)
-  pub all : (v j : ℕ) → IsNumber numbers v → depth_at depths v ≡ None → j ≤ k → IsReachedIn events j (machine_at events v) → ⊥
+  pub right : (v j : ℕ) → depth_at depths v ≡ Some j → IsNumber numbers v × (j ≤ k)
+      × HasDepth events j (machine_at events v)
+  pub all : (v j : ℕ) → IsNumber numbers v → depth_at depths v ≡ None → j ≤ k
+      → IsReachedIn events j (machine_at events v) → ⊥
 
 -- the frontier has the machines of depth k
 pub record IsFrontier (k : ℕ) (depths : List (Option ℕ)) (frontier : List ℕ) : Type 0 where
@@ -36,18 +39,22 @@ FrontierLinksTo links frontier w = (v : ℕ) × Contains frontier v × LinksTo (
 pub record Visits (T : ℕ → Type 0) (k : ℕ) (old new : List (Option ℕ)) : Type 0 where
   pub each : length new ≡ length old
   pub kept : (v j : ℕ) → depth_at old v ≡ Some j → depth_at new v ≡ Some j
-  pub fresh : (v j : ℕ) → depth_at new v ≡ Some j → (depth_at old v ≡ Some j) ⊎ ((depth_at old v ≡ None) × (j ≡ k) × T v)
+  pub fresh : (v j : ℕ) → depth_at new v ≡ Some j → (depth_at old v ≡ Some j)
+      ⊎ ((depth_at old v ≡ None) × (j ≡ k) × T v)
   pub found : (v : ℕ) → T v → IsSome (depth_at new v)
 
 -- how many entries have no depth
 abbrev pub unvisited : List (Option ℕ) → ℕ
 unvisited depths = count_by is_none depths
 
--- b is a link to a machine of depth k, and no link to a machine of that depth leads to a lesser name
-pub record IsBest (events : List Event) (depths : List (Option ℕ)) (k : ℕ) (links : List Link) (b : Link) : Type 0 where
+-- b is a link to a machine of depth k, and no link to a machine of that depth leads to a lesser
+-- name
+pub record IsBest (events : List Event) (depths : List (Option ℕ)) (k : ℕ) (links : List Link)
+    (b : Link) : Type 0 where
   pub among : Contains links b
   pub depth : depth_at depths b.to ≡ Some k
-  pub least : (l : Link) → Contains links l → depth_at depths l.to ≡ Some k → IsNotAfter (machine_at events b.to) (machine_at events l.to)
+  pub least : (l : Link) → Contains links l → depth_at depths l.to ≡ Some k
+      → IsNotAfter (machine_at events b.to) (machine_at events l.to)
 
 -- no link leads to a machine of depth k
 abbrev pub HasNone : List (Option ℕ) → ℕ → List Link → Type 0
@@ -60,12 +67,16 @@ pub record HasOffset (events : List Event) (k v : ℕ) (o : ℤ) : Type 0 where
   pub high : o ≤ℤ pos (k * 2 ^ 63)
 
 -- the machines up to depth k have their offsets, and those that have not been visited have 0
-pub record HaveOffsetsTo (events : List Event) (k : ℕ) (depths : List (Option ℕ)) (offsets : List ℤ) : Type 0 where
+pub record HaveOffsetsTo (events : List Event) (k : ℕ) (depths : List (Option ℕ))
+    (offsets : List ℤ) : Type 0 where
   pub each : length offsets ≡ length events
-  pub right : (v j : ℕ) → depth_at depths v ≡ Some j → j ≤ k → HasOffset events j v (slice_index_or offsets v (pos 0))
+  pub right : (v j : ℕ) → depth_at depths v ≡ Some j → j ≤ k
+      → HasOffset events j v (slice_index_or offsets v (pos 0))
   pub zero : (v : ℕ) → depth_at depths v ≡ None → slice_index_or offsets v (pos 0) ≡ pos 0
 
 -- each machine has its offset
-pub record AreMachineOffsets (events : List Event) (numbers : List ℕ) (offsets : List ℤ) : Type 0 where
+pub record AreMachineOffsets (events : List Event) (numbers : List ℕ)
+    (offsets : List ℤ) : Type 0 where
   pub each : length offsets ≡ length events
-  pub value : (v : ℕ) → IsNumber numbers v → IsOffset events (machine_at events v) (slice_index_or offsets v (pos 0))
+  pub value : (v : ℕ) → IsNumber numbers v
+      → IsOffset events (machine_at events v) (slice_index_or offsets v (pos 0))

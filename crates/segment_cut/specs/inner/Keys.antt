@@ -20,8 +20,10 @@ IsKeyBefore a b = (a.0 < b.0) ⊎ ((a.0 ≡ b.0) × ((a.1 <ℤ b.1) ⊎ ((a.1 �
 
 -- the keys are those of all events, in order
 pub record AreKeys (tasks : List ℕ) (times : List ℤ) (keys : List Key) : Type 0 where
-  pub right : (p : ℕ) → p < length keys → (slice_index_or tasks (key_at keys p).2 0 ≡ (key_at keys p).0)
-      × (adjusted_at times (key_at keys p).2 ≡ (key_at keys p).1) × ((key_at keys p).2 < length tasks)
+  pub right : (p : ℕ) → p < length keys
+      → (slice_index_or tasks (key_at keys p).2 0 ≡ (key_at keys p).0)
+      × (adjusted_at times (key_at keys p).2 ≡ (key_at keys p).1)
+      × ((key_at keys p).2 < length tasks)
   pub all : (k : ℕ) → k < length tasks → (p : ℕ) × (p < length keys) × ((key_at keys p).2 ≡ k)
   pub each : length keys ≡ length tasks
   pub rising : (p q : ℕ) → p < q → q < length keys → IsKeyBefore (key_at keys p) (key_at keys q)

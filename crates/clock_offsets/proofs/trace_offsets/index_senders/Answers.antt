@@ -1,5 +1,5 @@
 use Rattle.clock_offsets.specs.declared.places.End.TheVariants.{Sending, Receipt}
-use Rattle.clock_offsets.proofs.PlaceLemmas.{messages_distinct, send_repeats, receipt_repeats}
+use Rattle.clock_offsets.proofs.PlaceLemmas.{messages_distinct, receipt_repeats}
 use Rattle.clock_offsets.proofs.trace_offsets.index_senders.Goals as goal
 
 pub returns-in-Ok-clause-once : goal.returns-in-Ok-clause-once

@@ -1,4 +1,4 @@
-use Rattle.std.proofs.Common.{◌≡◌, ℕ, ◌+◌, ◌<◌, ◌≤◌, List, [], ◌∷◌, ◌++◌, length, map, get_or, codes, All, arith, sym, subst, ◌∙◌, ap, ⊎_elim}
+use Rattle.std.proofs.Common.{◌≡◌, ℕ, ◌+◌, ◌<◌, ◌≤◌, ◌^◌, List, [], ◌∷◌, ◌++◌, length, map, get_or, codes, All, arith, sym, subst, ◌∙◌, ap, ⊎_elim}
 use Rattle.std.specs.List.Sorted.{IsStrictlyIncreasing}
 use Rattle.std.proofs.lemmas.Bool.{cases_lt}
 use Rattle.std.proofs.lemmas.List.{get_or_append_left, get_or_push, length_push, map_push, length-map, get_or-map}
@@ -6,7 +6,7 @@ use Rattle.std.proofs.lemmas.List.Elements.{All-push}
 use Rattle.trace_types.specs.declared.event.Event.{Event}
 use Rattle.trace_types.specs.EventLines.{LinesRise}
 use Rattle.trace_types.specs.Times.{latest_time}
-use Rattle.segment_cut.proofs.tests.trace.Goals as goal
+use Rattle.clock_offsets.proofs.tests.make_trace.Goals as goal
 
 -- a number above all the others goes last
 increasing_push : (xs : List ℕ) (y : ℕ) → IsStrictlyIncreasing xs → ((k : ℕ) → k < length xs → get_or xs k 0 < y) → IsStrictlyIncreasing (xs ++ y ∷ [])
@@ -30,12 +30,12 @@ rise_push es e n rising last is =
 
 pub loop-at-preserved : goal.loop-at-preserved
 loop-at-preserved c =
-    let e : Event = c.in_ok-event.field-0 in
-    let line : e.line ≡ c.loop-at.at + 1 = c.in_ok-event.ensures.line in
-    let early : e.time ≤ latest_time = c.in_ok-event.ensures.early in
+    let e : Event = c.in_ok-make_event.field-0 in
+    let line : e.line ≡ c.loop-at.at + 1 = c.in_ok-make_event.ensures.line in
+    let early : e.time < 2 ^ 32 = c.in_ok-make_event.ensures.early in
     rw c.in_ok-push.ensures.items (record {
       each = length_push c.loop-at.events.items e ∙ ap (λ n. n + 1) c.loop-at.invariant.each;
-      request = All-push (λ (x : Event). x.request ≡ codes "r1") c.loop-at.events.items e c.loop-at.invariant.request c.in_ok-event.ensures.request;
+      request = All-push (λ (x : Event). x.request ≡ codes "r1") c.loop-at.events.items e c.loop-at.invariant.request c.in_ok-make_event.ensures.request;
       rising = rise_push c.loop-at.events.items e c.loop-at.at c.loop-at.invariant.rising c.loop-at.invariant.last line;
       last = All-push (λ (x : Event). x.line ≤ c.loop-at.at + 1) c.loop-at.events.items e (λ k d lt. let old : (get_or c.loop-at.events.items k d).line ≤ c.loop-at.at = c.loop-at.invariant.last k d lt in omega arith) (omega arith);
       timely = All-push (λ (x : Event). x.time ≤ latest_time) c.loop-at.events.items e c.loop-at.invariant.timely (omega arith);

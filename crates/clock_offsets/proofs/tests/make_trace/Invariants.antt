@@ -2,7 +2,7 @@ use Rattle.std.proofs.Common.{◌≡◌, ◌≤◌, length, codes, All}
 use Rattle.trace_types.specs.declared.event.Event.{Event}
 use Rattle.trace_types.specs.EventLines.{AreOfRequest, LinesRise}
 use Rattle.trace_types.specs.Times.{AreTimely}
-use Rattle.clock_offsets.proofs.tests.trace.Given as goal
+use Rattle.clock_offsets.proofs.tests.make_trace.Given as goal
 
 abbrev pub invariant-loop-at : goal.invariant-loop-at
 invariant-loop-at l = record {
