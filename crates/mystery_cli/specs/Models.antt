@@ -8,7 +8,6 @@ use Rattle.trace_types.specs.Segments.{name_of, task_of}
 use Rattle.event_lines.specs.declared.line.Line.{Line}
 use Rattle.event_lines.specs.declared.line.Line.TheVariants.{Event, Control}
 use Rattle.segment_cut.specs.declared.trace_fault.TraceFault.{TraceFault}
-use Rattle.segment_cut.specs.declared.trace_fault.TraceFault.TheVariants.{Memory}
 use Rattle.segment_cut.specs.Cutting.{IsCut}
 use Rattle.segment_cut.specs.Faults.{IsTraceFault}
 use Rattle.model_meet.specs.declared.plain_pair.PlainPair.{PlainPair}
@@ -29,7 +28,6 @@ events_in lines = filter_map event_in lines
 -- the trace is cut into its segments, or it is refused with the first fault that holds of it
 abbrev pub IsJudged : PlainTrace → Result Trace TraceFault → Type 0
 IsJudged raw (Ok trace) = IsCut raw.request raw.events trace
-IsJudged raw (Err Memory) = ⊥
 IsJudged raw (Err fault) = IsTraceFault raw.events fault
 
 -- the trace that a verdict keeps
