@@ -40,9 +40,9 @@ pub record IsSpan (times : List ℤ) (n : ℕ) : Type 0 where
   pub none_less : All (λ t. least ≤ℤ t) times
   pub span : pos n ≡ greatest -ℤ least
 
--- the segment is that of the events at the two places
-pub record IsSegment (events : List Event) (times : List ℤ) (places : ℕ
-    × ℕ) (s : Segment) : Type 0 where
+-- the segment is that of the events at the two indices
+pub record IsSegment (events : List Event) (times : List ℤ) (places : ℕ × ℕ)
+    (s : Segment) : Type 0 where
   pub task : s.task ≡ task_at events places.0
   pub start_event : s.start_event ≡ name_at events places.0
   pub end_event : s.end_event ≡ name_at events places.1

@@ -34,7 +34,7 @@ pub record IsThousandfold (s r : Segment) : Type 0 where
   pub start : r.start ≡ pos 1000 *ℤ s.start
   pub end : r.end ≡ pos 1000 *ℤ s.end
 
--- the trace u has the segments of t at their places, and its latency, all times a thousandfold
+-- the trace u has the segments of t in their order, and its latency, all times a thousandfold
 pub record IsTraceThousandfold (t u : Trace) : Type 0 where
   pub segments : AllZip IsThousandfold t.segments u.segments
   pub latency : u.latency ≡ 1000 * t.latency
