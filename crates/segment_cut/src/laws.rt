@@ -10,10 +10,9 @@ ghost use Rattle.segment_cut.specs.Scaling.{AreOfOneMachine, AreTimelyMicrosecon
 
 use clock_offsets::laws::a_machine_has_one_offset;
 
-/// Where all events of a trace are of one machine, and each time becomes a thousand times what it
-/// was, the trace is cut alike: names, places and elements stay, and starts, ends and the latency
-/// are a thousand times what they were. Where the times are those of microseconds up to the year
-/// 2100, it stays valid.
+/// States that a trace of one machine is cut alike where each time becomes a thousand times what it
+/// was: names, order and elements stay, and starts, ends and the latency are a thousand times what
+/// they were. Where the times are those of microseconds up to the year 2100, it stays valid.
 pub fn a_trace_in_thousandfold_times_is_cut_alike()
     ensures alike { (request : List ℕ) (events scaled : List Event) (t u : Trace)
         → AreOfOneMachine events → AreThousandfold events scaled → IsCut request events t
@@ -26,7 +25,8 @@ pub fn a_trace_in_thousandfold_times_is_cut_alike()
     a_machine_has_one_offset();
 }
 
-/// A trace has one verdict: its events are cut in one way, or they have one fault, and never both.
+/// States that a trace has one verdict: its events are cut in one way, or they have one fault, and
+/// never both.
 pub fn a_trace_has_one_verdict()
     ensures trace { (request : List ℕ) (events : List Event) (t u : Trace) → IsCut request events t
         → IsCut request events u → t ≡ u }

@@ -42,18 +42,18 @@ fn check_events(alloc: Global, events: &[Event]) -> Result<(), TraceFault>
 }
 
 /// Cuts the trace by these offsets, once the earlier checks have passed.
-fn cut_by(alloc: Global, raw: &RawTrace, offsets: &[i128]) -> Result<Trace, TraceFault>
+fn cut_by(alloc: Global, raw: &RawTrace, by_event: &[i128]) -> Result<Trace, TraceFault>
     requires timely { AreTimely raw.now.events }
     requires short { IsShort raw.now.events }
     requires named { AreDistinct (named_events raw.now.events) }
     requires messages { AreMessagesOnce raw.now.events }
-    requires offsets { AreOffsets raw.now.events offsets.now }
+    requires offsets { AreOffsets raw.now.events by_event.now }
     ensures ok { IfOk result (λ t. IsCut raw.now.request raw.now.events t) }
     ensures few { IfOk result (λ t. length t.segments ≤ length raw.now.events) }
     ensures err { IfErr result (λ fault. fault ≢ Memory → IsTraceFault raw.now.events fault) }
 {
     let events = raw.events.items();
-    let adjusted = adjust_times(alloc, events, offsets)?;
+    let adjusted = adjust_times(alloc, events, by_event)?;
     let times = match adjusted {
         Ok(times) => times,
         Err(line) => return Err(TraceFault::ClockRange { line }),
