@@ -1,5 +1,5 @@
 -- What is known of lines, of their events and of the traces of a batch.
-use Rattle.std.proofs.Common.{ℕ, suc, ◌+◌, ◌≤◌, ◌<◌, List, [], ◌∷◌, length, get_or, map, arith, subst}
+use Rattle.std.proofs.Common.{ℕ, ◌+◌, ◌≤◌, ◌<◌, List, [], ◌∷◌, length, get_or, map, arith, subst}
 use Rattle.std.specs.Prelude.{All}
 use Rattle.std.specs.List.{Contains, AllPairs}
 use Rattle.std.proofs.lemmas.List.Kept.{AllPairs-from_increasing, AllPairs-cons}
@@ -10,45 +10,34 @@ use Rattle.trace_types.specs.EventLines.{LinesRise}
 use Rattle.trace_types.specs.Times.{AreTimely, latest_time}
 use Rattle.event_lines.specs.declared.line.Line.{Line}
 use Rattle.event_lines.specs.declared.line.Line.TheVariants.{Event, Control}
-use Rattle.event_lines.specs.Good.{number_of, NumbersRise, IsInRange}
+use Rattle.event_lines.specs.GoodLines.{line_number, NumbersRise, IsTimely}
 use Rattle.mystery_cli.specs.Models.{events_in}
+use Rattle.mystery_cli.proofs.ElementLemmas.{pairs_head, pairs_tail, all_head, all_tail}
 
 line_of : events.Event → ℕ
 line_of e = e.line
 
-pairs_head : {X : Type 0} (R : X → X → Type 0) (x : X) (xs : List X) → AllPairs R (x ∷ xs) → All (R x) xs
-pairs_head R x xs h k d lt = h 0 (suc k) d (omega arith) (omega (arith, lt))
-
-pairs_tail : {X : Type 0} (R : X → X → Type 0) (x : X) (xs : List X) → AllPairs R (x ∷ xs) → AllPairs R xs
-pairs_tail R x xs h i j d lt within = h (suc i) (suc j) d (omega (arith, lt)) (omega (arith, within))
-
-all_head : {X : Type 0} (P : X → Type 0) (x : X) (xs : List X) → All P (x ∷ xs) → P x
-all_head P x xs h = h 0 x (omega arith)
-
-all_tail : {X : Type 0} (P : X → Type 0) (x : X) (xs : List X) → All P (x ∷ xs) → All P xs
-all_tail P x xs h k d lt = h (suc k) d (omega (arith, lt))
-
 -- what holds of the numbers of all lines holds of those of the events
-kept_numbers : (P : ℕ → Type 0) (lines : List Line) → All P (map number_of lines) → All P (map (λ (e : events.Event). e.line) (events_in lines))
+kept_numbers : (P : ℕ → Type 0) (lines : List Line) → All P (map line_number lines) → All P (map (λ (e : events.Event). e.line) (events_in lines))
 kept_numbers P [] h = λ k d lt. absurd (omega (arith, lt))
-kept_numbers P (Event e ∷ lines) h = All-cons P e.line (map (λ (e : events.Event). e.line) (events_in lines)) (all_head P e.line (map number_of lines) h) (kept_numbers P lines (all_tail P e.line (map number_of lines) h))
-kept_numbers P (Control n command ∷ lines) h = kept_numbers P lines (all_tail P n (map number_of lines) h)
+kept_numbers P (Event e ∷ lines) h = All-cons P e.line (map (λ (e : events.Event). e.line) (events_in lines)) (all_head P e.line (map line_number lines) h) (kept_numbers P lines (all_tail P e.line (map line_number lines) h))
+kept_numbers P (Control n command ∷ lines) h = kept_numbers P lines (all_tail P n (map line_number lines) h)
 
-pairs_rise : (lines : List Line) → AllPairs (λ x y. x < y) (map number_of lines) → AllPairs (λ x y. x < y) (map (λ (e : events.Event). e.line) (events_in lines))
+pairs_rise : (lines : List Line) → AllPairs (λ x y. x < y) (map line_number lines) → AllPairs (λ x y. x < y) (map (λ (e : events.Event). e.line) (events_in lines))
 pairs_rise [] h = λ i j d lt within. absurd (omega (arith, within))
 pairs_rise (Event e ∷ lines) h =
-    AllPairs-cons (λ x y. x < y) e.line (map (λ (e : events.Event). e.line) (events_in lines)) (kept_numbers (λ y. e.line < y) lines (pairs_head (λ x y. x < y) e.line (map number_of lines) h)) (pairs_rise lines (pairs_tail (λ x y. x < y) e.line (map number_of lines) h))
-pairs_rise (Control n command ∷ lines) h = pairs_rise lines (pairs_tail (λ x y. x < y) n (map number_of lines) h)
+    AllPairs-cons (λ x y. x < y) e.line (map (λ (e : events.Event). e.line) (events_in lines)) (kept_numbers (λ y. e.line < y) lines (pairs_head (λ x y. x < y) e.line (map line_number lines) h)) (pairs_rise lines (pairs_tail (λ x y. x < y) e.line (map line_number lines) h))
+pairs_rise (Control n command ∷ lines) h = pairs_rise lines (pairs_tail (λ x y. x < y) n (map line_number lines) h)
 
 -- the lines of the events rise
 pub events_rise : (lines : List Line) → NumbersRise lines → LinesRise (events_in lines)
-events_rise lines h k lt = pairs_rise lines (AllPairs-from_increasing (map number_of lines) h) k (k + 1) 0 (omega arith) lt
+events_rise lines h k lt = pairs_rise lines (AllPairs-from_increasing (map line_number lines) h) k (k + 1) 0 (omega arith) lt
 
 -- the times of the events are in range
-pub events_timely : (lines : List Line) → All IsInRange lines → AreTimely (events_in lines)
+pub events_timely : (lines : List Line) → All IsTimely lines → AreTimely (events_in lines)
 events_timely [] h = λ k d lt. absurd (omega (arith, lt))
-events_timely (Event e ∷ lines) h = All-cons (λ (e : events.Event). e.time ≤ latest_time) e (events_in lines) (all_head IsInRange (Event e) lines h) (events_timely lines (all_tail IsInRange (Event e) lines h))
-events_timely (Control n command ∷ lines) h = events_timely lines (all_tail IsInRange (Control n command) lines h)
+events_timely (Event e ∷ lines) h = All-cons (λ (e : events.Event). e.time ≤ latest_time) e (events_in lines) (all_head IsTimely (Event e) lines h) (events_timely lines (all_tail IsTimely (Event e) lines h))
+events_timely (Control n command ∷ lines) h = events_timely lines (all_tail IsTimely (Control n command) lines h)
 
 pub events_few : (lines : List Line) → length (events_in lines) ≤ length lines
 events_few [] = omega arith

@@ -1,5 +1,5 @@
 -- The different days of a list.
-use Rattle.std.proofs.Common.{◌≡◌, ◌↔◌, ◌⊎◌, ℕ, zero, suc, ◌+◌, ◌<◌, ◌≤◌, List, [], ◌∷◌, ◌++◌, length, take, get_or, map, arith, refl, sym, ◌∙◌, ap, inl, inr, ⊎_elim}
+use Rattle.std.proofs.Common.{◌≡◌, ◌↔◌, ◌⊎◌, ℕ, ◌+◌, ◌<◌, ◌≤◌, List, [], ◌∷◌, ◌++◌, length, take, get_or, map, arith, refl, sym, ◌∙◌, ap, inl, inr, ⊎_elim}
 use Rattle.std.specs.List.{Contains}
 use Rattle.std.specs.List.Sorted.{IsStrictlySortedBy}
 use Rattle.std.specs.Ordering.{nat_cmp, match_ordering}
@@ -13,22 +13,7 @@ use Rattle.std.specs.FinMap.{nat_cmp-IsAntisymmetric}
 use Rattle.trace_types.specs.declared.trace.Trace.{Trace}
 use Rattle.trace_types.specs.Listing.{CountsDistinct}
 use Rattle.std.proofs.lemmas.Map.Keys.{IsStrictlyIncreasing-from_sorted}
-
-nothing : {X : Type 0} (x : X) → Contains [] x → ⊥
-nothing x c = let lt : c.0 < 0 = c.1 in absurd (omega arith)
-
-later : {X : Type 0} (x : X) (xs : List X) (y : X) → Contains xs y → Contains (x ∷ xs) y
-later x xs y c = let lt : c.0 < length xs = c.1 in (suc c.0, omega arith, c.2)
-
-first : {X : Type 0} (x : X) (xs : List X) (y : X) → x ≡ y → Contains (x ∷ xs) y
-first x xs y e = (0, omega arith, e)
-
-split : {X : Type 0} (x : X) (xs : List X) (y : X) → Contains (x ∷ xs) y → (x ≡ y) ⊎ Contains xs y
-split x xs y c = at c.0 c.1 c.2
-  where
-    at : (k : ℕ) → k < length (x ∷ xs) → get_or (x ∷ xs) k y ≡ y → (x ≡ y) ⊎ Contains xs y
-    at zero lt e = inl e
-    at (suc k) lt e = inr (k, omega (arith, lt), e)
+use Rattle.mystery_cli.proofs.ElementLemmas.{nothing, later, first, split}
 
 -- an inserted key is there, and the others as before
 inserted : (ks : List ℕ) (k y : ℕ) → Contains (insert_key nat_cmp ks k) y ↔ ((k ≡ y) ⊎ Contains ks y)

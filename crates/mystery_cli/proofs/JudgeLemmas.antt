@@ -13,7 +13,7 @@ use Rattle.segment_cut.specs.declared.trace_fault.TraceFault.{TraceFault}
 use Rattle.mystery_cli.specs.declared.refused.Refused.{Refused}
 use Rattle.mystery_cli.specs.declared.judged.JudgedTraces.{JudgedTraces}
 use Rattle.mystery_cli.specs.Models.{IsJudged, AreJudged, kept_in, kept_of, refused_of}
-use Rattle.mystery_cli.specs.Steps.{Judges}
+use Rattle.mystery_cli.specs.inner.Steps.{Judges}
 
 pub judged_none : AreJudged [] [] []
 judged_none = record { verdicts = []; each = tt; kept_are = refl; refused_are = refl }

@@ -1,6 +1,9 @@
 pub mod BatchLemmas
 pub mod DayLemmas
+pub mod ElementLemmas
 pub mod EndingLemmas
 pub mod JudgeLemmas
 pub mod NumberLemmas
+pub mod OneListLemmas
+pub mod OneTextLemmas
 pub mod PrintLemmas

@@ -2,15 +2,15 @@
 use Rattle.std.proofs.Common.{◌≡◌, ℕ, ◌+◌, ◌-◌, ◌≤◌, ◌<◌, min, List, [], ◌∷◌, ◌++◌, length, take, drop, get_or, map, Option, Some, None, arith, refl, sym, ◌∙◌, ap, append_assoc}
 use Rattle.std.proofs.Math.Seq.{take-add}
 use Rattle.std.proofs.lemmas.List.{append-nil, length-append, take_all, take-append-le, drop-append-le, drop-drop, length-drop, take_min}
+use Rattle.std.specs.Prelude.{Err}
 use Rattle.std.specs.List.{flat_map, join_with_byte}
 use Rattle.std.specs.Io.KnownBytes.{append_known}
-use Rattle.mystery_io.specs.Fronts.{AppendsFront}
+use Rattle.mystery_io.specs.Prefixes.{AppendsPrefix}
 use Rattle.std.proofs.lemmas.List.{flat_map_more, take_more, drop_more, take-append-drop}
 use Rattle.std.proofs.lemmas.Grind.{flat_map-append}
-use Rattle.mystery_cli.specs.PrintFaults.{HasPrintCause}
+use Rattle.mystery_cli.specs.Rows.{field_text}
+use Rattle.mystery_cli.specs.inner.Printing.{Prints, PrintsText, print_faults}
 use Rattle.mystery_cli.specs.declared.printing.PrintFault.{PrintFault}
-use Rattle.mystery_cli.specs.declared.printing.PrintFault.TheVariants.{Memory, Write}
-use Rattle.mystery_cli.specs.Rows.{Prints, field_text}
 use Rattle.mystery_cli.specs.declared.printing.Field.{Field}
 
 append_twice : (w : Option (List ℕ)) (a b : List ℕ) → append_known (append_known w a) b ≡ append_known w (a ++ b)
@@ -28,7 +28,7 @@ taken c d xs t le = sym (take-add c d (xs ++ t) ∙ ap (λ a. a ++ take d (drop 
 left : (c d : ℕ) (xs t : List ℕ) → c ≤ length xs → drop d (drop c xs ++ t) ≡ drop (c + d) (xs ++ t)
 left c d xs t le = ap (drop d) (sym (drop-append-le c xs t le)) ∙ drop-drop d c (xs ++ t)
 
--- what was written of the one text and of the other is the front of both
+-- what was written of the one text and of the other is a prefix of both
 written_more : (before mid now : Option (List ℕ)) (waited between a b : List ℕ) (c d : ℕ) → c ≤ length (waited ++ a) → between ≡ drop c (waited ++ a) → mid ≡ append_known before (take c (waited ++ a)) → now ≡ append_known mid (take d (between ++ b))
     → now ≡ append_known before (take (c + d) ((waited ++ a) ++ b))
 written_more before mid now waited between a b c d le e m n =
@@ -46,9 +46,9 @@ prints_more before mid now waited between waits a b p q =
       rest = q.rest ∙ ap (λ t. drop q.count (t ++ b)) p.rest ∙ left p.count q.count (waited ++ a) b p.within ∙ ap (drop (p.count + q.count)) both;
     }
 
--- what was written of a text and of a part of the next is the front of any that goes on so
-pub front_more : (before mid now : Option (List ℕ)) (waited between a b c : List ℕ) → Prints before mid waited between a → AppendsFront mid now (between ++ b) → AppendsFront before now (waited ++ (a ++ (b ++ c)))
-front_more before mid now waited between a b c p f =
+-- what was written of a text and of a part of the next is a prefix of any text that goes on so
+pub prefix_more : (before mid now : Option (List ℕ)) (waited between a b c : List ℕ) → Prints before mid waited between a → AppendsPrefix mid now (between ++ b) → AppendsPrefix before now (waited ++ (a ++ (b ++ c)))
+prefix_more before mid now waited between a b c p f =
     let n : ℕ = min f.count (length (between ++ b)) in
     let short : take f.count (between ++ b) ≡ take n (between ++ b) = sym (take_min f.count (between ++ b)) in
     let few : p.count + n ≤ length ((waited ++ a) ++ b) = omega (arith, p.within, ap length p.rest, length-append between b, length-append (waited ++ a) b, length-drop p.count (waited ++ a)) in
@@ -93,31 +93,26 @@ prints_next row xs i x before mid now waited between waits lt is p q =
 pub prints_all : {X : Type 0} (row : X → List ℕ) (xs : List X) (i : ℕ) (before now : Option (List ℕ)) (waited waits : List ℕ) → length xs ≤ i → Prints before now waited waits (flat_map row (take i xs)) → Prints before now waited waits (flat_map row xs)
 prints_all row xs i before now waited waits le p = rw (← take_all i xs le) p
 
--- a row that was not printed to its end leaves the front of all rows
-pub front_next : {X : Type 0} (row : X → List ℕ) (xs : List X) (i : ℕ) (x : X) (before mid now : Option (List ℕ)) (waited between : List ℕ) → i < length xs → x ≡ get_or xs i x → Prints before mid waited between (flat_map row (take i xs))
-    → AppendsFront mid now (between ++ row x) → AppendsFront before now (waited ++ flat_map row xs)
-front_next {X} row xs i x before mid now waited between lt is p f =
+-- a row that was not printed to its end leaves a prefix of all rows
+pub prefix_next : {X : Type 0} (row : X → List ℕ) (xs : List X) (i : ℕ) (x : X) (before mid now : Option (List ℕ)) (waited between : List ℕ) → i < length xs → x ≡ get_or xs i x → Prints before mid waited between (flat_map row (take i xs))
+    → AppendsPrefix mid now (between ++ row x) → AppendsPrefix before now (waited ++ flat_map row xs)
+prefix_next {X} row xs i x before mid now waited between lt is p f =
     let rest : flat_map row (drop i xs) ≡ row x ++ flat_map row (drop (i + 1) xs) = ap (flat_map row) (drop_more xs i x lt) ∙ ap (λ (y : X). row y ++ flat_map row (drop (i + 1) xs)) (sym is) in
     let all : flat_map row (take i xs) ++ (row x ++ flat_map row (drop (i + 1) xs)) ≡ flat_map row xs =
     ap (λ t. flat_map row (take i xs) ++ t) (sym rest) ∙ sym (flat_map-append row (take i xs) (drop i xs)) ∙ ap (flat_map row) (take-append-drop i xs) in
-    rw (← all) (front_more before mid now waited between (flat_map row (take i xs)) (row x) (flat_map row (drop (i + 1) xs)) p f)
+    rw (← all) (prefix_more before mid now waited between (flat_map row (take i xs)) (row x) (flat_map row (drop (i + 1) xs)) p f)
 
--- a cause that was met later is one of the whole
-pub cause_later : (e : PrintFault) (before mid now : ℕ) → before ≤ mid → HasPrintCause mid now e → HasPrintCause before now e
-cause_later Memory before mid now le h = tt
-cause_later Write before mid now le h = omega (arith, h, le)
+-- a prefix of a text is one of a longer text
+pub prefix_longer : (before now : Option (List ℕ)) (waited a b : List ℕ) → AppendsPrefix before now (waited ++ a) → AppendsPrefix before now (waited ++ (a ++ b))
+prefix_longer before now waited a b f = prefix_more before before now waited waited [] a b (prints_nothing before waited) f
 
--- the front of a text is that of a longer one
-pub front_longer : (before now : Option (List ℕ)) (waited a b : List ℕ) → AppendsFront before now (waited ++ a) → AppendsFront before now (waited ++ (a ++ b))
-front_longer before now waited a b f = front_more before before now waited waited [] a b (prints_nothing before waited) f
+-- a text that was printed, and then a prefix of another
+pub prefix_after : (before mid now : Option (List ℕ)) (waited between a b : List ℕ) → Prints before mid waited between a → AppendsPrefix mid now (between ++ b) → AppendsPrefix before now (waited ++ (a ++ b))
+prefix_after before mid now waited between a b p f = rw (← append-nil b) (prefix_more before mid now waited between a b [] p f)
 
--- a text that was printed, and then the front of another
-pub front_after : (before mid now : Option (List ℕ)) (waited between a b : List ℕ) → Prints before mid waited between a → AppendsFront mid now (between ++ b) → AppendsFront before now (waited ++ (a ++ b))
-front_after before mid now waited between a b p f = rw (← append-nil b) (front_more before mid now waited between a b [] p f)
-
--- a text of which the front was written as it was flushed
-pub front_flushed : (before mid now : Option (List ℕ)) (between a : List ℕ) → Prints before mid [] between a → AppendsFront mid now between → AppendsFront before now a
-front_flushed before mid now between a p f = rw (← append-nil a) (front_after before mid now [] between a [] p (rw (append-nil between) f))
+-- a text of which a prefix was written as it was flushed
+pub prefix_flushed : (before mid now : Option (List ℕ)) (between a : List ℕ) → Prints before mid [] between a → AppendsPrefix mid now (between ++ []) → AppendsPrefix before now a
+prefix_flushed before mid now between a p f = rw (← append-nil a) (prefix_after before mid now [] between a [] p f)
 
 -- a text that was printed and flushed was written
 pub flushed_all : (before mid now : Option (List ℕ)) (between waits a : List ℕ) → Prints before mid [] between a → Prints mid now between waits [] → waits ≡ [] → now ≡ append_known before a
@@ -128,3 +123,8 @@ flushed_all before mid now between waits a p q none =
   where
     ends : (n : ℕ) (xs : List ℕ) → drop n xs ≡ [] → length xs ≤ n
     ends n xs e = omega (arith, ap length e, length-drop n xs)
+
+-- a call that a fault stopped after others had met none
+pub prints_part : {S T : Type 0} (written : S → Option (List ℕ)) (faults : S → ℕ) (e : PrintFault) (old mid new : S) (held holds text : List ℕ) → faults mid ≡ faults old → faults new ≡ print_faults {T = T} (Err e) (faults mid)
+    → AppendsPrefix (written old) (written new) (held ++ text) → PrintsText {T = T} written faults (Err e) old new held holds text
+prints_part {T = T} written faults e old mid new held holds text same counted prefix = record { all = tt; prefix = prefix; counted = counted ∙ ap (print_faults {T = T} (Err e)) same }

@@ -1,43 +1,52 @@
--- The grammar of the words: `[--workers N] model FILE...`.
-use Rattle.std.specs.Prelude.{ℕ, ◌^◌, ◌==◌, ◌&&◌, List, [], ◌∷◌, length, codes, not, nat_lt, Bool, if◌then◌else◌, Option, Some, None, is_some, option_map, option_and_then}
+-- The grammar of the arguments: `[--workers N] model FILE...`.
+use Rattle.std.specs.Prelude.{ℕ, ◌^◌, ◌==◌, ◌&&◌, List, [], ◌∷◌, length, codes, not, nat_lt, Bool}
+use Rattle.std.specs.Prelude.{if◌then◌else◌, Option, Some, None, is_some, option_map}
+use Rattle.std.specs.Prelude.{option_and_then}
 use Rattle.std.specs.Option.{option_map_or}
 use Rattle.std.specs.List.{list_all}
 use Rattle.std.specs.Str.{bytes_eq}
 use Rattle.mystery_cli.specs.declared.command_line.CommandLine.{CommandLine}
 use Rattle.mystery_cli.specs.Numbers.{number_between}
 
--- what the words ask for: how many workers, and the names of the files
+-- what the arguments ask for: how many workers, and the names of the files
 pub record Call : Type 0 where
   pub workers : ℕ
   pub files : List (List ℕ)
 
--- a name of a file is any word that is not empty
+-- a file is any argument that is not empty
 abbrev pub is_file : List ℕ → Bool
 is_file word = not (length word == 0)
 
--- the files after the word model: one at least
+-- the files after the command `model`: one at least
 abbrev pub files_of_form : List (List ℕ) → Option (List (List ℕ))
-files_of_form (command ∷ file ∷ files) = if bytes_eq command (codes "model") && list_all is_file (file ∷ files) then Some (file ∷ files) else None
+files_of_form (command ∷ file ∷ files) =
+    if bytes_eq command (codes "model") && list_all is_file (file ∷ files) then Some (file ∷ files)
+    else None
 files_of_form words = None
 
 -- a call of so many workers and these files, where there are both
 abbrev pub call_with : Option ℕ → Option (List (List ℕ)) → Option Call
-call_with workers files = option_and_then (λ n. option_map (λ names. record { workers = n; files = names }) files) workers
+call_with workers files =
+    option_and_then (λ n. option_map (λ names. record { workers = n; files = names }) files) workers
 
--- the workers from 1 to 64 where the words begin with them, and else 4
+-- the number of workers, from 1 to 64, if the arguments begin with it, and otherwise 4
 abbrev pub call_of_words : List (List ℕ) → Option Call
-call_of_words (front ∷ number ∷ form) = if bytes_eq front (codes "--workers") then call_with (number_between 1 64 number) (files_of_form form) else call_with (Some 4) (files_of_form (front ∷ number ∷ form))
+call_of_words (first ∷ second ∷ form) =
+    if bytes_eq first (codes "--workers")
+    then call_with (number_between 1 64 second) (files_of_form form)
+    else call_with (Some 4) (files_of_form (first ∷ second ∷ form))
 call_of_words words = None
 
--- the call that the words are, fewer than 2 ^ 32 of them; none where they are outside the grammar
+-- the call that the arguments are, fewer than 2 ^ 32 of them; none where they are outside the
+-- grammar
 abbrev pub call_of : List (List ℕ) → Option Call
 call_of words = if nat_lt (length words) (2 ^ 32) then call_of_words words else None
 
--- the words are in the grammar
+-- the arguments are in the grammar
 abbrev pub is_in_grammar : List (List ℕ) → Bool
 is_in_grammar words = is_some (call_of words)
 
--- the files that the words name, none where they are outside the grammar
+-- the file arguments, none where the arguments are outside the grammar
 abbrev pub files_of : List (List ℕ) → List (List ℕ)
 files_of words = option_map_or (λ (call : Call). call.files) (call_of words) []
 

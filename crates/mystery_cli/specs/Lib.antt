@@ -4,8 +4,7 @@ pub mod Messages
 pub mod ModelTexts
 pub mod Models
 pub mod Numbers
-pub mod PrintFaults
 pub mod Rows
 pub mod Runs
 pub mod Texts
-pub mod Steps
+pub mod inner

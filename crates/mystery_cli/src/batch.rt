@@ -5,7 +5,7 @@ use event_lines::Line;
 use std::alloc::{AllocError, Global};
 use trace_types::Event;
 
-// Puts the event that a line is behind the others.
+/// Appends the line's event; a control line adds nothing.
 fn add_event(events: &mut Vec<Event>, line: Line) -> Result<(), AllocError>
     ensures { OnOk result (events.new.items ≡ events.old.items ++ events_in (line ∷ [])) }
 {
@@ -16,11 +16,11 @@ fn add_event(events: &mut Vec<Event>, line: Line) -> Result<(), AllocError>
     Ok(())
 }
 
-/// The events of lines, in their order.
-pub(crate) fn events_of(alloc: Global, lines: Vec<Line>) -> Result<Vec<Event>, AllocError>
+/// Collects the events of lines, in their order.
+pub(crate) fn collect_events(alloc: Global, lines: Vec<Line>) -> Result<Vec<Event>, AllocError>
     ensures { IfOk result (λ v. v.items ≡ events_in lines.items) }
 {
-    let mut events = Vec::new(alloc);
+    let mut events = Vec::with_capacity(alloc, lines.len())?;
     for line in lines {
         add_event(&mut events, line)?;
     }

@@ -1,28 +1,30 @@
-ghost use Rattle.std.specs.Prelude.{◌≡◌, ◌↔◌, ◌<◌, ◌≤◌, ◌^◌, ℕ, length, decimal, option_map, IfSome};
+ghost use Rattle.std.specs.Prelude.{◌≡◌, ◌↔◌, ◌<◌, ◌≤◌, ◌^◌, ℕ, length, decimal, option_map};
+ghost use Rattle.std.specs.Prelude.{IfSome};
 ghost use Rattle.std.specs.List.{list_all};
 ghost use Rattle.std.specs.Str.{bytes_eq};
 ghost use Rattle.mystery_cli.specs.Numbers.{number_between};
-ghost use Rattle.mystery_cli.specs.CommandLines.{is_file, files_of_form, call_of_words, call_of, plain};
+ghost use Rattle.mystery_cli.specs.CommandLines.{is_file, files_of_form, call_of_words, call_of};
+ghost use Rattle.mystery_cli.specs.CommandLines.{plain};
 
 use itoa::Buffer;
 use trace_types::Text;
 
-// How many workers there are where the words do not say.
+/// The default number of workers.
 const WORKERS: u32 = 4;
 
-// The most workers that the words may ask for.
+/// The greatest number of workers that may be asked for.
 const MAX_WORKERS: u32 = 64;
 
-/// What the words ask for.
+/// What the arguments ask for.
 #[derive(Clone, Copy, Debug)]
 pub(crate) struct CommandLine<'w> {
-    /// How many workers, from 1 to 64. It changes nothing yet.
+    /// The number of workers, from 1 to 64. It changes nothing yet.
     pub(crate) workers: u32,
     /// The names of the files, one at least.
     pub(crate) files: &'w [Text],
 }
 
-// Whether the word is the number in plain digits.
+/// Tells whether the text is the number in plain digits.
 fn is_written(number: u32, word: &str) -> bool
     ensures { result ≡ bytes_eq (decimal number) word.now }
 {
@@ -30,8 +32,8 @@ fn is_written(number: u32, word: &str) -> bool
     digits.format(number) == word
 }
 
-// The number that the word is in plain digits.
-fn plain_number(word: &str) -> Option<u32>
+/// Reads a number in plain digits.
+fn parse_plain_number(word: &str) -> Option<u32>
     ensures { (n : ℕ) → n < 2 ^ 32 → (result ≡ Some n) ↔ (decimal n ≡ word.now) }
 {
     match word.parse::<u32>() {
@@ -40,26 +42,28 @@ fn plain_number(word: &str) -> Option<u32>
     }
 }
 
-// The number of workers, from 1 to 64, that the word is.
-fn workers_of(word: &str) -> Option<u32>
+/// Reads the number of workers, from 1 to 64.
+fn parse_workers(word: &str) -> Option<u32>
     ensures { result ≡ number_between 1 64 word.now }
 {
-    match plain_number(word) {
+    match parse_plain_number(word) {
         Some(number) if 1 <= number && number <= MAX_WORKERS => Some(number),
         _ => None,
     }
 }
 
+/// Tells whether all arguments may be files.
 fn are_files(words: &[Text]) -> bool
     ensures { result ≡ list_all is_file words.now }
 {
     words.iter().all(|word| !word.as_str().is_empty())
 }
 
-// The files after the word `model`.
-fn files_of_form(words: &[Text]) -> Option<&[Text]>
+/// Finds the files after the command `model`.
+fn find_files(words: &[Text]) -> Option<&[Text]>
     ensures named { option_map (λ s. s.now) result ≡ files_of_form words.now }
     ensures few { IfSome result (λ s. length s.now ≤ length words.now) }
+    ensures some { IfSome result (λ s. 0 < length s.now) }
 {
     match words {
         [command, _, ..] if command.as_str() == "model" && are_files(&words[1..]) => {
@@ -70,10 +74,11 @@ fn files_of_form(words: &[Text]) -> Option<&[Text]>
 }
 
 impl<'w> CommandLine<'w> {
-    /// Reads the words `[--workers N] model FILE...`; `None` where they are outside the grammar.
+    /// Reads the arguments `[--workers N] model FILE...`; `None` if they are outside the grammar.
     pub(crate) fn parse(words: &'w [Text]) -> Option<CommandLine<'w>>
         ensures call { option_map plain result ≡ call_of words.now }
         ensures few { IfSome result (λ line. length line.files.now < 2 ^ 32) }
+        ensures some { IfSome result (λ line. 0 < length line.files.now) }
     {
         if u32::try_from(words.len()).is_err() {
             return None;
@@ -81,18 +86,20 @@ impl<'w> CommandLine<'w> {
         Self::parse_few(words)
     }
 
+    /// Reads fewer than 2^32 arguments.
     fn parse_few(words: &'w [Text]) -> Option<CommandLine<'w>>
         ensures call { option_map plain result ≡ call_of_words words.now }
         ensures few { IfSome result (λ line. length line.files.now ≤ length words.now) }
+        ensures some { IfSome result (λ line. 0 < length line.files.now) }
     {
         match words {
-            [front, number, ..] if front.as_str() == "--workers" => {
-                let workers = workers_of(number.as_str())?;
-                let files = files_of_form(&words[2..])?;
+            [first, number, ..] if first.as_str() == "--workers" => {
+                let workers = parse_workers(number.as_str())?;
+                let files = find_files(&words[2..])?;
                 Some(CommandLine { workers, files })
             }
             _ => {
-                let files = files_of_form(words)?;
+                let files = find_files(words)?;
                 Some(CommandLine {
                     workers: WORKERS,
                     files,

@@ -6,7 +6,7 @@ use std::alloc::{AllocError, Global};
 use std::collections::BTreeSet;
 use trace_types::Trace;
 
-/// On how many different days the traces are.
+/// Counts the distinct days of the traces.
 pub(crate) fn count_days(alloc: Global, traces: &[Trace]) -> Result<usize, AllocError>
     ensures { IfOk result (λ n. CountsDistinct n (map (λ (trace : Trace). trace.day) traces.now)) }
 {

@@ -1,10 +1,10 @@
-ghost use Rattle.std.specs.Prelude.{◌≡◌, ◌≤◌, ◌<◌, ◌+◌, ◌^◌, length, map, All, sum_by, IfOk, OnOk};
+ghost use Rattle.std.specs.Prelude.{◌≤◌, ◌<◌, ◌+◌, ◌^◌, length, map, All, sum_by, IfOk, OnOk};
 ghost use Rattle.trace_types.specs.declared.raw_trace.RawTrace.{RawTrace};
 ghost use Rattle.trace_types.specs.Batch.{plain};
 ghost use Rattle.trace_types.specs.Times.{AreTimely};
-ghost use Rattle.model_meet.specs.Naming.{segments_of};
+ghost use Rattle.trace_types.specs.Parts.{by_text, segments_of};
 ghost use Rattle.mystery_cli.specs.Models.{AreJudged};
-ghost use Rattle.mystery_cli.specs.Steps.{Judges};
+ghost use Rattle.mystery_cli.specs.inner.Steps.{Judges};
 
 use crate::Refused;
 use segment_cut::{TraceFault, cut};
@@ -20,12 +20,13 @@ pub(crate) struct JudgedTraces {
     pub(crate) refused: Vec<Refused>,
 }
 
-// Cuts a trace, and puts it behind those that are kept or those that are refused.
+/// Cuts a trace, and appends it to those that are kept or those that are refused.
 fn judge(alloc: Global, raw: &RawTrace, judged: &mut JudgedTraces) -> Result<(), AllocError>
     requires few { length raw.now.events < 2 ^ 32 }
     requires timely { AreTimely raw.now.events }
     ensures judges { OnOk result (Judges (plain raw.now) judged.old judged.new) }
-    ensures few { OnOk result (length (segments_of judged.new.kept.items) ≤ length (segments_of judged.old.kept.items) + length raw.now.events) }
+    ensures few { OnOk result (length (segments_of by_text judged.new.kept.items)
+        ≤ length (segments_of by_text judged.old.kept.items) + length raw.now.events) }
 {
     match cut(alloc, raw) {
         Ok(trace) => judged.kept.push(trace)?,
@@ -38,15 +39,16 @@ fn judge(alloc: Global, raw: &RawTrace, judged: &mut JudgedTraces) -> Result<(),
     Ok(())
 }
 
-/// Cuts the traces of a batch. The only error is want of memory.
+/// Cuts the traces of a batch. The only error is an allocation failure.
 pub(crate) fn judge_all(alloc: Global, raws: &[RawTrace]) -> Result<JudgedTraces, AllocError>
     requires few { sum_by (λ (raw : RawTrace). length raw.events) raws.now < 2 ^ 32 }
     requires timely { All (λ (raw : RawTrace). AreTimely raw.events) raws.now }
-    ensures judged { IfOk result (λ j. AreJudged (map plain raws.now) j.kept.items j.refused.items) }
-    ensures few { IfOk result (λ j. length (segments_of j.kept.items) < 2 ^ 32) }
+    ensures judged { IfOk result
+        (λ j. AreJudged (map plain raws.now) j.kept.items j.refused.items) }
+    ensures few { IfOk result (λ j. length (segments_of by_text j.kept.items) < 2 ^ 32) }
 {
     let mut judged = JudgedTraces {
-        kept: Vec::new(alloc),
+        kept: Vec::with_capacity(alloc, raws.len())?,
         refused: Vec::new(alloc),
     };
     for raw in raws {

@@ -7,6 +7,7 @@ mod batch_model;
 mod command_line;
 mod days;
 mod judged;
+pub mod laws;
 mod model_text;
 mod outcome;
 mod printing;
@@ -26,8 +27,9 @@ use trace_types::Text;
 #[cfg(test)]
 mod tests;
 
-// The words after the program's name. Where an argument is not UTF-8, the words are one empty word.
-fn words_of(rt: &HostRuntime, alloc: Global) -> Result<Vec<Text>, AllocError> {
+/// Collects the arguments after the program's name. If one is not UTF-8, the result is one empty
+/// argument, which is outside the grammar.
+fn collect_arguments(rt: &HostRuntime, alloc: Global) -> Result<Vec<Text>, AllocError> {
     let mut words = Vec::new(alloc);
     match env::args(rt) {
         Ok(args) => {
@@ -41,12 +43,13 @@ fn words_of(rt: &HostRuntime, alloc: Global) -> Result<Vec<Text>, AllocError> {
     Ok(words)
 }
 
+/// Runs the program over the real files, standard output and standard error.
 fn main(rt: HostRuntime) -> ExitCode {
     let alloc = rt.alloc();
     let mut files = RealFiles::new(&rt);
     let mut out = RealSink::new(rt.stdout());
     let mut err = RealSink::new(rt.stderr());
-    let Ok(words) = words_of(&rt, alloc) else {
+    let Ok(words) = collect_arguments(&rt, alloc) else {
         send_text(&mut err, Outcome::Memory.message().as_str().as_bytes());
         return ExitCode::from(Outcome::Memory.status());
     };

@@ -1,11 +1,10 @@
-ghost use Rattle.std.specs.Prelude.{◌≡◌, ◌≤◌, ◌++◌, length, IfErr, OnOk, OnErr};
+ghost use Rattle.std.specs.Prelude.{◌≡◌, length, OnOk, OnErr};
 ghost use Rattle.std.specs.List.{flat_map};
 ghost use Rattle.std.specs.Io.KnownBytes.{append_known};
-ghost use Rattle.mystery_io.specs.Fronts.{AppendsFront};
+ghost use Rattle.mystery_io.specs.Prefixes.{AppendsPrefix};
 ghost use Rattle.mystery_cli.specs.ModelTexts.{refused_row, header_row, pair_row};
-ghost use Rattle.mystery_cli.specs.PrintFaults.{HasPrintCause};
-ghost use Rattle.mystery_cli.specs.Rows.{Prints};
-ghost use Rattle.mystery_cli.specs.Steps.{figures_of, text_of};
+ghost use Rattle.mystery_cli.specs.inner.Printing.{print_faults, PrintsText};
+ghost use Rattle.mystery_cli.specs.inner.Steps.{figures_of, text_of};
 
 use crate::Refused;
 use crate::batch_model::BatchModel;
@@ -14,19 +13,18 @@ use model_meet::PlainPair;
 use mystery_io::Sink;
 use std::alloc::Global;
 
+/// Prints the row of a refused trace.
 fn print_refused<S: Sink>(
     out: &mut S,
-    waiting: &mut Vec<u8>,
+    buffer: &mut Vec<u8>,
     refused: &Refused,
 ) -> Result<(), PrintFault>
-    ensures all { OnOk result (Prints (S.written out.old) (S.written out.new) waiting.old.items waiting.new.items (refused_row refused.now)) }
-    ensures front { OnErr result (AppendsFront (S.written out.old) (S.written out.new) (waiting.old.items ++ refused_row refused.now)) }
-    ensures cause { IfErr result (HasPrintCause (S.faults out.old) (S.faults out.new)) }
-    ensures later { S.faults out.old ≤ S.faults out.new }
+    ensures { PrintsText S.written S.faults result out.old out.new buffer.old.items buffer.new.items
+        (refused_row refused.now) }
 {
     print_row(
         out,
-        waiting,
+        buffer,
         &[
             Field::Word("refused"),
             Field::Word(refused.request.as_str()),
@@ -36,35 +34,33 @@ fn print_refused<S: Sink>(
     )
 }
 
+/// Prints a row for each refused trace.
 fn print_all_refused<S: Sink>(
     out: &mut S,
-    waiting: &mut Vec<u8>,
+    buffer: &mut Vec<u8>,
     all: &[Refused],
 ) -> Result<(), PrintFault>
-    ensures all { OnOk result (Prints (S.written out.old) (S.written out.new) waiting.old.items waiting.new.items (flat_map refused_row all.now)) }
-    ensures front { OnErr result (AppendsFront (S.written out.old) (S.written out.new) (waiting.old.items ++ flat_map refused_row all.now)) }
-    ensures cause { IfErr result (HasPrintCause (S.faults out.old) (S.faults out.new)) }
-    ensures later { S.faults out.old ≤ S.faults out.new }
+    ensures { PrintsText S.written S.faults result out.old out.new buffer.old.items buffer.new.items
+        (flat_map refused_row all.now) }
 {
     for refused in all {
-        print_refused(out, waiting, refused)?;
+        print_refused(out, buffer, refused)?;
     }
     Ok(())
 }
 
+/// Prints the header of a model.
 fn print_header<S: Sink>(
     out: &mut S,
-    waiting: &mut Vec<u8>,
+    buffer: &mut Vec<u8>,
     model: &BatchModel,
 ) -> Result<(), PrintFault>
-    ensures all { OnOk result (Prints (S.written out.old) (S.written out.new) waiting.old.items waiting.new.items (header_row (length model.now.traces.kept.items) (figures_of model.now))) }
-    ensures front { OnErr result (AppendsFront (S.written out.old) (S.written out.new) (waiting.old.items ++ header_row (length model.now.traces.kept.items) (figures_of model.now))) }
-    ensures cause { IfErr result (HasPrintCause (S.faults out.old) (S.faults out.new)) }
-    ensures later { S.faults out.old ≤ S.faults out.new }
+    ensures { PrintsText S.written S.faults result out.old out.new buffer.old.items buffer.new.items
+        (header_row (length model.now.traces.kept.items) (figures_of model.now)) }
 {
     print_row(
         out,
-        waiting,
+        buffer,
         &[
             Field::Word("model"),
             Field::Figure("traces", model.traces.kept.len() as u64),
@@ -78,20 +74,19 @@ fn print_header<S: Sink>(
     )
 }
 
+/// Prints the row of a pair of names, which begins with this word.
 fn print_pair<S: Sink>(
     out: &mut S,
-    waiting: &mut Vec<u8>,
+    buffer: &mut Vec<u8>,
     word: &str,
     pair: &PlainPair,
 ) -> Result<(), PrintFault>
-    ensures all { OnOk result (Prints (S.written out.old) (S.written out.new) waiting.old.items waiting.new.items (pair_row word.now pair.now)) }
-    ensures front { OnErr result (AppendsFront (S.written out.old) (S.written out.new) (waiting.old.items ++ pair_row word.now pair.now)) }
-    ensures cause { IfErr result (HasPrintCause (S.faults out.old) (S.faults out.new)) }
-    ensures later { S.faults out.old ≤ S.faults out.new }
+    ensures { PrintsText S.written S.faults result out.old out.new buffer.old.items buffer.new.items
+        (pair_row word.now pair.now) }
 {
     print_row(
         out,
-        waiting,
+        buffer,
         &[
             Field::Word(word),
             Field::Word(pair.first.task.as_str()),
@@ -104,55 +99,53 @@ fn print_pair<S: Sink>(
     )
 }
 
+/// Prints a row for each pair.
 fn print_pairs<S: Sink>(
     out: &mut S,
-    waiting: &mut Vec<u8>,
+    buffer: &mut Vec<u8>,
     word: &str,
     pairs: &[PlainPair],
 ) -> Result<(), PrintFault>
-    ensures all { OnOk result (Prints (S.written out.old) (S.written out.new) waiting.old.items waiting.new.items (flat_map (pair_row word.now) pairs.now)) }
-    ensures front { OnErr result (AppendsFront (S.written out.old) (S.written out.new) (waiting.old.items ++ flat_map (pair_row word.now) pairs.now)) }
-    ensures cause { IfErr result (HasPrintCause (S.faults out.old) (S.faults out.new)) }
-    ensures later { S.faults out.old ≤ S.faults out.new }
+    ensures { PrintsText S.written S.faults result out.old out.new buffer.old.items buffer.new.items
+        (flat_map (pair_row word.now) pairs.now) }
 {
     for pair in pairs {
-        print_pair(out, waiting, word, pair)?;
+        print_pair(out, buffer, word, pair)?;
     }
     Ok(())
 }
 
-// Prints the rows of a model: they are written, or wait to be.
+/// Prints the rows of a model; the last of them may still be in the buffer.
 fn print_rows<S: Sink>(
     out: &mut S,
-    waiting: &mut Vec<u8>,
+    buffer: &mut Vec<u8>,
     model: &BatchModel,
 ) -> Result<(), PrintFault>
-    ensures all { OnOk result (Prints (S.written out.old) (S.written out.new) waiting.old.items waiting.new.items (text_of model.now)) }
-    ensures front { OnErr result (AppendsFront (S.written out.old) (S.written out.new) (waiting.old.items ++ text_of model.now)) }
-    ensures cause { IfErr result (HasPrintCause (S.faults out.old) (S.faults out.new)) }
-    ensures later { S.faults out.old ≤ S.faults out.new }
+    ensures { PrintsText S.written S.faults result out.old out.new buffer.old.items buffer.new.items
+        (text_of model.now) }
 {
-    print_all_refused(out, waiting, &model.traces.refused)?;
-    print_header(out, waiting, model)?;
-    print_pairs(out, waiting, "hb", model.model.hb.items())?;
-    print_pairs(out, waiting, "mx", model.model.mx.items())?;
+    print_all_refused(out, buffer, &model.traces.refused)?;
+    print_header(out, buffer, model)?;
+    print_pairs(out, buffer, "hb", model.model.hb.items())?;
+    print_pairs(out, buffer, "mx", model.model.mx.items())?;
     Ok(())
 }
 
 /// Prints a model: a row for each refused trace, the header, a row for each pair of which the first
-/// happens before the second, and a row for each that exclude each other.
+/// happens before the second, and a row for each mutually exclusive pair.
 pub(crate) fn print_model<S: Sink>(
     alloc: Global,
     out: &mut S,
     model: &BatchModel,
 ) -> Result<(), PrintFault>
-    ensures all { OnOk result (S.written out.new ≡ append_known (S.written out.old) (text_of model.now)) }
-    ensures front { OnErr result (AppendsFront (S.written out.old) (S.written out.new) (text_of model.now)) }
-    ensures cause { IfErr result (HasPrintCause (S.faults out.old) (S.faults out.new)) }
-    ensures later { S.faults out.old ≤ S.faults out.new }
+    ensures all { OnOk result
+        (S.written out.new ≡ append_known (S.written out.old) (text_of model.now)) }
+    ensures prefix { OnErr result
+        (AppendsPrefix (S.written out.old) (S.written out.new) (text_of model.now)) }
+    ensures counted { S.faults out.new ≡ print_faults result (S.faults out.old) }
 {
-    let mut waiting = Vec::new(alloc);
-    print_rows(out, &mut waiting, model)?;
-    flush(out, &mut waiting)?;
+    let mut buffer = Vec::new(alloc);
+    print_rows(out, &mut buffer, model)?;
+    flush(out, &mut buffer)?;
     Ok(())
 }

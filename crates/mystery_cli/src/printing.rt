@@ -1,20 +1,19 @@
-ghost use Rattle.std.specs.Prelude.{◌≡◌, ◌≤◌, ◌++◌, ◌∷◌, [], map, decimal, IfErr, OnOk, OnErr};
+ghost use Rattle.std.specs.Prelude.{◌≡◌, ◌++◌, ◌∷◌, [], map, decimal, OnOk};
 ghost use Rattle.std.specs.List.{flat_map, join_with_byte};
-ghost use Rattle.mystery_io.specs.Fronts.{AppendsFront};
-ghost use Rattle.mystery_cli.specs.PrintFaults.{HasPrintCause};
-ghost use Rattle.mystery_cli.specs.Rows.{field_text, row_of, Prints};
+ghost use Rattle.mystery_cli.specs.Rows.{field_text, row_of};
+ghost use Rattle.mystery_cli.specs.inner.Printing.{PrintsText};
 
 use itoa::Buffer;
 use mystery_io::{Failed, Sink, write_text};
 use std::alloc::{AllocError, AllocFailed};
 
-// From how many bytes on what waits is written.
+/// Flush the buffer at this size.
 const ENOUGH: usize = 65_536;
 
 /// A field of a row.
 #[derive(Clone, Copy, Debug)]
 pub(crate) enum Field<'t> {
-    /// A word as it is.
+    /// A text as it is.
     Word(&'t str),
     /// A number in plain digits.
     Number(u64),
@@ -25,7 +24,7 @@ pub(crate) enum Field<'t> {
 /// Why a text was not printed to its end.
 #[derive(Clone, Copy, Debug, PartialEq, Eq)]
 pub(crate) enum PrintFault {
-    /// There was no memory.
+    /// An allocation failed.
     Memory,
     /// A write failed.
     Write,
@@ -64,84 +63,86 @@ impl From<Failed> for PrintFault {
     }
 }
 
-fn put_number(waiting: &mut Vec<u8>, number: u64) -> Result<(), AllocError>
-    ensures { OnOk result (waiting.new.items ≡ waiting.old.items ++ decimal number) }
+/// Appends a number in plain digits.
+fn put_number(buffer: &mut Vec<u8>, number: u64) -> Result<(), AllocError>
+    ensures { OnOk result (buffer.new.items ≡ buffer.old.items ++ decimal number) }
 {
     let mut digits = Buffer::new();
-    waiting.extend_from_slice(digits.format(number).as_bytes())
+    buffer.extend_from_slice(digits.format(number).as_bytes())
 }
 
-fn put_field(waiting: &mut Vec<u8>, field: &Field<'_>) -> Result<(), AllocError>
-    ensures { OnOk result (waiting.new.items ≡ waiting.old.items ++ field_text field.now) }
+/// Appends a field.
+fn put_field(buffer: &mut Vec<u8>, field: &Field<'_>) -> Result<(), AllocError>
+    ensures { OnOk result (buffer.new.items ≡ buffer.old.items ++ field_text field.now) }
 {
     match field {
-        Field::Word(word) => waiting.extend_from_slice(word.as_bytes()),
-        Field::Number(number) => put_number(waiting, *number),
+        Field::Word(word) => buffer.extend_from_slice(word.as_bytes()),
+        Field::Number(number) => put_number(buffer, *number),
         Field::Figure(name, number) => {
-            waiting.extend_from_slice(name.as_bytes())?;
-            waiting.push(b'=')?;
-            put_number(waiting, *number)
+            buffer.extend_from_slice(name.as_bytes())?;
+            buffer.push(b'=')?;
+            put_number(buffer, *number)
         }
     }
 }
 
-// Puts fields, each behind a tab.
-fn put_rest(waiting: &mut Vec<u8>, fields: &[Field<'_>]) -> Result<(), AllocError>
-    ensures { OnOk result (waiting.new.items ≡ waiting.old.items ++ flat_map (λ f. 9 ∷ field_text f) fields.now) }
+/// Appends fields, each after a tab.
+fn put_rest(buffer: &mut Vec<u8>, fields: &[Field<'_>]) -> Result<(), AllocError>
+    ensures { OnOk result (buffer.new.items ≡ buffer.old.items
+        ++ flat_map (λ f. 9 ∷ field_text f) fields.now) }
 {
     for field in fields {
-        waiting.push(b'\t')?;
-        put_field(waiting, field)?;
+        buffer.push(b'\t')?;
+        put_field(buffer, field)?;
     }
     Ok(())
 }
 
-// Puts fields with a tab between each two.
-fn put_fields(waiting: &mut Vec<u8>, fields: &[Field<'_>]) -> Result<(), AllocError>
-    ensures { OnOk result (waiting.new.items ≡ waiting.old.items ++ join_with_byte 9 (map field_text fields.now)) }
+/// Appends fields, tab-separated.
+fn put_fields(buffer: &mut Vec<u8>, fields: &[Field<'_>]) -> Result<(), AllocError>
+    ensures { OnOk result (buffer.new.items ≡ buffer.old.items
+        ++ join_with_byte 9 (map field_text fields.now)) }
 {
     let [first, rest @ ..] = fields else {
         return Ok(());
     };
-    put_field(waiting, first)?;
-    put_rest(waiting, rest)?;
+    put_field(buffer, first)?;
+    put_rest(buffer, rest)?;
     Ok(())
 }
 
-fn put_row(waiting: &mut Vec<u8>, fields: &[Field<'_>]) -> Result<(), AllocError>
-    ensures { OnOk result (waiting.new.items ≡ waiting.old.items ++ row_of (map field_text fields.now)) }
+/// Appends a row.
+fn put_row(buffer: &mut Vec<u8>, fields: &[Field<'_>]) -> Result<(), AllocError>
+    ensures { OnOk result (buffer.new.items ≡ buffer.old.items
+        ++ row_of (map field_text fields.now)) }
 {
-    put_fields(waiting, fields)?;
-    Ok(waiting.push(b'\n')?)
+    put_fields(buffer, fields)?;
+    Ok(buffer.push(b'\n')?)
 }
 
-/// Writes what waits. Nothing waits afterwards.
-pub(crate) fn flush<S: Sink>(sink: &mut S, waiting: &mut Vec<u8>) -> Result<(), PrintFault>
-    ensures all { OnOk result (Prints (S.written sink.old) (S.written sink.new) waiting.old.items waiting.new.items []) }
-    ensures none { OnOk result (waiting.new.items ≡ []) }
-    ensures front { OnErr result (AppendsFront (S.written sink.old) (S.written sink.new) waiting.old.items) }
-    ensures cause { IfErr result (HasPrintCause (S.faults sink.old) (S.faults sink.new)) }
-    ensures later { S.faults sink.old ≤ S.faults sink.new }
+/// Writes the buffer and empties it.
+pub(crate) fn flush<S: Sink>(sink: &mut S, buffer: &mut Vec<u8>) -> Result<(), PrintFault>
+    ensures prints { PrintsText S.written S.faults result sink.old sink.new buffer.old.items
+        buffer.new.items [] }
+    ensures none { OnOk result (buffer.new.items ≡ []) }
 {
-    write_text(sink, waiting)?;
-    waiting.clear();
+    write_text(sink, buffer)?;
+    buffer.clear();
     Ok(())
 }
 
-/// Prints a row: it waits behind what waits, and once that is long it is written.
+/// Appends a row to the buffer and flushes it when full.
 pub(crate) fn print_row<S: Sink>(
     sink: &mut S,
-    waiting: &mut Vec<u8>,
+    buffer: &mut Vec<u8>,
     fields: &[Field<'_>],
 ) -> Result<(), PrintFault>
-    ensures all { OnOk result (Prints (S.written sink.old) (S.written sink.new) waiting.old.items waiting.new.items (row_of (map field_text fields.now))) }
-    ensures front { OnErr result (AppendsFront (S.written sink.old) (S.written sink.new) (waiting.old.items ++ row_of (map field_text fields.now))) }
-    ensures cause { IfErr result (HasPrintCause (S.faults sink.old) (S.faults sink.new)) }
-    ensures later { S.faults sink.old ≤ S.faults sink.new }
+    ensures { PrintsText S.written S.faults result sink.old sink.new buffer.old.items
+        buffer.new.items (row_of (map field_text fields.now)) }
 {
-    put_row(waiting, fields)?;
-    if waiting.len() >= ENOUGH {
-        flush(sink, waiting)?;
+    put_row(buffer, fields)?;
+    if buffer.len() >= ENOUGH {
+        flush(sink, buffer)?;
     }
     Ok(())
 }

@@ -1,6 +1,7 @@
 mod faults;
 mod models;
 mod page_load;
+mod real;
 
 use crate::run;
 use mystery_io::{ByteList, MemFile, MemFiles, MemSink, OpenGate};
@@ -15,6 +16,7 @@ pub(crate) const EMPTY: &[u8] =
 
 pub(crate) const ROOM: usize = 65_536;
 
+/// Makes the list of these arguments.
 pub(crate) fn texts(alloc: Global, words: &[&str]) -> Result<Vec<Text>, AllocError> {
     let mut all = Vec::new(alloc);
     for word in words {
@@ -23,6 +25,7 @@ pub(crate) fn texts(alloc: Global, words: &[&str]) -> Result<Vec<Text>, AllocErr
     Ok(all)
 }
 
+/// Makes a file in memory.
 pub(crate) fn mem_file(alloc: Global, name: &str, bytes: &[u8]) -> Result<MemFile, AllocError> {
     Ok(MemFile {
         name: Text::new(alloc, name)?,
@@ -30,8 +33,9 @@ pub(crate) fn mem_file(alloc: Global, name: &str, bytes: &[u8]) -> Result<MemFil
     })
 }
 
-// What a run meets: its words, the files `f` and `g`, the calls on files, on `out` and on `err` that
-// fail, and how many bytes a write to `out` takes.
+/// What a run meets: its arguments, the files `f` and `g`, the calls on files, on `out` and on
+/// `err`
+/// that fail, and how many bytes a write to `out` takes.
 #[derive(Clone, Copy)]
 pub(crate) struct Setting<'t> {
     pub(crate) words: &'t [&'t str],
@@ -53,7 +57,7 @@ pub(crate) const SETTING: Setting<'static> = Setting {
     err_failing: 0,
 };
 
-// Runs over files and sinks in memory and compares the status and what was written.
+/// Runs over files and sinks in memory and compares the status and what was written.
 pub(crate) fn expect<R: Threads + Sync + Abort>(
     rt: &R,
     alloc: Global,

@@ -1,10 +1,10 @@
 -- Pieces of told bytes, one after another.
-use Rattle.std.proofs.Common.{◌≡◌, ℕ, ◌+◌, ◌++◌, List, length, take, drop, Option, Some, None, refl, ap, append_assoc, sym, ◌∙◌, arith}
+use Rattle.std.proofs.Common.{◌≡◌, ℕ, ◌+◌, ◌++◌, List, take, drop, Option, Some, None, refl, ap, append_assoc, sym, ◌∙◌, inl, inr}
 use Rattle.std.proofs.Math.Seq.{take-add}
 use Rattle.std.specs.Prelude.{IfSome, Result, Ok, Err, OnOk, OnErr}
-use Rattle.mystery_io.specs.Counts.{HasCause}
-use Rattle.mystery_io.specs.Fronts.{AppendsFront, Sends}
-use Rattle.std.proofs.lemmas.List.{take_all, append-nil}
+use Rattle.mystery_io.specs.Counts.{faults_after}
+use Rattle.mystery_io.specs.Prefixes.{AppendsPrefix, Sends}
+use Rattle.std.proofs.lemmas.List.{append-nil}
 use Rattle.std.specs.Io.KnownBytes.{append_known, prepend_known, IsAtEnd}
 
 -- two pieces are one
@@ -25,17 +25,7 @@ prepend_at_end a b (Some xs) None e h = cc
 prepend_at_end a b (Some xs) (Some ys) e h = let k : a ++ xs ≡ b ++ ys = cc in sym (append-nil b) ∙ sym (ap (λ ys. b ++ ys) h) ∙ sym k
 
 -- what was sent, whatever the call answered
-pub sends_by : {T E : Type 0} (r : Result T E) (old new : Option (List ℕ)) (bytes : List ℕ) (before now : ℕ) → OnOk r (new ≡ append_known old bytes)
-    → OnErr r (AppendsFront old new bytes) → HasCause before now r → Sends old new bytes before now
-sends_by (Ok x) old new bytes before now all part cause = record {
-  count = length bytes;
-  sent = all ∙ ap (append_known old) (sym (take_all (length bytes) bytes (omega arith)));
-  whole = λ h. absurd (omega (arith, h));
-  later = cause.later;
-}
-sends_by (Err e) old new bytes before now all part cause = record {
-  count = part.count;
-  sent = part.appended;
-  whole = λ h. cause.failed;
-  later = cause.later;
-}
+pub sends_by : {T E S : Type 0} (r : Result T E) (written : S → Option (List ℕ)) (faults : S → ℕ) (old new : S) (bytes : List ℕ) → OnOk r (written new ≡ append_known (written old) bytes)
+    → OnErr r (AppendsPrefix (written old) (written new) bytes) → faults new ≡ faults_after r (faults old) → Sends written faults old new bytes
+sends_by (Ok x) written faults old new bytes all part counted = inl (all, counted)
+sends_by (Err e) written faults old new bytes all part counted = inr (part, counted)

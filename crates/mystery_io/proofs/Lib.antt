@@ -1,4 +1,5 @@
 pub mod FaultLemmas
 pub mod KnownLemmas
+pub mod NameLemmas
 pub mod NamedLemmas
 pub mod InputLemmas

@@ -1,19 +1,15 @@
 -- The states of files in memory.
-use Rattle.std.specs.Prelude.{ℕ, List}
+use Rattle.std.specs.Prelude.{ℕ, Bool, List}
 use Rattle.mystery_io.specs.declared.mem_file.MemFile.{MemFile}
 
--- files, and what is left of the one that is open
-pub record OpenState : Type 0 where
-  pub files : List MemFile
-  pub left : List ℕ
-
 -- files of which a read gives at most so many bytes, the numbers of the calls that fail, what is
--- left of the file that is open, and how many calls, opens and faults there were
+-- left of the open file and whether one is open, and how many calls, opens and faults there were
 pub record FilesState : Type 0 where
   pub files : List MemFile
   pub most : ℕ
   pub failing : List ℕ
   pub left : List ℕ
+  pub is_open : Bool
   pub calls : ℕ
   pub opens : ℕ
   pub faults : ℕ
@@ -22,4 +18,5 @@ pub record FilesState : Type 0 where
 pub record SureState : Type 0 where
   pub files : List MemFile
   pub left : List ℕ
+  pub is_open : Bool
   pub opens : ℕ

@@ -1,6 +1,11 @@
 -- The input: the bytes of files, one file after another, each ending its last line.
-use Rattle.std.specs.Prelude.{ℕ, ◌-◌, List, [], ◌∷◌, ◌++◌, ◌==◌, ◌||◌, length, slice_index, Bool, if◌then◌else◌}
+use Rattle.std.specs.Prelude.{ℕ, ◌-◌, List, [], ◌∷◌, ◌++◌, ◌==◌, ◌||◌, length, slice_index, Bool}
+use Rattle.std.specs.Prelude.{if◌then◌else◌}
 use Rattle.std.specs.List.{flat_map}
+
+-- the most bytes that an input may have: 64 MiB
+abbrev pub input_limit : ℕ
+input_limit = 67108864
 
 -- the bytes are none, or their last is a line feed
 abbrev pub ends_line : List ℕ → Bool

@@ -1,7 +1,9 @@
 pub mod Counts
 pub mod FilesState
-pub mod Fronts
 pub mod Input
 pub mod NamedBytes
+pub mod Prefixes
 pub mod ReadFaults
+pub mod RealObjects
 pub mod SinkState
+pub mod inner

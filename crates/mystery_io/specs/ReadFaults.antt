@@ -1,63 +1,72 @@
--- What a fault of reading tells of the files.
-use Rattle.std.specs.Prelude.{◌≡◌, ℕ, List, [], Option, Some, IfSome, ◌+◌, ◌<◌, ◌≤◌, length, take, get_or, option_map, ⊤}
-use Rattle.mystery_io.specs.Input.{ended, input_of}
+-- Which files were opened, and why the input was not read.
+use Rattle.std.specs.Prelude.{◌≡◌, ℕ, Bool, true, List, [], ◌++◌, Option, IfSome, Result, Ok, Err}
+use Rattle.std.specs.Prelude.{◌+◌, ◌<◌, ◌≤◌, length, take, get_or, option_map}
+use Rattle.mystery_io.specs.Input.{input_of, input_limit}
 use Rattle.mystery_io.specs.declared.reading.ReadFault.{ReadFault}
 use Rattle.mystery_io.specs.declared.reading.ReadFault.TheVariants.{Memory, File, TooBig}
-use Rattle.mystery_io.specs.declared.reading.TheConstants.{MAX_INPUT}
-use Rattle.mystery_io.specs.Counts.{Rose, CountsCalls}
+use Rattle.mystery_io.specs.Counts.{CountsCalls, counted_up}
 
--- after so many bytes, the content passes the size, where it is told
-abbrev pub PassesSize : ℕ → Option (List ℕ) → Type 0
-PassesSize count content = IfSome content (λ bytes. MAX_INPUT < count + length bytes)
+-- the names that were opened, and then these
+abbrev pub append_names : Option (List (List ℕ)) → List (List ℕ) → Option (List (List ℕ))
+append_names known names = option_map (λ past. past ++ names) known
 
--- where something is left of the content, the bytes before it do not pass the size
-abbrev pub FitsBefore : ℕ → Option (List ℕ) → Option (List ℕ) → Type 0
-FitsBefore count content left = IfSome content (λ bytes. IfSome left (λ rest. 0 < length rest → count + length bytes ≤ MAX_INPUT + length rest))
-
--- what a fault tells of the file at an index, so many bytes standing before its content
-abbrev pub HasFileCause : ℕ → ℕ → Option (List ℕ) → Option (List ℕ) → ℕ → ℕ → ReadFault → Type 0
-HasFileCause index count content left before now Memory = ⊤
-HasFileCause index count content left before now (File i) = (i ≡ index) × Rose before now × FitsBefore count content left
-HasFileCause index count content left before now TooBig = PassesSize count content
-
--- the same where the content ends its last line
-abbrev pub HasEndedCause : ℕ → ℕ → Option (List ℕ) → Option (List ℕ) → ℕ → ℕ → ReadFault → Type 0
-HasEndedCause index count content left before now Memory = ⊤
-HasEndedCause index count content left before now (File i) = (i ≡ index) × Rose before now × FitsBefore count content left
-HasEndedCause index count content left before now TooBig = PassesSize count (option_map ended content)
-
--- the line feed that ends the bytes passes the size
-abbrev pub IsPassedByFeed : List ℕ → ReadFault → Type 0
-IsPassedByFeed bytes Memory = ⊤
-IsPassedByFeed bytes (File i) = ⊥
-IsPassedByFeed bytes TooBig = MAX_INPUT < length (ended bytes)
-
--- what a call saw of the files: their contents, what is left at its end, and its counts before and now
+-- what a call saw of the files: their contents, what is left at its end and whether a file is open
+-- then, and the names that were opened and their number, before and now
 pub record FilesSeen : Type 0 where
   pub contents : Option (List ℕ → List ℕ)
   pub left : Option (List ℕ)
+  pub is_open : Bool
+  pub names_before : Option (List (List ℕ))
+  pub names_now : Option (List (List ℕ))
   pub opens_before : ℕ
   pub opens_now : ℕ
-  pub faults_before : ℕ
-  pub faults_now : ℕ
 
--- the file at an index failed: the count rose, as many files were opened as stand up to it, the input of those before it is within the size, and so is what was read of it, as far as something of it is left
+-- the same, by the meanings of `Files` and its states before and now
+abbrev pub files_seen : {F : Type 0} → (F → Option (List ℕ → List ℕ)) → (F → Option (List ℕ))
+    → (F → Bool) → (F → Option (List (List ℕ))) → (F → ℕ) → F → F → FilesSeen
+files_seen contents left is_open names opens old new = record {
+  contents = contents old;
+  left = left new;
+  is_open = is_open new;
+  names_before = names old;
+  names_now = names new;
+  opens_before = opens old;
+  opens_now = opens new;
+}
+
+-- exactly the first files of the list were opened, so many, one after another
+pub record OpensFirst (seen : FilesSeen) (names : List (List ℕ)) (count : ℕ) : Type 0 where
+  pub within : count ≤ length names
+  pub counted : CountsCalls count seen.opens_before seen.opens_now
+  pub named : seen.names_now ≡ append_names seen.names_before (take count names)
+
+-- the file at an index could not be opened or read: it was the last to be opened, the input of the
+-- files before it is within the limit, and so it is with the bytes that were taken of it, which is
+-- all of its content but what is left
 pub record FailedAt (seen : FilesSeen) (names : List (List ℕ)) (index : ℕ) : Type 0 where
-  pub named : index < length names
-  pub opened : CountsCalls (index + 1) seen.opens_before seen.opens_now
-  pub rose : Rose seen.faults_before seen.faults_now
-  pub fits : IfSome seen.contents (λ c. length (input_of c (take index names)) ≤ MAX_INPUT)
-  pub before : IfSome seen.contents (λ c. FitsBefore (length (input_of c (take index names))) (Some (c (get_or names index []))) seen.left)
+  pub opened : OpensFirst seen names (index + 1)
+  pub fits : IfSome seen.contents (λ c. length (input_of c (take index names)) ≤ input_limit)
+  pub taken : IfSome seen.contents (λ c. IfSome seen.left (λ rest. seen.is_open ≡ true
+      → length (input_of c (take index names)) + length (c (get_or names index []))
+      ≤ input_limit + length rest))
 
--- the size is passed in the file at an index: it was the last to be opened, the input of the files before it is within the size, and that with it is not
+-- the input passes the limit in the file at an index: it was the last to be opened, the input of
+-- the files before it is within the limit, and the input with it is not
 pub record PassedAt (seen : FilesSeen) (names : List (List ℕ)) (index : ℕ) : Type 0 where
-  pub named : index < length names
-  pub opened : CountsCalls (index + 1) seen.opens_before seen.opens_now
-  pub fits : IfSome seen.contents (λ c. length (input_of c (take index names)) ≤ MAX_INPUT)
-  pub passes : IfSome seen.contents (λ c. MAX_INPUT < length (input_of c (take (index + 1) names)))
+  pub opened : OpensFirst seen names (index + 1)
+  pub fits : IfSome seen.contents (λ c. length (input_of c (take index names)) ≤ input_limit)
+  pub passes : IfSome seen.contents
+      (λ c. input_limit < length (input_of c (take (index + 1) names)))
 
 -- why the input was not read
 abbrev pub HasReadCause : FilesSeen → List (List ℕ) → ReadFault → Type 0
-HasReadCause seen names Memory = ⊤
+HasReadCause seen names Memory = (count : ℕ) × OpensFirst seen names count
 HasReadCause seen names (File index) = FailedAt seen names index
 HasReadCause seen names TooBig = (index : ℕ) × PassedAt seen names index
+
+-- the count of faults after reading: one more where a file failed, and unchanged otherwise
+abbrev pub read_faults : {T : Type 0} → Result T ReadFault → ℕ → ℕ
+read_faults (Ok x) count = count
+read_faults (Err Memory) count = count
+read_faults (Err (File index)) count = counted_up count
+read_faults (Err TooBig) count = count

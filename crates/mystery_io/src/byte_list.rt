@@ -17,21 +17,21 @@ impl Model for ByteList {
 }
 
 impl ByteList {
-    /// The list of these bytes. It takes no memory.
+    /// Makes the list of these bytes, without allocating.
     pub fn of(items: Vec<u8>) -> ByteList
         ensures { result ≡ items.items }
     {
         ByteList { items }
     }
 
-    /// The bytes, by place.
+    /// Returns the bytes by index.
     pub fn items(&self) -> &[u8]
         ensures { result.now ≡ self.now }
     {
         &self.items
     }
 
-    /// The bytes, given back without taking memory.
+    /// Gives the bytes back, without allocating.
     pub fn into_items(self) -> Vec<u8>
         ensures { result.items ≡ self }
     {

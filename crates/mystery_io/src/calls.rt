@@ -1,7 +1,7 @@
 ghost use Rattle.std.specs.Prelude.{◌≡◌};
 ghost use Rattle.mystery_io.specs.Counts.{is_planned};
 
-/// Whether the call with this number is among those that fail.
+/// Tells whether the call with this number is among those that fail.
 pub(crate) fn is_planned(failing: &[u32], call: u64) -> bool
     ensures { result ≡ is_planned failing.now call }
 {

@@ -1,6 +1,6 @@
 /// A gate that a worker passes before each trace that it offers.
 pub trait Gate {
-    /// Lets the worker pass, perhaps after waiting. `trace` is the number of the trace in the
+    /// Lets the worker pass, perhaps after waiting. `trace` is the index of the trace in the
     /// worker's list, from 0.
     fn turn(&self, worker: u32, trace: u32);
 }

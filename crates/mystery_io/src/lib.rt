@@ -8,6 +8,7 @@ mod byte_list;
 mod calls;
 mod files;
 mod gate;
+pub mod laws;
 mod mem_file;
 mod mem_files;
 mod mem_sink;

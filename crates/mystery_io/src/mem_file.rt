@@ -4,8 +4,8 @@ use trace_types::Text;
 /// A file in memory.
 #[derive(Debug, Drop)]
 pub struct MemFile {
-    /// Its name. Of equal names in a list of files the first counts.
+    /// Its name. If several files of a list share a name, the first is used.
     pub name: Text,
-    /// What it holds.
+    /// Its content.
     pub bytes: ByteList,
 }

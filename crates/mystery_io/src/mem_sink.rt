@@ -1,6 +1,8 @@
-ghost use Rattle.std.specs.Prelude.{◌≡◌, ◌+◌, ◌-◌, ◌<◌, ◌≤◌, ◌++◌, List, ℕ, [], Some, length, take, min, IfOk, OnOk, OnErr, is_err, ◌||◌, ◌==◌, vec_len, vec_capacity};
+ghost use Rattle.std.specs.Prelude.{◌≡◌, ◌+◌, ◌-◌, ◌<◌, ◌≤◌, ◌++◌, [], Some, length, take};
+ghost use Rattle.std.specs.Prelude.{min, IfOk, OnErr, is_err, ◌||◌, ◌==◌, vec_len};
+ghost use Rattle.std.specs.Prelude.{vec_capacity};
 ghost use Rattle.std.specs.Io.KnownBytes.{append_known};
-ghost use Rattle.mystery_io.specs.Counts.{counted_up, is_planned, HasCause};
+ghost use Rattle.mystery_io.specs.Counts.{counted_up, is_planned, faults_after};
 
 use crate::calls::is_planned;
 use crate::{Failed, Sink};
@@ -10,7 +12,7 @@ use std::marker::Model;
 /// A sink in memory that tells what was written, and fails as planned.
 ///
 /// The writes are numbered from 1. A write fails exactly where its number is among those that fail
-/// or no room is left. No write takes memory.
+/// or no room is left. No write allocates.
 #[derive(Debug, Drop)]
 pub struct MemSink {
     bytes: Vec<u8>,
@@ -44,8 +46,9 @@ impl Model for MemSink {
 }
 
 impl MemSink {
-    /// An empty sink with room for `room` bytes in all. A write takes at most `most` bytes, and
-    /// `failing` has the numbers of the writes that fail. The only error is want of memory.
+    /// Makes an empty sink with room for `room` bytes in all. A write takes at most `most` bytes,
+    /// and `failing` has the numbers of the writes that fail. The only error is an allocation
+    /// failure.
     pub fn new(
         alloc: Global,
         most: usize,
@@ -53,7 +56,15 @@ impl MemSink {
         room: usize,
     ) -> Result<MemSink, AllocError>
         requires { 0 < most }
-        ensures { IfOk result (λ s. s ≡ record { bytes = []; most = most; failing = failing.items; room = room; calls = 0; faults = 0 }) }
+        ensures { IfOk result (λ s. s
+            ≡ record {
+              bytes = [];
+              most = most;
+              failing = failing.items;
+              room = room;
+              calls = 0;
+              faults = 0;
+            }) }
     {
         Ok(MemSink {
             bytes: Vec::with_capacity(alloc, room)?,
@@ -65,7 +76,7 @@ impl MemSink {
         })
     }
 
-    /// All bytes that were written.
+    /// Returns all bytes that were written.
     pub fn bytes(&self) -> &[u8]
         ensures { result.now ≡ self.now.bytes }
     {
@@ -82,13 +93,21 @@ impl Sink for MemSink {
         requires { 0 < length piece.now }
         ensures some { IfOk result (λ n. 0 < n) }
         ensures within { IfOk result (λ n. n ≤ length piece.now) }
-        ensures appends { IfOk result (λ n. Some self.new.bytes ≡ append_known (Some self.old.bytes) (take n piece.now)) }
+        ensures appends { IfOk result
+            (λ n. Some self.new.bytes ≡ append_known (Some self.old.bytes) (take n piece.now)) }
         ensures stays { OnErr result (Some self.new.bytes ≡ Some self.old.bytes) }
-        ensures cause { HasCause self.old.faults self.new.faults result }
-        ensures fails { is_err result ≡ (is_planned self.old.failing (counted_up self.old.calls) || (length self.old.bytes == self.old.room)) }
-        ensures count { IfOk result (λ n. n ≡ min (min self.old.most (length piece.now)) (self.old.room - length self.old.bytes)) }
-        ensures same { self.new ≡ record self.old { bytes = self.new.bytes; calls = counted_up self.old.calls; faults = self.new.faults } }
-        ensures quiet { OnOk result (self.new.faults ≡ self.old.faults) }
+        ensures counted { self.new.faults ≡ faults_after result self.old.faults }
+        ensures fails { is_err result
+            ≡ (is_planned self.old.failing (counted_up self.old.calls)
+            || (length self.old.bytes == self.old.room)) }
+        ensures count { IfOk result
+            (λ n. n ≡ min (min self.old.most (length piece.now))
+            (self.old.room - length self.old.bytes)) }
+        ensures same { self.new ≡ record self.old {
+          bytes = self.new.bytes;
+          calls = counted_up self.old.calls;
+          faults = self.new.faults;
+        } }
     {
         self.calls = self.calls.saturating_add(1);
         let planned = is_planned(&self.failing, self.calls);
@@ -103,7 +122,7 @@ impl Sink for MemSink {
     }
 }
 
-// Appends bytes that there is room for, and so without taking memory.
+/// Appends bytes that there is room for, and so without allocating.
 fn append_in_room(bytes: &mut Vec<u8>, piece: &[u8])
     requires { vec_len bytes.old + length piece.now ≤ vec_capacity bytes.old }
     ensures items { bytes.new.items ≡ bytes.old.items ++ piece.now }

@@ -1,24 +1,32 @@
-ghost use Rattle.std.specs.Prelude.{◌≡◌, None};
+ghost use Rattle.std.specs.Prelude.{◌≡◌, ◌<◌, ◌≤◌, None, length, take, is_some, IfOk, OnErr};
+ghost use Rattle.std.specs.Io.KnownBytes.{prepend_known, Consumes, IsAtEnd, Keeps};
+ghost use Rattle.mystery_io.specs.Counts.{faults_after};
 
 use crate::{Failed, Files};
 use std::fs;
 use std::io::Read;
 
-/// The real files, read through the runtime. It does not tell what they hold.
+/// The real files, read through the runtime. They do not tell what they hold; the clauses of
+/// `read` say of the open file what std tells of it.
 #[derive(Drop)]
 pub struct RealFiles<'r, R: std::rt::Files> {
     rt: &'r R,
-    open: Option<R::File>,
+    file: Option<R::File>,
     opens: u64,
     faults: u64,
 }
 
 impl<'r, R: std::rt::Files> RealFiles<'r, R> {
-    /// The files of this runtime, of which none is open.
-    pub fn new(rt: &'r R) -> RealFiles<'r, R> {
+    ghost use Rattle.mystery_io.specs.RealObjects.{open_file, open_calls, file_faults};
+
+    /// Reads through this runtime, with no file open.
+    pub fn new(rt: &'r R) -> RealFiles<'r, R>
+        ensures closed { open_file result ≡ None }
+        ensures none { (open_calls result ≡ 0) × (file_faults result ≡ 0) }
+    {
         RealFiles {
             rt,
-            open: None,
+            file: None,
             opens: 0,
             faults: 0,
         }
@@ -26,31 +34,55 @@ impl<'r, R: std::rt::Files> RealFiles<'r, R> {
 }
 
 impl<R: std::rt::Files> Files for RealFiles<'_, R> {
+    ghost use Rattle.mystery_io.specs.RealObjects.{untold, bytes_ahead, open_file, open_calls};
+    ghost use Rattle.mystery_io.specs.RealObjects.{file_faults};
+
     ghost contents = { λ _. None };
 
-    ghost left = { λ _. None };
+    ghost left = { λ _. untold };
 
-    ghost opens = { λ s. s.opens };
+    ghost is_open = { λ s. is_some (open_file s) };
 
-    ghost faults = { λ s. s.faults };
+    ghost names = { λ _. None };
+
+    ghost opens = { λ s. open_calls s };
+
+    ghost faults = { λ s. file_faults s };
 
     fn open(&mut self, name: &str) -> Result<(), Failed> {
         self.opens = self.opens.saturating_add(1);
         match fs::open(self.rt, name) {
             Ok(file) => {
-                self.open = Some(file);
+                self.file = Some(file);
                 Ok(())
             }
             Err(_) => {
-                self.open = None;
+                self.file = None;
                 self.faults = self.faults.saturating_add(1);
                 Err(Failed)
             }
         }
     }
 
-    fn read(&mut self, into: &mut [u8]) -> Result<usize, Failed> {
-        let Some(file) = &mut self.open else {
+    fn read(&mut self, into: &mut [u8]) -> Result<usize, Failed>
+        requires { 0 < length into.old }
+        ensures within { IfOk result (λ n. n ≤ length into.new) }
+        ensures takes { IfOk result (λ n. untold ≡ prepend_known (take n into.new) untold) }
+        ensures end { IfOk result (λ n. n ≡ 0 → IsAtEnd untold) }
+        ensures stays { OnErr result (untold ≡ untold) }
+        ensures is_open { is_some (open_file self.new) ≡ is_some (open_file self.old) }
+        ensures counted { open_calls self.new ≡ open_calls self.old }
+        ensures tallied { file_faults self.new ≡ faults_after result (file_faults self.old) }
+        ensures consumes { IfOk result (λ n. Consumes
+            (bytes_ahead R.File.remaining (open_file self.old))
+            (bytes_ahead R.File.remaining (open_file self.new)) (take n into.new)) }
+        ensures at_end { IfOk result
+            (λ n. n ≡ 0 → IsAtEnd (bytes_ahead R.File.remaining (open_file self.new))) }
+        ensures keeps { OnErr result
+            (Keeps (bytes_ahead R.File.remaining (open_file self.old))
+            (bytes_ahead R.File.remaining (open_file self.new))) }
+    {
+        let Some(file) = &mut self.file else {
             return Ok(0);
         };
         match file.read(into) {
@@ -85,6 +117,29 @@ mod tests {
         assert_eq!(rt; files.open(path.as_str()), Err(Failed));
         assert_eq!(rt; files.read(&mut into), Ok(0));
         assert_eq!(rt; (files.opens, files.faults), (2, 1));
+        Ok(())
+    }
+
+    #[test]
+    fn a_folder_is_opened_but_not_read(rt: HostRuntime) -> Result<(), Fail> {
+        let path = temp_dir(&rt)?;
+        let mut files = RealFiles::new(&rt);
+        assert_eq!(rt; files.open(path.as_str()), Ok(()));
+        assert_eq!(rt; files.read(&mut [0; 8]), Err(Failed));
+        assert_eq!(rt; (files.opens, files.faults), (1, 1));
+        Ok(())
+    }
+
+    #[test]
+    fn a_space_at_the_end_of_a_name_counts(rt: HostRuntime) -> Result<(), Fail> {
+        let mut path = temp_dir(&rt)?;
+        path.push("mystery_io_with_a_space ")?;
+        fs::write(&rt, path.as_str(), "x")?;
+        let mut files = RealFiles::new(&rt);
+        assert_eq!(rt; files.open(path.as_str().trim_end()), Err(Failed));
+        assert_eq!(rt; files.open(path.as_str()), Ok(()));
+        assert_eq!(rt; files.read(&mut [0; 8]), Ok(1));
+        fs::remove_file(&rt, path.as_str())?;
         Ok(())
     }
 }

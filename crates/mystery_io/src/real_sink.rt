@@ -1,10 +1,12 @@
-ghost use Rattle.std.specs.Prelude.{◌≡◌, None};
+ghost use Rattle.std.specs.Prelude.{◌≡◌, ◌<◌, ◌≤◌, None, length, take, IfOk, OnErr};
+ghost use Rattle.std.specs.Io.KnownBytes.{Appends, Keeps};
+ghost use Rattle.mystery_io.specs.Counts.{faults_after};
 
 use crate::{Failed, Sink};
 use std::io::Write;
 
-/// A writer of std as a sink. It does not tell what was written. A writer that takes no byte of a
-/// piece has failed.
+/// A writer of std as a sink. It does not tell what was written; the clauses of `write` say it of
+/// a writer of which std tells it. A writer that takes no byte of a piece has failed.
 #[derive(Drop)]
 pub struct RealSink<W: Write + Drop> {
     writer: W,
@@ -12,18 +14,35 @@ pub struct RealSink<W: Write + Drop> {
 }
 
 impl<W: Write + Drop> RealSink<W> {
-    /// The sink that sends to this writer.
-    pub fn new(writer: W) -> RealSink<W> {
+    ghost use Rattle.mystery_io.specs.RealObjects.{writer_of, sink_faults};
+
+    /// Makes the sink that sends to this writer.
+    pub fn new(writer: W) -> RealSink<W>
+        ensures writer { writer_of result ≡ writer }
+        ensures none { sink_faults result ≡ 0 }
+    {
         RealSink { writer, faults: 0 }
     }
 }
 
 impl<W: Write + Drop> Sink for RealSink<W> {
+    ghost use Rattle.mystery_io.specs.RealObjects.{writer_of, sink_faults};
+
     ghost written = { λ _. None };
 
-    ghost faults = { λ s. s.faults };
+    ghost faults = { λ s. sink_faults s };
 
-    fn write(&mut self, piece: &[u8]) -> Result<usize, Failed> {
+    fn write(&mut self, piece: &[u8]) -> Result<usize, Failed>
+        requires { 0 < length piece.now }
+        ensures some { IfOk result (λ n. 0 < n) }
+        ensures within { IfOk result (λ n. n ≤ length piece.now) }
+        ensures grows { IfOk result
+            (λ n. Appends (W.contents (writer_of self.old)) (W.contents (writer_of self.new))
+            (take n piece.now)) }
+        ensures keeps { OnErr result
+            (Keeps (W.contents (writer_of self.old)) (W.contents (writer_of self.new))) }
+        ensures counted { sink_faults self.new ≡ faults_after result (sink_faults self.old) }
+    {
         match self.writer.write(piece) {
             Ok(count) if count > 0 => Ok(count),
             _ => {

@@ -1,6 +1,6 @@
 ghost use Rattle.std.specs.Prelude.{◌≡◌, ◌<◌, ◌≤◌, List, ℕ, Option, length, take, IfOk, OnErr};
 ghost use Rattle.std.specs.Io.KnownBytes.{append_known};
-ghost use Rattle.mystery_io.specs.Counts.{HasCause};
+ghost use Rattle.mystery_io.specs.Counts.{faults_after};
 
 use crate::Failed;
 
@@ -12,16 +12,17 @@ pub trait Sink {
     /// All bytes that were written, where they are told.
     ghost written: { Self → Option (List ℕ) };
 
-    /// How many calls failed, as far as 64 bits count.
+    /// The number of calls that failed, as far as 64 bits count.
     ghost faults: { Self → ℕ };
 
-    /// Writes the first bytes of a piece, at least one, and says how many. After a failure nothing
-    /// of it is written.
+    /// Writes a prefix of a piece, at least one byte, and returns its length. After a failure
+    /// nothing of it is written.
     fn write(&mut self, piece: &[u8]) -> Result<usize, Failed>
         requires { 0 < length piece.now }
         ensures some { IfOk result (λ n. 0 < n) }
         ensures within { IfOk result (λ n. n ≤ length piece.now) }
-        ensures appends { IfOk result (λ n. written self.new ≡ append_known (written self.old) (take n piece.now)) }
+        ensures appends { IfOk result
+            (λ n. written self.new ≡ append_known (written self.old) (take n piece.now)) }
         ensures stays { OnErr result (written self.new ≡ written self.old) }
-        ensures cause { HasCause (faults self.old) (faults self.new) result };
+        ensures counted { faults self.new ≡ faults_after result (faults self.old) };
 }

@@ -7,7 +7,7 @@ use crate::{Failed, Sink};
 pub struct SureSink;
 
 impl SureSink {
-    /// Such a sink.
+    /// Makes such a sink.
     pub fn new() -> SureSink {
         SureSink
     }

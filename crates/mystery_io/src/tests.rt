@@ -1,11 +1,12 @@
 use crate::{
-    ByteList, Failed, Files, Gate, MAX_INPUT, MemFile, MemFiles, MemSink, OpenGate, ReadFault,
-    Sink, SureFiles, SureSink, read_all, send_text, write_text,
+    ByteList, Failed, Files, Gate, MemFile, MemFiles, MemSink, OpenGate, ReadFault, Sink,
+    SureFiles, SureSink, laws, read_all, send_text, write_text,
 };
 use std::alloc::{AllocError, Global};
 use std::test::Fail;
 use trace_types::Text;
 
+/// Makes the list of these names.
 fn names_of(alloc: Global, names: &[&str]) -> Result<Vec<Text>, AllocError> {
     let mut all = Vec::new(alloc);
     for name in names {
@@ -14,6 +15,7 @@ fn names_of(alloc: Global, names: &[&str]) -> Result<Vec<Text>, AllocError> {
     Ok(all)
 }
 
+/// Makes files of these names and contents.
 fn files_of(alloc: Global, files: &[(&str, &[u8])]) -> Result<Vec<MemFile>, AllocError> {
     let mut all = Vec::new(alloc);
     for (name, bytes) in files {
@@ -83,11 +85,13 @@ fn a_fault_names_the_file_that_was_opened_last(rt: HostRuntime) -> Result<(), Fa
 
 #[test]
 fn a_line_feed_may_pass_the_size(rt: HostRuntime) -> Result<(), Fail> {
+    laws::the_input_has_one_limit();
     let alloc = rt.alloc();
     let table = [
-        (MAX_INPUT - 1, b'x', Ok(MAX_INPUT)),
-        (MAX_INPUT, b'x', Err(ReadFault::TooBig)),
-        (MAX_INPUT, b'\n', Ok(MAX_INPUT)),
+        (67_108_863, b'x', Ok(67_108_864)),
+        (67_108_864, b'x', Err(ReadFault::TooBig)),
+        (67_108_864, b'\n', Ok(67_108_864)),
+        (67_108_865, b'\n', Err(ReadFault::TooBig)),
     ];
     for (count, byte, want) in table {
         let names = names_of(alloc, &["f"])?;

@@ -1,6 +1,6 @@
 use super::{EMPTY, ROOM, SETTING, Setting, expect, texts};
 use crate::run;
-use mystery_io::{ByteList, MAX_INPUT, MemFile, MemFiles, MemSink, OpenGate};
+use mystery_io::{ByteList, MemFile, MemFiles, MemSink, OpenGate};
 use std::test::Fail;
 use trace_types::Text;
 
@@ -52,7 +52,7 @@ const OUTSIDE_THE_GRAMMAR: [&[&str]; 20] = [
 ];
 
 #[test]
-fn words_outside_the_grammar_have_status_2(rt: HostRuntime) -> Result<(), Fail> {
+fn arguments_outside_the_grammar_have_status_2(rt: HostRuntime) -> Result<(), Fail> {
     for words in OUTSIDE_THE_GRAMMAR {
         let setting = Setting { words, ..SETTING };
         expect(&rt, rt.alloc(), setting, 2, b"", USAGE)?;
@@ -91,7 +91,7 @@ fn a_failed_call_on_files_names_the_file(rt: HostRuntime) -> Result<(), Fail> {
 }
 
 #[test]
-fn a_failed_write_leaves_the_front_of_the_text(rt: HostRuntime) -> Result<(), Fail> {
+fn a_failed_write_leaves_a_prefix_of_the_text(rt: HostRuntime) -> Result<(), Fail> {
     let table: [(usize, u32, u8, &[u8], &[u8]); 4] = [
         (1, 0, 0, EMPTY, b""),
         (1, 3, 5, b"mo", b"write failed\n"),
@@ -133,8 +133,8 @@ fn the_size_is_passed_by_one_line_feed_more(rt: HostRuntime) -> Result<(), Fail>
     let alloc = rt.alloc();
     let limit: &[u8] = b"limit: input over 67108864 bytes\n";
     let table: [(usize, u8, &[u8], &[u8]); 2] = [
-        (MAX_INPUT, 0, EMPTY, b""),
-        (MAX_INPUT + 1, 6, b"", limit),
+        (67_108_864, 0, EMPTY, b""),
+        (67_108_865, 6, b"", limit),
     ];
     for (count, status, out, err) in table {
         let words = texts(alloc, &["model", "f"])?;

@@ -2,8 +2,8 @@ use super::{SETTING, Setting, expect};
 use std::alloc::{AllocError, Global};
 use std::test::Fail;
 
-// An event line: the request, the machine, the task, the event, the time in microseconds, and the
-// messages that are sent and received, empty where there is none.
+/// An event line: the request, the machine, the task, the event, the time in microseconds, and the
+/// messages that are sent and received, empty where there is none.
 pub(crate) type EventLine<'t> = (
     &'t str,
     &'t str,
@@ -14,6 +14,7 @@ pub(crate) type EventLine<'t> = (
     &'t str,
 );
 
+/// Appends a member, unless its text is empty.
 fn put_member(bytes: &mut Vec<u8>, name: &str, text: &str) -> Result<(), AllocError> {
     if text.is_empty() {
         return Ok(());
@@ -25,7 +26,7 @@ fn put_member(bytes: &mut Vec<u8>, name: &str, text: &str) -> Result<(), AllocEr
     bytes.extend_from_slice(b"\"")
 }
 
-// The bytes of event lines.
+/// Makes the bytes of event lines.
 pub(crate) fn event_lines(alloc: Global, lines: &[EventLine<'_>]) -> Result<Vec<u8>, AllocError> {
     let mut bytes = Vec::new(alloc);
     for (request, machine, task, event, time, send, recv) in lines {
@@ -84,8 +85,8 @@ const TWO_DAYS: [EventLine<'static>; 4] = [
     ("r2", "m", "a", "e", "86400000009", "", ""),
 ];
 
-// Each request but r3 and r6 is refused; r5 is so at its ninth line, whose adjusted time is below
-// the least.
+/// Each request but r3 and r6 is refused; r5 is so at its ninth line, whose adjusted time is below
+/// the least.
 const REFUSED: [EventLine<'static>; 20] = [
     ("r1", "m", "a", "s", "0", "", ""),
     ("r1", "m", "a", "s", "5", "", ""),

@@ -2,7 +2,7 @@ use super::models::{EventLine, event_lines};
 use super::{SETTING, Setting, expect};
 use std::test::Fail;
 
-// Two requests for a page, over a phone, a web server and a server of advertisements.
+/// Two requests for a page, over a phone, a web server and a server of advertisements.
 const PAGE_LOAD: [EventLine<'static>; 36] = [
     (
         "req 4711",

@@ -6,8 +6,8 @@ use Rattle.mystery_cli.proofs.judged.judge_all.Goals as goal
 
 pub loop-raw-init : goal.loop-raw-init
 loop-raw-init c = record {
-  judged = rw (c.new.ensures.items, c.new-2.ensures.items) judged_none;
-  few = rw c.new.ensures.items (omega arith);
+  judged = rw (c.in_ok-with_capacity.ensures.items, c.new.ensures.items) judged_none;
+  few = rw c.in_ok-with_capacity.ensures.items (omega arith);
 }
 
 pub judge-requires : goal.judge-requires

@@ -1,5 +1,5 @@
 use Rattle.mystery_io.proofs.KnownLemmas.{sends_by}
 use Rattle.mystery_io.proofs.writing.send_text.Goals as goal
 
-pub returns : goal.returns
-returns g c = sends_by c.write_text.result _ _ _ _ _ c.write_text.ensures.all c.write_text.ensures.front c.write_text.ensures.cause
+pub returns-clause-sends : goal.returns-clause-sends
+returns-clause-sends g c = sends_by c.write_text.result g.S.Sink.written g.S.Sink.faults c.args.sink.now c.write_text.new.sink _ c.write_text.ensures.all c.write_text.ensures.prefix c.write_text.ensures.counted

@@ -1,0 +1,5 @@
+-- What private contracts alone cite.
+pub mod InputEnds
+pub mod OutcomeFaults
+pub mod Printing
+pub mod Steps

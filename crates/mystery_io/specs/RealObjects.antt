@@ -1,0 +1,32 @@
+-- What the real objects hold: the writer of a sink, and the open file.
+use Rattle.std.specs.Prelude.{ℕ, List, [], Option, Some, None}
+use Rattle.mystery_io.specs.declared.real_files.RealFiles.{RealFiles}
+use Rattle.mystery_io.specs.declared.real_sink.RealSink.{RealSink}
+
+-- what a real object tells of its bytes: nothing
+abbrev pub untold : Option (List ℕ)
+untold = None
+
+-- the writer that a sink sends to
+abbrev pub writer_of : {W : Type 0} → RealSink W → W
+writer_of sink = sink.writer
+
+-- how many of its writes failed
+abbrev pub sink_faults : {W : Type 0} → RealSink W → ℕ
+sink_faults sink = sink.faults
+
+-- the file that is open
+abbrev pub open_file : {R F D : Type 0} → RealFiles R F D → Option F
+open_file files = files.file
+
+-- how many calls of `open` were made, and how many calls failed
+abbrev pub open_calls : {R F D : Type 0} → RealFiles R F D → ℕ
+open_calls files = files.opens
+
+abbrev pub file_faults : {R F D : Type 0} → RealFiles R F D → ℕ
+file_faults files = files.faults
+
+-- the bytes that reads will give, where std tells them; none where no file is open
+abbrev pub bytes_ahead : {F : Type 0} → (F → Option (List ℕ)) → Option F → Option (List ℕ)
+bytes_ahead remaining None = Some []
+bytes_ahead remaining (Some file) = remaining file

@@ -1,0 +1,2 @@
+pub mod FileCauses
+pub mod OpenFiles
