@@ -4,14 +4,14 @@ ghost use Rattle.trace_types.specs.declared.event.Event.{Event};
 ghost use Rattle.clock_offsets.specs.Messages.{IsOneWayDelay, IsLeastDelay};
 ghost use Rattle.clock_offsets.specs.Offsets.{IsParent, IsOffset, adjusted_time};
 
-/// A machine has one offset.
+/// States that a machine has one offset.
 pub fn a_machine_has_one_offset()
     ensures { (events : List Event) (m : List ℕ) (a b : ℤ) → IsOffset events m a
         → IsOffset events m b → a ≡ b }
 {}
 
-/// Where the round trip of least delays between a parent and a machine is not negative, no message
-/// between the two is received, by adjusted times, before it was sent.
+/// States that no message between a parent and a machine is received, by adjusted times, before it
+/// was sent, where the round trip of their least delays is not negative.
 pub fn a_message_is_received_after_it_was_sent()
     ensures there { (events : List Event) (k : ℕ) (p m : List ℕ) (a o f g : ℤ)
         → IsParent events k p m → IsOffset events p a → IsOffset events m o
