@@ -7,8 +7,16 @@ use Rattle.std.proofs.lemmas.List.Kept.{AllPairs-from_increasing}
 use Rattle.std.proofs.lemmas.List.Elements.{All-contains, All-get_or, Contains-get_or}
 use Rattle.std.proofs.lemmas.List.Sums.{sum_by-cons}
 use Rattle.weighted_dag.specs.Graphs.{Graph, IsGraph, IsEdge, order_of, weight_of, successors_of}
-use Rattle.weighted_dag.specs.Chains.{IsChain, chain_length, NoneIsLonger, IsBefore, IsLongestFrom}
-use Rattle.critical_path.specs.Walks.{IsFirstPlaceOf, IsFirstLongest, IsFirstAfter}
+use Rattle.weighted_dag.specs.Chains.{IsChain, chain_length, NoneIsLonger, IsLongest, IsLongestLength, IsBefore, IsLongestFrom}
+use Rattle.critical_path.specs.Walks.{IsFirstIndexOf, IsFirstLongest, IsFirstAfter}
+
+-- no chain is longer than the longest length
+none_longer_than : (g : Graph) (n : ℕ) → IsLongestLength g n → NoneIsLonger g n
+none_longer_than g n top c h =
+    let best : IsLongest g top.0 = top.1 in
+    let is : chain_length g top.0 ≡ n = top.2 in
+    let up = best.none_longer c h in
+    omega arith
 
 module _ (g : Graph) (form : IsGraph g) (lengths : List ℕ) (n : ℕ) (longest : (v : ℕ) → v < order_of g → IsLongestFrom g v (get_or lengths v 0)) where
   -- a vertex weighs no more than the chains that begin with it are long
@@ -16,15 +24,6 @@ module _ (g : Graph) (form : IsGraph g) (lengths : List ℕ) (n : ℕ) (longest 
   weight_below v within =
       let one = (longest v within).none_longer [] (within, tt, tt) in
       let sum = sum_by-cons (weight_of g) v [] in
-      omega arith
-
-  -- no chain is longer than the greatest length
-  pub none_longer : length lengths ≡ order_of g → All (λ m. m ≤ n) lengths → NoneIsLonger g n
-  none_longer entries upper [] h = omega arith
-  none_longer entries upper (v ∷ c) h =
-      let within = h.0 in
-      let most = (longest v within).none_longer c h in
-      let low = All-get_or (λ m. m ≤ n) lengths v 0 (omega arith) upper in
       omega arith
 
   -- without weights the empty chain is the first
@@ -75,9 +74,9 @@ module _ (g : Graph) (form : IsGraph g) (lengths : List ℕ) (n : ℕ) (longest 
       no_before (x ∷ d) b = b
 
   -- the first successor from which the length is what is left goes on with the chain
-  pub next_after : (v u : ℕ) → v < order_of g → IsFirstPlaceOf lengths (successors_of g v) (get_or lengths v 0 - weight_of g v) u → 0 < get_or lengths v 0 - weight_of g v → (c : List ℕ) → IsFirstAfter g u (get_or lengths u 0 - weight_of g u) c → IsFirstAfter g v (get_or lengths v 0 - weight_of g v) (u ∷ c)
+  pub next_after : (v u : ℕ) → v < order_of g → IsFirstIndexOf lengths (successors_of g v) (get_or lengths v 0 - weight_of g v) u → 0 < get_or lengths v 0 - weight_of g v → (c : List ℕ) → IsFirstAfter g u (get_or lengths u 0 - weight_of g u) c → IsFirstAfter g v (get_or lengths v 0 - weight_of g v) (u ∷ c)
   next_after v u within place positive c so =
-      let edge : IsEdge g v u = place.place in
+      let edge : IsEdge g v u = place.index in
       let within' = form.within v u edge in
       let at = place.is in
       record {
@@ -136,49 +135,57 @@ abbrev pub walk_left : Graph → Option ℕ → ℕ
 walk_left g None = 0
 walk_left g (Some v) = order_of g - v
 
--- where no earlier place has the number, the place is the first
-pub first_place : (numbers places : List ℕ) (n i : ℕ) → IsStrictlyIncreasing places → i < length places → All (λ p. get_or numbers p 0 ≢ n) (take i places) → get_or numbers (get_or places i 0) 0 ≡ n → IsFirstPlaceOf numbers places n (get_or places i 0)
-first_place numbers places n i rising inside none is = record {
-  place = Contains-get_or places i 0 inside;
+-- where no earlier index has the number, the index is the first
+pub first_index : (numbers indices : List ℕ) (n i : ℕ) → IsStrictlyIncreasing indices → i < length indices → All (λ p. get_or numbers p 0 ≢ n) (take i indices) → get_or numbers (get_or indices i 0) 0 ≡ n → IsFirstIndexOf numbers indices n (get_or indices i 0)
+first_index numbers indices n i rising inside none is = record {
+  index = Contains-get_or indices i 0 inside;
   is = is;
   first = λ x h below.
       let k : ℕ = h.0 in
-      let within : k < length places = h.1 in
-      let at : get_or places k x ≡ x = h.2 in
-      let same = get_or_default places i x 0 inside in
-      let len = length-take-le i places (omega arith) in
+      let within : k < length indices = h.1 in
+      let at : get_or indices k x ≡ x = h.2 in
+      let same = get_or_default indices i x 0 inside in
+      let len = length-take-le i indices (omega arith) in
       ⊎_elim
-      (λ (e : k ≡ i). absurd (let f : get_or places k x ≡ get_or places i x = ap (λ (j : ℕ). get_or places j x) e in omega arith))
+      (λ (e : k ≡ i). absurd (let f : get_or indices k x ≡ get_or indices i x = ap (λ (j : ℕ). get_or indices j x) e in omega arith))
       (⊎_elim
-      (λ (l : k < i). All-contains (λ p. get_or numbers p 0 ≢ n) (take i places) x none (k, omega arith, get_or-take i places k x l ∙ at))
-      (λ (l : i < k). absurd (let up = AllPairs-from_increasing places rising i k x l within in omega arith)))
+      (λ (l : k < i). All-contains (λ p. get_or numbers p 0 ≢ n) (take i indices) x none (k, omega arith, get_or-take i indices k x l ∙ at))
+      (λ (l : i < k). absurd (let up = AllPairs-from_increasing indices rising i k x l within in omega arith)))
       (cases_order k i);
 }
 
 module _ (g : Graph) (form : IsGraph g) (lengths : List ℕ) (n : ℕ) (entries : length lengths ≡ order_of g) (longest : (v : ℕ) → v < order_of g → IsLongestFrom g v (get_or lengths v 0)) where
   -- the walk begins with the first vertex from which the length is the greatest
-  pub start_walk : All (λ m. m ≤ n) lengths → (n ≡ 0) ⊎ Contains lengths n → (r : Option ℕ) → IfSome r (λ _. 0 < n) → IfSome r (λ v. v < length lengths) → IfSome r (λ v. get_or lengths v 0 ≡ n) → IfSome r (λ v. (x : ℕ) → x < v → get_or lengths x 0 ≢ n) → IfNone r ((n ≡ 0) ⊎ All (λ m. m ≢ n) lengths) → IsWalk g lengths n [] n r
-  start_walk upper reached None positive within is first none =
-      let most = none_longer g form lengths n longest entries upper in
-      let zero : n ≡ 0 = ⊎_elim
-      (λ (z : n ≡ 0). z)
-      (λ (a : All (λ m. m ≢ n) lengths). ⊎_elim (λ (z : n ≡ 0). z) (λ (h : Contains lengths n). absurd (All-contains (λ m. m ≢ n) lengths n a h refl)) reached)
-      none in
-      start_none g form lengths n longest most zero
-  start_walk upper reached (Some v) positive within is first none =
-      let most = none_longer g form lengths n longest entries upper in
+  pub start_walk : IsLongestLength g n → (r : Option ℕ) → IfSome r (λ _. 0 < n) → IfSome r (λ v. v < length lengths) → IfSome r (λ v. get_or lengths v 0 ≡ n) → IfSome r (λ v. (x : ℕ) → x < v → get_or lengths x 0 ≢ n) → IfNone r ((n ≡ 0) ⊎ All (λ m. m ≢ n) lengths) → IsWalk g lengths n [] n r
+  start_walk top None positive within is first none =
+      let most = none_longer_than g n top in
+      start_none g form lengths n longest most
+      (⊎_elim (λ (z : n ≡ 0). z) (λ (a : All (λ m. m ≢ n) lengths). zero top.0 top.1 top.2 a) none)
+    where
+      zero : (c : List ℕ) → IsLongest g c → chain_length g c ≡ n → All (λ m. m ≢ n) lengths → n ≡ 0
+      zero [] so is none = omega arith
+      zero (v ∷ c) so is none =
+          let within = so.chain.0 in
+          let up = (longest v within).none_longer c so.chain in
+          let best = (longest v within).reached in
+          let long : chain_length g (v ∷ best.0) ≡ get_or lengths v 0 = best.2 in
+          let low = so.none_longer (v ∷ best.0) best.1 in
+          let same : get_or lengths v 0 ≡ n = omega arith in
+          absurd (All-get_or (λ m. m ≢ n) lengths v 0 (omega arith) none same)
+  start_walk top (Some v) positive within is first none =
+      let most = none_longer_than g n top in
       let inside : v < order_of g = omega (arith, within) in
       (inside, is, positive, λ c so. start_some g form lengths n longest most v inside is positive first c so)
 
   -- the walk goes on with the first successor from which the length is what is left
-  pub step_walk : (done : List ℕ) (left v w left' : ℕ) → IsWalk g lengths n done left (Some v) → w ≡ weight_of g v → left' ≡ left - w → (r : Option ℕ) → IfSome r (λ _. 0 < left') → IfSome r (IsFirstPlaceOf lengths (successors_of g v) left') → IfNone r ((left' ≡ 0) ⊎ All (λ p. get_or lengths p 0 ≢ left') (successors_of g v)) → IsWalk g lengths n (done ++ v ∷ []) left' r
+  pub step_walk : (done : List ℕ) (left v w left' : ℕ) → IsWalk g lengths n done left (Some v) → w ≡ weight_of g v → left' ≡ left - w → (r : Option ℕ) → IfSome r (λ _. 0 < left') → IfSome r (IsFirstIndexOf lengths (successors_of g v) left') → IfNone r ((left' ≡ 0) ⊎ All (λ p. get_or lengths p 0 ≢ left') (successors_of g v)) → IsWalk g lengths n (done ++ v ∷ []) left' r
   step_walk done left v w left' so weight is r positive place none =
       let at : get_or lengths v 0 ≡ left = so.1 in
       let rest : left' ≡ get_or lengths v 0 - weight_of g v = omega arith in
-      let P : ℕ → Type 0 = λ (m : ℕ). IfSome r (λ _. 0 < m) → IfSome r (IsFirstPlaceOf lengths (successors_of g v) m) → IfNone r ((m ≡ 0) ⊎ All (λ p. get_or lengths p 0 ≢ m) (successors_of g v)) → IsWalk g lengths n (done ++ v ∷ []) m r in
+      let P : ℕ → Type 0 = λ (m : ℕ). IfSome r (λ _. 0 < m) → IfSome r (IsFirstIndexOf lengths (successors_of g v) m) → IfNone r ((m ≡ 0) ⊎ All (λ p. get_or lengths p 0 ≢ m) (successors_of g v)) → IsWalk g lengths n (done ++ v ∷ []) m r in
       subst P (sym rest) (λ p q o. go so.0 (subst (λ (l : ℕ). (c : List ℕ) → IsFirstAfter g v (l - weight_of g v) c → IsFirstLongest g n (done ++ v ∷ c)) (sym at) so.3) r p q o) positive place none
     where
-      go : v < order_of g → ((c : List ℕ) → IsFirstAfter g v (get_or lengths v 0 - weight_of g v) c → IsFirstLongest g n (done ++ v ∷ c)) → (r : Option ℕ) → IfSome r (λ _. 0 < get_or lengths v 0 - weight_of g v) → IfSome r (IsFirstPlaceOf lengths (successors_of g v) (get_or lengths v 0 - weight_of g v)) → IfNone r ((get_or lengths v 0 - weight_of g v ≡ 0) ⊎ All (λ p. get_or lengths p 0 ≢ get_or lengths v 0 - weight_of g v) (successors_of g v)) → IsWalk g lengths n (done ++ v ∷ []) (get_or lengths v 0 - weight_of g v) r
+      go : v < order_of g → ((c : List ℕ) → IsFirstAfter g v (get_or lengths v 0 - weight_of g v) c → IsFirstLongest g n (done ++ v ∷ c)) → (r : Option ℕ) → IfSome r (λ _. 0 < get_or lengths v 0 - weight_of g v) → IfSome r (IsFirstIndexOf lengths (successors_of g v) (get_or lengths v 0 - weight_of g v)) → IfNone r ((get_or lengths v 0 - weight_of g v ≡ 0) ⊎ All (λ p. get_or lengths p 0 ≢ get_or lengths v 0 - weight_of g v) (successors_of g v)) → IsWalk g lengths n (done ++ v ∷ []) (get_or lengths v 0 - weight_of g v) r
       go within next None positive place none =
           let zero : get_or lengths v 0 - weight_of g v ≡ 0 = ⊎_elim
           (λ (z : get_or lengths v 0 - weight_of g v ≡ 0). z)
@@ -189,7 +196,7 @@ module _ (g : Graph) (form : IsGraph g) (lengths : List ℕ) (n : ℕ) (entries 
           none in
           next [] (end_after g form lengths n longest v within zero)
       go within next (Some u) positive place none =
-          let edge : IsEdge g v u = place.place in
+          let edge : IsEdge g v u = place.index in
           let inside = form.within v u edge in
           let at : get_or lengths u 0 ≡ get_or lengths v 0 - weight_of g v = place.is in (
             inside,
@@ -201,10 +208,10 @@ module _ (g : Graph) (form : IsGraph g) (lengths : List ℕ) (n : ℕ) (entries 
           )
 
   -- the next vertex is later
-  pub walk_smaller : (v left : ℕ) → v < order_of g → (r : Option ℕ) → IfSome r (IsFirstPlaceOf lengths (successors_of g v) left) → walk_left g r < order_of g - v
+  pub walk_smaller : (v left : ℕ) → v < order_of g → (r : Option ℕ) → IfSome r (IsFirstIndexOf lengths (successors_of g v) left) → walk_left g r < order_of g - v
   walk_smaller v left within None place = omega arith
   walk_smaller v left within (Some u) place =
-      let edge : IsEdge g v u = place.place in
+      let edge : IsEdge g v u = place.index in
       let later = form.later v u edge in
       let inside = form.within v u edge in
       omega arith

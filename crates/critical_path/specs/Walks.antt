@@ -3,11 +3,11 @@ use Rattle.std.specs.Prelude.{◌≡◌, ◌≢◌, ℕ, ◌<◌, ◌≤◌, Lis
 use Rattle.weighted_dag.specs.Graphs.{Graph}
 use Rattle.weighted_dag.specs.Chains.{IsChain, chain_length, NoneIsLonger, IsBefore}
 
--- v is the least of the places at which the number is n
-pub record IsFirstPlaceOf (numbers places : List ℕ) (n v : ℕ) : Type 0 where
-  pub place : Contains places v
+-- v is the least of the indices at which the number is n
+pub record IsFirstIndexOf (numbers indices : List ℕ) (n v : ℕ) : Type 0 where
+  pub index : Contains indices v
   pub is : slice_index numbers v ≡ n
-  pub first : (x : ℕ) → Contains places x → x < v → slice_index numbers x ≢ n
+  pub first : (x : ℕ) → Contains indices x → x < v → slice_index numbers x ≢ n
 
 -- c is the first of the longest chains, whose length is n
 pub record IsFirstLongest (g : Graph) (n : ℕ) (c : List ℕ) : Type 0 where

@@ -1,36 +1,14 @@
 -- How far a weight can rise so that the longest length stays.
-use Rattle.std.proofs.Common.{◌≡◌, ◌≢◌, ℕ, ◌+◌, ◌-◌, ◌<◌, ◌≤◌, List, [], ◌∷◌, length, get_or, All, Contains, ◌⊎◌, ⊎_elim, refl, sym, ap, ◌∙◌, subst, arith, get_or-set_same, get_or-set_other, length-set}
-use Rattle.std.proofs.lemmas.Bool.{cases_eq}
-use Rattle.std.proofs.lemmas.List.{get_or_default}
+use Rattle.std.proofs.Common.{◌≡◌, ◌≢◌, ℕ, ◌+◌, ◌-◌, ◌<◌, ◌≤◌, List, [], ◌∷◌, ◌++◌, length, get_or, All, Contains, ◌⊎◌, ⊎_elim, refl, sym, ap, ◌∙◌, subst, arith, get_or-set_same, get_or-set_other, length-set, length-append}
+use Rattle.std.proofs.lemmas.Bool.{cases_eq, cases_lt}
+use Rattle.std.proofs.lemmas.List.{get_or_append_left, get_or_push}
 use Rattle.std.proofs.lemmas.List.Elements.{All-get_or}
 use Rattle.std.proofs.lemmas.List.Sums.{sum_by-cons, sum_by-le-sum_by}
 use Rattle.weighted_dag.specs.Graphs.{Graph, IsGraph, order_of, weight_of}
-use Rattle.weighted_dag.specs.Chains.{IsChain, LeadsTo, chain_length, NoneIsLonger, IsLongest, IsLongestLength, IsLongestFrom}
+use Rattle.weighted_dag.specs.Chains.{AllAreShorter, IsChain, LeadsTo, chain_length, NoneIsLonger, IsLongest, IsLongestLength, IsLongestFrom}
 use Rattle.weighted_dag.specs.Slacks.{raised, KeepsLongest, IsSlack}
 use Rattle.slack.specs.Passes.{LeadsInto, IsLongestInto}
-
--- the list that leads to a vertex, put before a chain that begins with it
-lead : List ℕ → List ℕ → List ℕ
-lead [] d = d
-lead (u ∷ c) d = lead c (u ∷ d)
-
-chain_length-lead : (g : Graph) (c d : List ℕ) → chain_length g (lead c d) ≡ chain_length g c + chain_length g d
-unfolding lead
-chain_length-lead g [] d = omega arith
-chain_length-lead g (u ∷ c) d =
-    let rest = chain_length-lead g c (u ∷ d) in
-    let one = sum_by-cons (weight_of g) u d in
-    let two = sum_by-cons (weight_of g) u c in
-    omega arith
-
-module _ (g : Graph) (form : IsGraph g) where
-  IsChain-lead : (c : List ℕ) (v : ℕ) (d : List ℕ) → LeadsInto g v c → IsChain g (v ∷ d) → IsChain g (lead c (v ∷ d))
-  unfolding lead
-  IsChain-lead [] v d l h = h
-  IsChain-lead (u ∷ c) v d l h =
-      let later = form.later u v l.0 in
-      let within = h.0 in
-      IsChain-lead c u (v ∷ d) l.1 (omega arith, l.0, h)
+use Rattle.slack.proofs.Leading.{lead, chain_length-lead, IsChain-lead}
 
 module _ (g : Graph) (form : IsGraph g) (v n : ℕ) (inside : v < order_of g) where
   -- the raised graph has the same vertices
@@ -123,29 +101,32 @@ module _ (g : Graph) (form : IsGraph g) (v n : ℕ) (inside : v < order_of g) wh
     none_longer_raised [] h = omega arith
     none_longer_raised (x ∷ c) h = let b = bound x c [] (IsChain-lowered (x ∷ c) h) tt in omega arith
 
--- the greatest of the lengths from each vertex is the longest length
-pub longest_length : (g : Graph) (lengths : List ℕ) (most : ℕ) → length lengths ≡ order_of g → ((v : ℕ) → v < order_of g → IsLongestFrom g v (get_or lengths v 0)) → All (λ m. m ≤ most) lengths → (most ≡ 0) ⊎ Contains lengths most → NoneIsLonger g most × IsLongestLength g most
-longest_length g lengths most entries longest upper reached = (
-  none_longer,
-  ⊎_elim
-      (λ (z : most ≡ 0). ([], record { chain = tt; none_longer = λ c h. let up = none_longer c h in omega arith }, sym z))
-      (λ (h : Contains lengths most).
-      let v : ℕ = h.0 in
-      let within : v < length lengths = h.1 in
-      let at : get_or lengths v 0 ≡ most = get_or_default lengths v 0 most within ∙ h.2 in
-      let best = (longest v (omega arith)).reached in
-      let long : chain_length g (v ∷ best.0) ≡ get_or lengths v 0 = best.2 in
-      (v ∷ best.0, record { chain = best.1; none_longer = λ c k. let up = none_longer c k in omega arith }, long ∙ at))
-      reached,
-)
-  where
-    none_longer : (c : List ℕ) → IsChain g c → chain_length g c ≤ most
-    none_longer [] h = omega arith
-    none_longer (v ∷ c) h =
-        let within = h.0 in
-        let up = (longest v within).none_longer c h in
-        let low = All-get_or (λ m. m ≤ most) lengths v 0 (omega arith) upper in
-        omega arith
+-- one more entry that a function gives
+pub pushed : (f : ℕ → ℕ) (xs : List ℕ) (i x : ℕ) → (length xs ≡ i) × ((k : ℕ) → k < i → get_or xs k 0 ≡ f k) → x ≡ f i → (length (xs ++ x ∷ []) ≡ i + 1) × ((k : ℕ) → k < i + 1 → get_or (xs ++ x ∷ []) k 0 ≡ f k)
+pushed f xs i x so is =
+    let size : length xs ≡ i = so.0 in (
+      let n = length-append xs (x ∷ []) in omega arith,
+      λ k h. ⊎_elim
+          (λ (l : k < i). get_or_append_left xs (x ∷ []) 0 k (omega arith) ∙ so.1 k l)
+          (λ (l : i ≤ k). let e : k ≡ i = omega arith in get_or_push xs x 0 k (omega arith) ∙ is ∙ ap f (sym e))
+          (cases_lt k i),
+    )
+
+-- the longest length is the length of some chain
+pub longest_fits : (g : Graph) (most limit : ℕ) → IsLongestLength g most → AllAreShorter g limit → most < limit
+longest_fits g most limit longest shorter =
+    let best : IsLongest g longest.0 = longest.1 in
+    let is : chain_length g longest.0 ≡ most = longest.2 in
+    let low = shorter longest.0 best.chain in
+    omega arith
+
+-- no chain is longer than the longest length
+pub none_longer_than : (g : Graph) (most : ℕ) → IsLongestLength g most → NoneIsLonger g most
+none_longer_than g most longest c h =
+    let best : IsLongest g longest.0 = longest.1 in
+    let is : chain_length g longest.0 ≡ most = longest.2 in
+    let up = best.none_longer c h in
+    omega arith
 
 module _ (g : Graph) (form : IsGraph g) (v : ℕ) (inside : v < order_of g) (into from most : ℕ) (below : IsLongestInto g v into) (above : IsLongestFrom g v from) (none_longer : NoneIsLonger g most) (longest : IsLongestLength g most) where
   through_chain : IsChain g (lead below.reached.0 (v ∷ above.reached.0))

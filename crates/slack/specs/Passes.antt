@@ -13,7 +13,7 @@ pub record IsLongestInto (g : Graph) (v n : ℕ) : Type 0 where
   pub reached : (c : List ℕ) × LeadsInto g v c × (chain_length g c ≡ n)
   pub none_longer : (c : List ℕ) → LeadsInto g v c → chain_length g c ≤ n
 
--- the number at k was raised to the least where k is among the places, and else stayed
+-- the number at k was raised to the least where k is among the indices, and else stayed
 abbrev pub RaisesAt : List ℕ → ℕ → List ℕ → List ℕ → ℕ → Type 0
-RaisesAt places least old new k =
-    (Contains places k × (slice_index new k ≡ max (slice_index old k) least)) ⊎ ((¬ Contains places k) × (slice_index new k ≡ slice_index old k))
+RaisesAt indices least old new k =
+    (Contains indices k × (slice_index new k ≡ max (slice_index old k) least)) ⊎ ((¬ Contains indices k) × (slice_index new k ≡ slice_index old k))

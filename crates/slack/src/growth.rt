@@ -1,37 +1,75 @@
-ghost use Rattle.std.specs.Prelude.{◌≡◌, ◌+◌, ◌≤◌, ◌⊎◌, All, Contains, EachIndex, length, slice_index, IfOk};
+ghost use Rattle.std.specs.Prelude.{◌≡◌, ◌+◌, EachIndex, length, slice_index, IfOk};
 ghost use Rattle.weighted_dag.specs.Graphs.{order_of};
+ghost use Rattle.weighted_dag.specs.Chains.{AllAreShorter, IsLongestLength};
 ghost use Rattle.weighted_dag.specs.Slacks.{IsSlack, KeepsLongest};
 
 use crate::forward::lengths_into;
 use std::alloc::{AllocError, Global};
-use weighted_dag::{Dag, lengths_from};
+use weighted_dag::{Dag, Length, Lengths, lengths_from};
 
-/// The slack of each vertex, by place: the greatest number by which its weight can rise so that the longest length
-/// of the graph stays (M. Chow et al., "The Mystery Machine", OSDI 2014, section 3.4).
-///
-/// It takes one pass from the last vertex to the first and one from the first to the last, and two numbers a vertex
-/// besides the answer.
+/// The longest length of a graph and the slack of each vertex.
+#[derive(Drop)]
+pub struct SlackTable {
+    /// The longest length.
+    pub longest: u128,
+    /// The slack of each vertex, by its number.
+    pub slacks: Vec<u128>,
+}
+
+/// Computes the slack of each vertex, by its number: the greatest amount by which its weight can
+/// rise so that the longest length of the graph stays (M. Chow et al., "The Mystery Machine",
+/// OSDI 2014, section 3.4).
 pub fn slacks(alloc: Global, dag: &Dag) -> Result<Vec<u128>, AllocError>
     ensures entries { IfOk result (λ slacks. length slacks.items ≡ order_of dag.now) }
     ensures slack { IfOk result
         (λ slacks. EachIndex dag.now.weights (λ v. IsSlack dag.now v (slice_index slacks.items v))) }
     ensures one_more_moves { IfOk result
-        (λ slacks. EachIndex dag.now.weights (λ v. ¬ KeepsLongest dag.now v (slice_index slacks.items v + 1))) }
+        (λ slacks. EachIndex dag.now.weights
+        (λ v. ¬ KeepsLongest dag.now v (slice_index slacks.items v + 1))) }
 {
-    let from = lengths_from(alloc, dag)?;
-    let into = lengths_into(alloc, dag)?;
-    let longest = greatest(&from);
-    let mut slacks = Vec::with_capacity(alloc, from.len())?;
-    'vertices: for vertex in 0..from.len() {
-        slacks.push(longest - (into[vertex] + from[vertex]))?;
-    }
-    Ok(slacks)
+    let table = longest_and_slacks(alloc, dag)?;
+    Ok(table.slacks)
 }
 
-/// The greatest of the numbers, and 0 where there is none.
-fn greatest(numbers: &[u128]) -> u128
-    ensures upper { All (λ n. n ≤ result) numbers.now }
-    ensures reached { (result ≡ 0) ⊎ Contains numbers.now result }
+/// Computes the longest length together with all slacks, in one pass over the edges from the last
+/// vertex to the first and one from the first to the last.
+pub fn longest_and_slacks(alloc: Global, dag: &Dag) -> Result<SlackTable, AllocError>
+    ensures longest { IfOk result (λ table. IsLongestLength dag.now table.longest) }
+    ensures entries { IfOk result (λ table. length table.slacks.items ≡ order_of dag.now) }
+    ensures slack { IfOk result
+        (λ table. EachIndex dag.now.weights (λ v. IsSlack dag.now v (slice_index table.slacks.items v))) }
+    ensures one_more_moves { IfOk result
+        (λ table. EachIndex dag.now.weights
+        (λ v. ¬ KeepsLongest dag.now v (slice_index table.slacks.items v + 1))) }
 {
-    numbers.iter().copied().max().unwrap_or(0)
+    if dag.total() < 1 << 64 {
+        measure::<u64>(alloc, dag)
+    } else {
+        measure::<u128>(alloc, dag)
+    }
+}
+
+/// Computes the longest length and all slacks from lengths of the type `L`.
+fn measure<L: Length + Drop>(alloc: Global, dag: &Dag) -> Result<SlackTable, AllocError>
+    requires fits { AllAreShorter dag.now L.limit }
+    ensures longest { IfOk result (λ table. IsLongestLength dag.now table.longest) }
+    ensures entries { IfOk result (λ table. length table.slacks.items ≡ order_of dag.now) }
+    ensures slack { IfOk result
+        (λ table. EachIndex dag.now.weights (λ v. IsSlack dag.now v (slice_index table.slacks.items v))) }
+    ensures one_more_moves { IfOk result
+        (λ table. EachIndex dag.now.weights
+        (λ v. ¬ KeepsLongest dag.now v (slice_index table.slacks.items v + 1))) }
+{
+    let Lengths { from, longest } = lengths_from::<L>(alloc, dag)?;
+    let into = lengths_into::<L>(alloc, dag)?;
+    let mut slacks = Vec::with_capacity(alloc, into.len())?;
+    'vertices: for vertex in 0..into.len() {
+        let through = into[vertex].plus(from[vertex]);
+        let slack = longest.minus(through);
+        slacks.push(slack.to_u128())?;
+    }
+    Ok(SlackTable {
+        longest: longest.to_u128(),
+        slacks,
+    })
 }

@@ -21,6 +21,10 @@ chain_length g c = sum_by (weight_of g) c
 abbrev pub NoneIsLonger : Graph → ℕ → Type 0
 NoneIsLonger g n = (c : List ℕ) → IsChain g c → chain_length g c ≤ n
 
+-- each chain of the graph is shorter than n
+abbrev pub AllAreShorter : Graph → ℕ → Type 0
+AllAreShorter g n = (c : List ℕ) → IsChain g c → chain_length g c < n
+
 -- a longest chain: no chain of the graph is longer
 pub record IsLongest (g : Graph) (c : List ℕ) : Type 0 where
   pub chain : IsChain g c

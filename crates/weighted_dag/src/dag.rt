@@ -20,7 +20,8 @@ impl Model for Dag {
 }
 
 impl Dag {
-    ghost use Rattle.std.specs.Prelude.{◌≡◌, ◌^◌, ◌<◌, All, length, IfOk, OnOk, OnErr};
+    ghost use Rattle.std.specs.Prelude.{◌≡◌, ◌^◌, ◌<◌, All, length, sum, IfOk, OnOk, OnErr};
+    ghost use Rattle.weighted_dag.specs.Chains.{NoneIsLonger};
     ghost use Rattle.weighted_dag.specs.Graphs.{IsGraph, order_of, successors_of, edgeless, with_edge};
 
     /// A graph with a vertex for each weight, by place, and no edge yet.
@@ -59,6 +60,19 @@ impl Dag {
         ensures form { IsGraph self.now }
     {
         self.weights.as_slice()
+    }
+
+    /// Adds up the weights. No chain is longer than this sum.
+    pub fn total(&self) -> u128
+        ensures sum { result ≡ sum self.now.weights }
+        ensures none_longer { NoneIsLonger self.now result }
+    {
+        let weights = self.weights();
+        let mut total = 0;
+        'weights: for weight in weights {
+            total += u128::from(*weight);
+        }
+        total
     }
 
     /// The vertices to which an edge leads from this one, in rising order.

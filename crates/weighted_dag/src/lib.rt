@@ -4,6 +4,7 @@
 
 mod bit_set;
 mod dag;
+mod length;
 mod lengths;
 mod number_list;
 #[cfg(test)]
@@ -13,6 +14,7 @@ mod reduction;
 mod tests;
 
 pub use dag::Dag;
-pub use lengths::lengths_from;
+pub use length::Length;
+pub use lengths::{Lengths, lengths_from, longest_length};
 pub use number_list::NumberList;
 pub use reduction::reduce;

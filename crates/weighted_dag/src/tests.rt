@@ -53,7 +53,10 @@ fn worked_graphs_are_reduced_and_have_these_lengths(rt: HostRuntime) -> Result<(
         assert_eq!(rt; reduced.weights(), row.weights);
         assert_eq!(rt; edges_in(rt.alloc(), &dag)?.as_slice(), row.edges);
         assert_eq!(rt; edges_in(rt.alloc(), &reduced)?.as_slice(), row.kept);
-        assert_eq!(rt; lengths_from(rt.alloc(), &dag)?.as_slice(), row.lengths);
+        assert_eq!(rt;
+            lengths_from::<u128>(rt.alloc(), &dag)?.from.as_slice(),
+            row.lengths
+        );
     }
     Ok(())
 }

@@ -1,5 +1,6 @@
+use Rattle.std.proofs.Common.{map}
 use Rattle.slack.proofs.Into.{IsPassedBelow}
 use Rattle.slack.proofs.forward.lengths_into.Given as goal
 
 abbrev pub invariant-vertices : goal.invariant-vertices
-invariant-vertices l = IsPassedBelow l.dag l.vertex l.lengths.items
+invariant-vertices g l = IsPassedBelow l.dag l.vertex (map g.L.Length.value l.lengths.items)

@@ -1,6 +1,6 @@
-use Rattle.std.proofs.Common.{ℕ, take}
+use Rattle.std.proofs.Common.{ℕ, take, map}
 use Rattle.slack.specs.Passes.{RaisesAt}
 use Rattle.slack.proofs.forward.raise_each.Given as goal
 
-abbrev pub invariant-places : goal.invariant-places
-invariant-places l = (k : ℕ) → RaisesAt (take l.place-index l.places) l.least l.fn.numbers l.numbers k
+abbrev pub invariant-indices : goal.invariant-indices
+invariant-indices g l = (k : ℕ) → RaisesAt (take l.index-index l.indices) (g.L.Length.value l.least) (map g.L.Length.value l.fn.numbers) (map g.L.Length.value l.numbers) k
