@@ -8,4 +8,4 @@ mod plain;
 #[cfg(test)]
 mod tests;
 
-pub use growth::slacks;
+pub use growth::{SlackTable, longest_and_slacks, slacks};

@@ -4,7 +4,7 @@ use Rattle.std.specs.Int.{bit_at}
 use Rattle.std.proofs.lemmas.Bool.{cases_eq, cases_lt}
 use Rattle.std.proofs.lemmas.List.{get_or_past}
 use Rattle.std.proofs.lemmas.Nat.Bits.{bit_at_set_same, bit_at_set_other, bit_at_or, bit_at-lt}
-use Rattle.weighted_dag.specs.BitSets.{Has}
+use Rattle.weighted_dag.specs.inner.BitSets.{Has}
 
 pub Has-insert : (ws : List ℕ) (n w : ℕ) → n / 64 < length ws → w ≡ get_or ws (n / 64) 0 → (k : ℕ) → Has (set ws (n / 64) (bit_or w (1 * 2 ^ (n % 64) % 18446744073709551616))) k ↔ (Has ws k ⊎ (k ≡ n))
 Has-insert ws n w inside is k =

@@ -5,9 +5,9 @@ use Rattle.std.proofs.lemmas.List.{get_or-take, length-take-le, take_more, get_o
 use Rattle.std.proofs.lemmas.List.Elements.{Contains-append_left, Contains-push, Contains-push_cases, Contains-get_or}
 use Rattle.std.proofs.lemmas.List.Kept.{AllPairs-from_increasing}
 use Rattle.weighted_dag.specs.Graphs.{Graph, IsGraph, IsEdge, order_of, successors_of, with_edge}
-use Rattle.weighted_dag.specs.BitSets.{Has, words_for}
+use Rattle.weighted_dag.specs.inner.BitSets.{Has, words_for}
 use Rattle.weighted_dag.specs.Reductions.{IsReachable, HasDetour}
-use Rattle.weighted_dag.specs.ReductionSteps.{IsReducedAt, IsReachOf}
+use Rattle.weighted_dag.specs.inner.ReductionSteps.{IsReducedAt, IsReachOf}
 use Rattle.weighted_dag.proofs.Edges.{with_edge_same, with_edge_other}
 use Rattle.weighted_dag.proofs.Paths.{IsReachable-cases, reachable_by_edge, reachable_by_detour, detour_by_edge, reachable_later, reachable_trans}
 

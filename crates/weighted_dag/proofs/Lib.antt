@@ -5,3 +5,4 @@ pub mod Longest
 pub mod Reduced
 pub mod Keeping
 pub mod Reducing
+pub mod SuccessorLists

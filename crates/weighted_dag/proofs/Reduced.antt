@@ -4,7 +4,7 @@ use Rattle.std.proofs.lemmas.List.Sums.{sum_by-cons, sum_by-append}
 use Rattle.weighted_dag.specs.Graphs.{Graph, IsGraph, IsEdge, order_of, weight_of}
 use Rattle.weighted_dag.specs.Chains.{IsChain, LeadsTo, IsLongest, IsLongestLength, chain_length}
 use Rattle.weighted_dag.specs.Reductions.{IsReachable, HasDetour, IsKeptEdge}
-use Rattle.weighted_dag.specs.ReductionSteps.{IsReducedAt}
+use Rattle.weighted_dag.specs.inner.ReductionSteps.{IsReducedAt}
 use Rattle.weighted_dag.proofs.Paths.{IsChain-join, IsReachable-cases, reachable_by_edge, reachable_later, reachable_trans}
 
 module _ (g r : Graph) (form : IsGraph g) (form' : IsGraph r) (same : r.weights ≡ g.weights) (reduced : (a : ℕ) → IsReducedAt g r a) where

@@ -4,7 +4,7 @@ use Rattle.std.proofs.lemmas.Bool.{cases_eq}
 use Rattle.std.proofs.lemmas.List.{get_or_append_left, get_or_push}
 use Rattle.weighted_dag.specs.Graphs.{Graph, IsGraph, IsEdge, order_of, successors_of}
 use Rattle.weighted_dag.specs.Reductions.{HasDetour}
-use Rattle.weighted_dag.specs.ReductionSteps.{IsReducedAt, IsReachOf}
+use Rattle.weighted_dag.specs.inner.ReductionSteps.{IsReducedAt, IsReachOf}
 
 -- the vertices from v on are done, and the others have no edge yet
 pub record IsReducedFrom (g r : Graph) (v : ℕ) (reached : List (List ℕ)) : Type 0 where

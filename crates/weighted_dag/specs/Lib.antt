@@ -2,5 +2,4 @@ pub mod Graphs
 pub mod Chains
 pub mod Slacks
 pub mod Reductions
-pub mod ReductionSteps
-pub mod BitSets
+pub mod inner

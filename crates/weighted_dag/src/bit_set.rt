@@ -17,7 +17,7 @@ impl Model for BitSet {
 
 impl BitSet {
     ghost use Rattle.std.specs.Prelude.{◌≡◌, ℕ, ◌/◌, ◌<◌, ◌↔◌, ◌⊎◌, length, IfOk, IsTrue};
-    ghost use Rattle.weighted_dag.specs.BitSets.{Has, words_for};
+    ghost use Rattle.weighted_dag.specs.inner.BitSets.{Has, words_for};
 
     /// The empty set, with room for the numbers below the size.
     pub fn empty(alloc: Global, size: usize) -> Result<BitSet, AllocError>

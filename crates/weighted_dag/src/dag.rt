@@ -1,3 +1,6 @@
+ghost use Rattle.std.specs.Prelude.{◌↔◌, IsTrue};
+ghost use Rattle.weighted_dag.specs.inner.SuccessorLists.{AreSuccessors};
+
 use crate::number_list::NumberList;
 use std::alloc::{AllocError, Global};
 use std::marker::Model;
@@ -20,7 +23,7 @@ impl Model for Dag {
 }
 
 impl Dag {
-    ghost use Rattle.std.specs.Prelude.{◌≡◌, ◌^◌, ◌<◌, All, length, sum, IfOk, OnOk, OnErr};
+    ghost use Rattle.std.specs.Prelude.{◌≡◌, ◌^◌, ◌<◌, ◌↔◌, IsTrue, All, length, sum, IfOk, OnOk, OnErr};
     ghost use Rattle.weighted_dag.specs.Chains.{NoneIsLonger};
     ghost use Rattle.weighted_dag.specs.Graphs.{IsGraph, order_of, successors_of, edgeless, with_edge};
 
@@ -38,6 +41,34 @@ impl Dag {
             weights,
             successors,
         })
+    }
+
+    /// Takes the finished lists of successors, one for each vertex. It takes no memory.
+    pub fn of(weights: Vec<u64>, successors: Vec<NumberList>) -> Dag
+        requires { IsGraph (record { weights = weights.items; successors = successors.items }) }
+        ensures { result ≡ record { weights = weights.items; successors = successors.items } }
+    {
+        Dag {
+            weights,
+            successors,
+        }
+    }
+
+    /// Tells whether weights and lists of successors form a graph, as `of` requires: fewer than
+    /// 2^32 weights, a list for each, and each list rises and has only later vertices.
+    pub fn fits(weights: &[u64], successors: &[NumberList]) -> bool
+        ensures { IsTrue result ↔ IsGraph (record { weights = weights.now; successors = successors.now }) }
+    {
+        let order = weights.len();
+        if order >= 1 << 32 || successors.len() != order {
+            return false;
+        }
+        'vertices: for (vertex, list) in successors.iter().enumerate() {
+            if !are_successors(vertex, order, list.items()) {
+                return false;
+            }
+        }
+        true
     }
 
     /// Adds an edge. The successors of a vertex are added in rising order, whatever the order of the vertices.
@@ -84,4 +115,19 @@ impl Dag {
         let list = &self.successors[vertex as usize];
         list.items()
     }
+}
+
+/// Tells whether the list rises and has only later vertices of a graph with so many vertices.
+fn are_successors(vertex: usize, order: usize, list: &[u32]) -> bool
+    ensures { IsTrue result ↔ AreSuccessors vertex order list.now }
+{
+    let mut above = vertex;
+    'successors: for successor in list {
+        let successor = *successor as usize;
+        if successor <= above || successor >= order {
+            return false;
+        }
+        above = successor;
+    }
+    true
 }

@@ -2,7 +2,7 @@ ghost use Rattle.std.specs.Prelude.{◌≡◌, ◌≢◌, ℕ, ◌+◌, ◌-◌,
 ghost use Rattle.weighted_dag.specs.Graphs.{IsGraph, order_of, successors_of, IsEdge};
 ghost use Rattle.weighted_dag.specs.Chains.{IsLongestLength};
 ghost use Rattle.weighted_dag.specs.Reductions.{IsReachable, HasDetour, IsKeptEdge};
-ghost use Rattle.weighted_dag.specs.ReductionSteps.{IsReducedAt, IsReachOf};
+ghost use Rattle.weighted_dag.specs.inner.ReductionSteps.{IsReducedAt, IsReachOf};
 
 use crate::bit_set::BitSet;
 use crate::dag::Dag;

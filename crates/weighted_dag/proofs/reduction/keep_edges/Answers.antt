@@ -3,8 +3,8 @@ use Rattle.std.proofs.lemmas.List.{take_all}
 use Rattle.weighted_dag.specs.Graphs.{successors_of}
 use Rattle.weighted_dag.proofs.Keeping.{edge_at, kept_below, table_at, kept_step, dropped_step, IsReachOf-all, IsReducedAt-all}
 use Rattle.std.proofs.lemmas.Bool.{both_ways}
-use Rattle.weighted_dag.specs.BitSets.{Has}
-use Rattle.weighted_dag.specs.ReductionSteps.{IsReachOf}
+use Rattle.weighted_dag.specs.inner.BitSets.{Has}
+use Rattle.weighted_dag.specs.inner.ReductionSteps.{IsReachOf}
 use Rattle.weighted_dag.proofs.reduction.keep_edges.Goals as goal
 use Rattle.weighted_dag.proofs.reduction.keep_edges.Goals.{After-index-reached-count, then-not-contains+in_ok-edge, else-not-contains}
 

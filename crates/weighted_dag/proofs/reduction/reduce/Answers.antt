@@ -1,5 +1,5 @@
 use Rattle.std.proofs.Common.{◌≡◌, ℕ, ◌+◌, ◌-◌, subst, arith}
-use Rattle.weighted_dag.specs.ReductionSteps.{IsReducedAt}
+use Rattle.weighted_dag.specs.inner.ReductionSteps.{IsReducedAt}
 use Rattle.weighted_dag.proofs.Reducing.{IsReducedFrom, IsReducedFrom-more}
 use Rattle.weighted_dag.proofs.Reduced.{edges, reachability, longest}
 use Rattle.weighted_dag.proofs.reduction.reduce.Goals as goal

@@ -1,8 +1,8 @@
--- What the private steps of the reduction keep. No public clause cites this file.
+-- What the private steps of the reduction keep. Private contracts alone cite this file.
 use Rattle.std.specs.Prelude.{◌≡◌, ℕ, List, ◌↔◌, ◌⊎◌, length}
 use Rattle.weighted_dag.specs.Graphs.{Graph, order_of, IsEdge}
 use Rattle.weighted_dag.specs.Reductions.{IsReachable, HasDetour, IsKeptEdge}
-use Rattle.weighted_dag.specs.BitSets.{Has, words_for}
+use Rattle.weighted_dag.specs.inner.BitSets.{Has, words_for}
 
 -- the edges of the vertex a in the graph r are those that are kept of g, and each other edge has a detour
 pub record IsReducedAt (g r : Graph) (a : ℕ) : Type 0 where

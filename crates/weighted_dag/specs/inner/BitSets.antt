@@ -1,4 +1,4 @@
--- Sets of numbers as words of 64 bits. No public clause cites this file.
+-- Sets of numbers as words of 64 bits. Private contracts alone cite this file.
 use Rattle.std.specs.Prelude.{◌≡◌, ℕ, ◌+◌, ◌/◌, ◌%◌, List, slice_index}
 use Rattle.std.specs.Int.{bit_at}
 

@@ -1,0 +1,5 @@
+use Rattle.weighted_dag.proofs.SuccessorLists.{IsInOrderTo}
+use Rattle.weighted_dag.proofs.dag.are_successors.Given as goal
+
+abbrev pub invariant-successors : goal.invariant-successors
+invariant-successors l = IsInOrderTo l.vertex l.order l.list l.successor-index l.above

@@ -1,0 +1,3 @@
+pub mod BitSets
+pub mod ReductionSteps
+pub mod SuccessorLists
