@@ -3,10 +3,6 @@
 
 mod chain;
 mod first_longest;
-#[cfg(test)]
-mod plain;
-#[cfg(test)]
-mod tests;
 mod walk;
 
 pub use chain::Chain;

@@ -3,9 +3,5 @@
 
 mod forward;
 mod growth;
-#[cfg(test)]
-mod plain;
-#[cfg(test)]
-mod tests;
 
 pub use growth::{SlackTable, longest_and_slacks, slacks};

@@ -1,7 +1,7 @@
 -- The edges of one vertex, taken in rising order: which are kept, and which vertices they lead to.
 use Rattle.std.proofs.Common.{◌≡◌, ◌≢◌, ℕ, ◌+◌, ◌-◌, ◌<◌, List, [], ◌∷◌, ◌++◌, length, get_or, take, All, Contains, ◌⊎◌, ◌↔◌, inl, inr, ⊎_elim, refl, sym, ap, ◌∙◌, subst, arith}
 use Rattle.std.proofs.lemmas.Bool.{cases_order}
-use Rattle.std.proofs.lemmas.List.{get_or-take, length-take-le, take_more, get_or_default, get_or_read, length-set}
+use Rattle.std.proofs.lemmas.List.{get_or-take, length-take-le, take_more, get_or_default, length-set}
 use Rattle.std.proofs.lemmas.List.Elements.{Contains-append_left, Contains-push, Contains-push_cases, Contains-get_or}
 use Rattle.std.proofs.lemmas.List.Kept.{AllPairs-from_increasing}
 use Rattle.weighted_dag.specs.Graphs.{Graph, IsGraph, IsEdge, order_of, successors_of, with_edge}
@@ -173,13 +173,6 @@ module _ (g before r : Graph) (form : IsGraph g) (v : ℕ) (set : List ℕ) (so 
 -- an edge leads to each successor that is looked at
 pub edge_at : (g : Graph) (v : ℕ) (items : List ℕ) (i : ℕ) → items ≡ successors_of g v → i < length items → IsEdge g v (get_or items i 0)
 edge_at g v items i e h = subst (λ (l : List ℕ). Contains l (get_or items i 0)) e (Contains-get_or items i 0 h)
-
--- the set of a later vertex, as the table has it
-pub table_at : (g : Graph) (v x n : ℕ) (reached : List (List ℕ)) (row : List ℕ) → ((k : ℕ) → v < k → k < order_of g → IsReachOf g k (get_or reached (order_of g - 1 - k) [])) → length reached + v + 1 ≡ order_of g → n ≡ order_of g → v < x → x < order_of g → row ≡ get_or reached (n - 1 - x) row → IsReachOf g x row
-table_at g v x n reached row table size same later within is =
-    let at : row ≡ get_or reached (order_of g - 1 - x) row = subst (λ (m : ℕ). row ≡ get_or reached (m - 1 - x) row) same is in
-    let e : row ≡ get_or reached (order_of g - 1 - x) [] = get_or_read reached (order_of g - 1 - x) row (omega arith) at [] in
-    subst (IsReachOf g x) (sym e) (table x later within)
 
 -- a vertex has its list of successors
 pub row_of : (g r r' : Graph) (v x : ℕ) → r' ≡ with_edge r v x → IsGraph r' → r.weights ≡ g.weights → v < order_of g → v < length r.successors

@@ -3,7 +3,7 @@ use std::marker::Model;
 
 /// A set of numbers below a size, a bit for each.
 #[derive(Drop)]
-pub struct BitSet {
+pub(crate) struct BitSet {
     words: Vec<u64>,
 }
 
@@ -19,8 +19,8 @@ impl BitSet {
     ghost use Rattle.std.specs.Prelude.{◌≡◌, ℕ, ◌/◌, ◌<◌, ◌↔◌, ◌⊎◌, length, IfOk, IsTrue};
     ghost use Rattle.weighted_dag.specs.inner.BitSets.{Has, words_for};
 
-    /// The empty set, with room for the numbers below the size.
-    pub fn empty(alloc: Global, size: usize) -> Result<BitSet, AllocError>
+    /// Makes the empty set, with room for the numbers below the size.
+    pub(crate) fn empty(alloc: Global, size: usize) -> Result<BitSet, AllocError>
         ensures none { IfOk result (λ set. (k : ℕ) → ¬ Has set k) }
         ensures room { IfOk result (λ set. length set ≡ words_for size) }
     {
@@ -28,8 +28,8 @@ impl BitSet {
         Ok(BitSet { words })
     }
 
-    /// Whether the set has the number.
-    pub fn contains(&self, number: u32) -> bool
+    /// Tells whether the set has the number.
+    pub(crate) fn contains(&self, number: u32) -> bool
         requires { number / 64 < length self.now }
         ensures { IsTrue result ↔ Has self.now number }
     {
@@ -38,25 +38,39 @@ impl BitSet {
     }
 
     /// Adds the number.
-    pub fn insert(&mut self, number: u32)
+    pub(crate) fn insert(&mut self, number: u32)
         requires { number / 64 < length self.old }
         ensures has { (k : ℕ) → Has self.new k ↔ (Has self.old k ⊎ (k ≡ number)) }
         ensures room { length self.new ≡ length self.old }
     {
-        let place = number as usize / 64;
+        let index = number as usize / 64;
         let bit = 1u64 << (number % 64);
-        self.words[place] |= bit;
+        self.words[index] |= bit;
     }
 
-    /// Adds the numbers of another set with the same room.
-    pub fn unite(&mut self, other: &BitSet)
-        requires { length self.old ≡ length other.now }
-        ensures has { (k : ℕ) → Has self.new k ↔ (Has self.old k ⊎ Has other.now k) }
+    /// Adds the numbers of another set with the same room, given by its words.
+    pub(crate) fn unite(&mut self, words: &[u64])
+        requires { length self.old ≡ length words.now }
+        ensures has { (k : ℕ) → Has self.new k ↔ (Has self.old k ⊎ Has words.now k) }
         ensures room { length self.new ≡ length self.old }
     {
-        let more = other.words.as_slice();
-        'words: for place in 0..more.len() {
-            self.words[place] |= more[place];
+        'words: for index in 0..words.len() {
+            self.words[index] |= words[index];
         }
+    }
+
+    /// Removes all numbers.
+    pub(crate) fn clear(&mut self)
+        ensures none { (k : ℕ) → ¬ Has self.new k }
+        ensures room { length self.new ≡ length self.old }
+    {
+        self.words.fill(0);
+    }
+
+    /// The words of the set, a bit for each number.
+    pub(crate) fn words(&self) -> &[u64]
+        ensures { result.now ≡ self.now }
+    {
+        self.words.as_slice()
     }
 }

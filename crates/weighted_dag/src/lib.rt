@@ -7,8 +7,6 @@ mod dag;
 mod length;
 mod lengths;
 mod number_list;
-#[cfg(test)]
-mod plain;
 mod reduction;
 #[cfg(test)]
 mod tests;

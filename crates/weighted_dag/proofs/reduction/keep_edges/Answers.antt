@@ -1,12 +1,13 @@
 use Rattle.std.proofs.Common.{◌≡◌, ℕ, ◌<◌, ◌≤◌, List, length, get_or, ap, ◌∙◌, subst, arith}
 use Rattle.std.proofs.lemmas.List.{take_all}
-use Rattle.weighted_dag.specs.Graphs.{successors_of}
-use Rattle.weighted_dag.proofs.Keeping.{edge_at, kept_below, table_at, kept_step, dropped_step, IsReachOf-all, IsReducedAt-all}
+use Rattle.weighted_dag.specs.Graphs.{order_of, successors_of}
+use Rattle.weighted_dag.proofs.Keeping.{edge_at, kept_below, kept_step, dropped_step, IsReachOf-all, IsReducedAt-all}
 use Rattle.std.proofs.lemmas.Bool.{both_ways}
-use Rattle.weighted_dag.specs.inner.BitSets.{Has}
+use Rattle.weighted_dag.specs.inner.BitSets.{Has, words_for}
 use Rattle.weighted_dag.specs.inner.ReductionSteps.{IsReachOf}
+use Rattle.weighted_dag.proofs.Reducing.{set_room, set_reached}
 use Rattle.weighted_dag.proofs.reduction.keep_edges.Goals as goal
-use Rattle.weighted_dag.proofs.reduction.keep_edges.Goals.{After-index-reached-count, then-not-contains+in_ok-edge, else-not-contains}
+use Rattle.weighted_dag.proofs.reduction.keep_edges.Goals.{After-set_of, then-not-contains+in_ok-edge, else-not-contains}
 
 pub contains-requires : goal.contains-requires
 contains-requires c =
@@ -47,24 +48,24 @@ overflow_sub-count-then-not-contains c =
     let same = ap length c.weights-count.ensures.weights in
     omega arith
 
-pub bounds-reached-count : goal.bounds-reached-count
-bounds-reached-count c =
+pub set_of-requires : goal.set_of-requires
+set_of-requires c =
     let s = c.successors-successor-items in
     let edge = edge_at c.args.dag.now c.args.vertex s.result.now c.successors.successor-index s.ensures.successors c.successors-test.true in
-    let within = s.ensures.form.within c.args.vertex _ edge in
-    let later = s.ensures.form.later c.args.vertex _ edge in
-    let same = ap length c.weights-count.ensures.weights in
-    let table = c.requires.length in
-    omega arith
+    let size : length c.words-size.result.now ≡ words_for (order_of c.args.dag.now) = ap length c.words-size.ensures ∙ c.insert.ensures.room ∙ c.successors.invariant.room in
+    set_room c.args.dag.now c.args.vertex (get_or s.result.now c.successors.successor-index 0) (length c.weights-count.result.now) (length c.words-size.result.now) c.args.reached.now
+    c.requires.reached (ap length c.weights-count.ensures.weights) size
+    (s.ensures.form.later c.args.vertex _ edge) (s.ensures.form.within c.args.vertex _ edge)
 
 -- the set of the vertices that the successor leads to
-reach_at : (c : After-index-reached-count) → IsReachOf c.args.dag.now (get_or c.successors-successor-items.result.now c.successors.successor-index 0) c.index-reached-count.result
+reach_at : (c : After-set_of) → IsReachOf c.args.dag.now (get_or c.successors-successor-items.result.now c.successors.successor-index 0) c.set_of.result.now
 reach_at c =
     let s = c.successors-successor-items in
     let edge = edge_at c.args.dag.now c.args.vertex s.result.now c.successors.successor-index s.ensures.successors c.successors-test.true in
-    table_at c.args.dag.now c.args.vertex (get_or s.result.now c.successors.successor-index 0) (length c.weights-count.result.now) c.args.reached.now c.index-reached-count.result
-    c.requires.reached c.requires.length (ap length c.weights-count.ensures.weights)
-    (s.ensures.form.later c.args.vertex _ edge) (s.ensures.form.within c.args.vertex _ edge) c.index-reached-count.is
+    let size : length c.words-size.result.now ≡ words_for (order_of c.args.dag.now) = ap length c.words-size.ensures ∙ c.insert.ensures.room ∙ c.successors.invariant.room in
+    set_reached c.args.dag.now c.args.vertex (get_or s.result.now c.successors.successor-index 0) (length c.weights-count.result.now) (length c.words-size.result.now) c.args.reached.now c.set_of.result.now
+    c.requires.reached (ap length c.weights-count.ensures.weights) size
+    (s.ensures.form.later c.args.vertex _ edge) (s.ensures.form.within c.args.vertex _ edge) c.set_of.ensures
 
 pub unite-requires : goal.unite-requires
 unite-requires c =
@@ -84,14 +85,15 @@ successors-preserved c =
     elim c.if-not-contains.branch [
       | then-not-contains+in_ok-edge w ↦
           let edge = edge_at g v s.result.now i s.ensures.successors c.successors-test.true in
-          let reach = table_at g v (get_or s.result.now i 0) (length c.weights-count.result.now) c.args.reached.now w.index-reached-count.result
-          c.requires.reached c.requires.length (ap length c.weights-count.ensures.weights)
-          (s.ensures.form.later v _ edge) (s.ensures.form.within v _ edge) w.index-reached-count.is in
+          let size : length w.words-size.result.now ≡ words_for (order_of g) = ap length w.words-size.ensures ∙ w.insert.ensures.room ∙ c.successors.invariant.room in
+          let reach = set_reached g v (get_or s.result.now i 0) (length c.weights-count.result.now) (length w.words-size.result.now) c.args.reached.now w.set_of.result.now
+          c.requires.reached (ap length c.weights-count.ensures.weights) size
+          (s.ensures.form.later v _ edge) (s.ensures.form.within v _ edge) w.set_of.ensures in
           let hasnt : ¬ Has c.successors.set (get_or s.result.now i 0) = λ (h : Has c.successors.set (get_or s.result.now i 0)). both_ways c.contains.result w.if-not-contains.true (c.contains.ensures.1 h) in
           rw (w.reduced-is, w.set-is)
           (kept_step g c.args.reduced.now c.successors.reduced s.ensures.form v i c.successors.set inside c.successors.invariant (get_or s.result.now i 0) x_is
           w.edge.new.self w.in_ok-edge.ensures.ok w.in_ok-edge.ensures.form c.requires.vertex hasnt
-          w.index-reached-count.result w.insert.new.self w.unite.new.self reach (w.unite.ensures.room ∙ w.insert.ensures.room) w.insert.ensures.has w.unite.ensures.has)
+          w.set_of.result.now w.insert.new.self w.unite.new.self reach (w.unite.ensures.room ∙ w.insert.ensures.room) w.insert.ensures.has w.unite.ensures.has)
       | else-not-contains w ↦
           rw (w.reduced-is, w.set-is)
           (dropped_step g c.args.reduced.now c.successors.reduced s.ensures.form v i c.successors.set inside c.successors.invariant (get_or s.result.now i 0) x_is

@@ -1,4 +1,4 @@
-use Rattle.std.proofs.Common.{◌≡◌, ℕ, ◌+◌, ◌-◌, subst, arith}
+use Rattle.std.proofs.Common.{◌≡◌, ℕ, ◌+◌, ◌-◌, ◌++◌, length, ap, subst, arith}
 use Rattle.weighted_dag.specs.inner.ReductionSteps.{IsReducedAt}
 use Rattle.weighted_dag.proofs.Reducing.{IsReducedFrom, IsReducedFrom-more}
 use Rattle.weighted_dag.proofs.Reduced.{edges, reachability, longest}
@@ -10,26 +10,28 @@ vertices-preserved c =
     let v = c.vertices.vertex - 1 in
     let next : c.vertices.vertex ≡ v + 1 = omega arith in
     let so : IsReducedFrom c.args.dag.now c.vertices.reduced (v + 1) c.vertices.reached.items =
-    subst (λ (n : ℕ). IsReducedFrom c.args.dag.now c.vertices.reduced n c.vertices.reached.items) next c.vertices.invariant in
-    let of = c.in_ok-set.ensures in
-    rw c.in_ok-push.ensures.items
-    (IsReducedFrom-more c.args.dag.now c.vertices.reduced c.keep_edges.new.reduced v c.vertices.reached.items c.in_ok-set.set so of.set of.edges of.others of.same_weights of.form)
+    subst (λ (n : ℕ). IsReducedFrom c.args.dag.now c.vertices.reduced n c.vertices.reached.items) next c.vertices.invariant.0 in
+    let order = ap length c.weights-weights.ensures.weights in
+    let of = c.in_ok-keep_edges.ensures in
+    let more : IsReducedFrom c.args.dag.now c.keep_edges.new.reduced v (c.vertices.reached.items ++ c.keep_edges.new.set) =
+    IsReducedFrom-more c.args.dag.now c.vertices.reduced c.keep_edges.new.reduced v c.vertices.reached.items c.keep_edges.new.set (omega arith) so of.set of.edges of.others of.same_weights of.form in
+    (rw (c.in_ok-extend_from_slice.ensures.items, c.words-in-vertices.ensures) more, of.set.room)
 
 -- each vertex is done
 all_done : (c : After-vertices) → (a : ℕ) → IsReducedAt c.args.dag.now c.vertices.reduced a
-all_done c a = let zero : c.vertices.vertex ≡ 0 = omega arith in c.vertices.invariant.done a (omega arith)
+all_done c a = let zero : c.vertices.vertex ≡ 0 = omega arith in c.vertices.invariant.0.done a (omega arith)
 
 pub returns-clause-edges : goal.returns-clause-edges
 returns-clause-edges c =
-    edges c.args.dag.now c.vertices.reduced c.weights-weights.ensures.form c.vertices.invariant.form c.vertices.invariant.weights (all_done (goal.at.returns-clause-edges c).After-vertices)
+    edges c.args.dag.now c.vertices.reduced c.weights-weights.ensures.form c.vertices.invariant.0.form c.vertices.invariant.0.weights (all_done (goal.at.returns-clause-edges c).After-vertices)
 
 pub returns-clause-dropped : goal.returns-clause-dropped
 returns-clause-dropped c = λ a b e. (all_done (goal.at.returns-clause-dropped c).After-vertices a).others b e
 
 pub returns-clause-reachability : goal.returns-clause-reachability
 returns-clause-reachability c =
-    reachability c.args.dag.now c.vertices.reduced c.weights-weights.ensures.form c.vertices.invariant.form c.vertices.invariant.weights (all_done (goal.at.returns-clause-reachability c).After-vertices)
+    reachability c.args.dag.now c.vertices.reduced c.weights-weights.ensures.form c.vertices.invariant.0.form c.vertices.invariant.0.weights (all_done (goal.at.returns-clause-reachability c).After-vertices)
 
 pub returns-clause-longest : goal.returns-clause-longest
 returns-clause-longest c =
-    longest c.args.dag.now c.vertices.reduced c.weights-weights.ensures.form c.vertices.invariant.form c.vertices.invariant.weights (all_done (goal.at.returns-clause-longest c).After-vertices)
+    longest c.args.dag.now c.vertices.reduced c.weights-weights.ensures.form c.vertices.invariant.0.form c.vertices.invariant.0.weights (all_done (goal.at.returns-clause-longest c).After-vertices)

@@ -2,4 +2,4 @@ use Rattle.weighted_dag.proofs.Bits.{IsUnitedBelow}
 use Rattle.weighted_dag.proofs.bit_set.BitSet.unite.Given as goal
 
 abbrev pub invariant-words : goal.invariant-words
-invariant-words l = IsUnitedBelow l.place l.initial.self-inside.words.items l.more l.self-inside.words.items
+invariant-words l = IsUnitedBelow l.index l.initial.self-inside.words.items l.words l.self-inside.words.items
