@@ -133,7 +133,10 @@ fn worked_graphs_have_these_answers(rt: HostRuntime) -> Result<(), Fail> {
         let reduced = reduce(rt.alloc(), &dag)?;
         assert_eq!(rt; reduced.weights(), row.weights);
         assert_eq!(rt; edges_in(rt.alloc(), &reduced)?.as_slice(), row.kept);
-        assert_eq!(rt; longest_length(rt.alloc(), &dag)?, row.length);
+        assert_eq!(rt;
+            longest_length(rt.alloc(), &dag, dag.weights())?,
+            row.length
+        );
         assert_eq!(rt;
             lengths_from::<u128>(rt.alloc(), &dag)?.from.as_slice(),
             row.from

@@ -4,7 +4,7 @@ use Rattle.std.proofs.lemmas.Bool.{cases_lt, cases_eq}
 use Rattle.std.proofs.lemmas.List.Elements.{All-contains, All-weaker, All-more, Contains-get_or}
 use Rattle.std.proofs.lemmas.List.Sums.{sum_by-cons, sum_by-drop_more, sum_by-take-drop}
 use Rattle.std.proofs.lemmas.List.{drop-drop}
-use Rattle.weighted_dag.specs.Graphs.{Graph, IsGraph, IsEdge, order_of, weight_of, successors_of}
+use Rattle.weighted_dag.specs.Graphs.{Graph, IsGraph, IsEdge, order_of, weight_of, successors_of, with_weights}
 use Rattle.weighted_dag.specs.Chains.{IsChain, AllAreShorter, IsLongest, IsLongestFrom, IsLongestLength, chain_length}
 
 -- the numbers of the vertices from v on are their greatest lengths, and most is the greatest of them
@@ -61,6 +61,19 @@ IsLongestFrom-step g v lengths most' after form within known most = record {
         let best = (known.from p (omega arith) (form.within v p e)).none_longer c h.2 in
         let upper = All-contains (λ q. get_or lengths q 0 ≤ after) (successors_of g v) p most.upper e in
         omega arith
+
+-- other weights make a graph of a graph
+pub IsGraph-with_weights : (g : Graph) (ws : List ℕ) → IsGraph g → length ws ≡ order_of g → IsGraph (with_weights g ws)
+IsGraph-with_weights g ws form same =
+    let small = form.small in
+    let lists = form.lists in
+    record {
+      small = omega arith;
+      lists = omega arith;
+      later = form.later;
+      within = λ a b e. let w = form.within a b e in omega arith;
+      rising = form.rising;
+    }
 
 -- the successors of a vertex are vertices
 pub successors_within : (g : Graph) → IsGraph g → (v : ℕ) → All (λ p. p < order_of g) (successors_of g v)

@@ -40,3 +40,7 @@ edgeless ws = record { weights = ws; successors = replicate (length ws) [] }
 abbrev pub with_edge : Graph → ℕ → ℕ → Graph
 with_edge g a b =
     record { weights = g.weights; successors = slice_set g.successors a (successors_of g a ++ b ∷ []) }
+
+-- the graph with the same edges and these weights
+abbrev pub with_weights : Graph → List ℕ → Graph
+with_weights g ws = record { weights = ws; successors = g.successors }

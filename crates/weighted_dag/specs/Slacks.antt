@@ -1,12 +1,12 @@
 -- The slack of a vertex, by the longest length of the graph with its weight raised (M. Chow et al., "The Mystery
 -- Machine", OSDI 2014, section 3.4).
 use Rattle.std.specs.Prelude.{ℕ, ◌+◌, ◌≤◌, slice_set}
-use Rattle.weighted_dag.specs.Graphs.{Graph, weight_of}
+use Rattle.weighted_dag.specs.Graphs.{Graph, weight_of, with_weights}
 use Rattle.weighted_dag.specs.Chains.{IsLongestLength}
 
 -- the graph with the weight of the vertex v greater by n
 abbrev pub raised : Graph → ℕ → ℕ → Graph
-raised g v n = record { weights = slice_set g.weights v (weight_of g v + n); successors = g.successors }
+raised g v n = with_weights g (slice_set g.weights v (weight_of g v + n))
 
 -- with the weight of v greater by n the longest length is the longest length without
 abbrev pub KeepsLongest : Graph → ℕ → ℕ → Type 0

@@ -5,7 +5,8 @@ use crate::number_list::NumberList;
 use std::alloc::{AllocError, Global};
 use std::marker::Model;
 
-/// A weighted graph without cycles: vertices are numbered from 0, and each edge leads to a later vertex.
+/// A weighted graph without cycles: its vertices are numbered from 0, and each edge leads to a later
+/// vertex.
 #[derive(Drop)]
 pub struct Dag {
     weights: Vec<u64>,
@@ -25,9 +26,9 @@ impl Model for Dag {
 impl Dag {
     ghost use Rattle.std.specs.Prelude.{◌≡◌, ◌^◌, ◌<◌, ◌↔◌, IsTrue, All, length, sum, IfOk, OnOk, OnErr};
     ghost use Rattle.weighted_dag.specs.Chains.{NoneIsLonger};
-    ghost use Rattle.weighted_dag.specs.Graphs.{IsGraph, order_of, successors_of, edgeless, with_edge};
+    ghost use Rattle.weighted_dag.specs.Graphs.{IsGraph, order_of, successors_of, edgeless, with_edge, with_weights};
 
-    /// A graph with a vertex for each weight, by place, and no edge yet.
+    /// Makes a graph with a vertex for each weight, by index, and no edge yet.
     pub fn new(alloc: Global, weights: Vec<u64>) -> Result<Dag, AllocError>
         requires { length weights.items < 2 ^ 32 }
         ensures { IfOk result (λ dag. dag ≡ edgeless weights.items) }
@@ -43,7 +44,8 @@ impl Dag {
         })
     }
 
-    /// Takes the finished lists of successors, one for each vertex. It takes no memory.
+    /// Makes a graph of finished lists of successors, one for each vertex. It takes no memory; `fits`
+    /// tests what it requires.
     pub fn of(weights: Vec<u64>, successors: Vec<NumberList>) -> Dag
         requires { IsGraph (record { weights = weights.items; successors = successors.items }) }
         ensures { result ≡ record { weights = weights.items; successors = successors.items } }
@@ -71,7 +73,8 @@ impl Dag {
         true
     }
 
-    /// Adds an edge. The successors of a vertex are added in rising order, whatever the order of the vertices.
+    /// Adds an edge. The successors of a vertex are added in rising order, whatever the order of the
+    /// vertices.
     pub fn edge(&mut self, from: u32, to: u32) -> Result<(), AllocError>
         requires later { from < to }
         requires within { to < order_of self.old }
@@ -85,7 +88,7 @@ impl Dag {
         Ok(())
     }
 
-    /// The weight of each vertex.
+    /// Returns the weight of each vertex.
     pub fn weights(&self) -> &[u64]
         ensures weights { result.now ≡ self.now.weights }
         ensures form { IsGraph self.now }
@@ -98,15 +101,23 @@ impl Dag {
         ensures sum { result ≡ sum self.now.weights }
         ensures none_longer { NoneIsLonger self.now result }
     {
-        let weights = self.weights();
+        self.total_with(self.weights())
+    }
+
+    /// Adds up other weights for the same edges.
+    pub(crate) fn total_with(&self, weights: &[u64]) -> u128
+        requires { length weights.now ≡ order_of self.now }
+        ensures sum { result ≡ sum weights.now }
+        ensures none_longer { NoneIsLonger (with_weights self.now weights.now) result }
+    {
         let mut total = 0;
-        'weights: for weight in weights {
-            total += u128::from(*weight);
+        'vertices: for vertex in 0..self.weights.len() {
+            total += u128::from(weights[vertex]);
         }
         total
     }
 
-    /// The vertices to which an edge leads from this one, in rising order.
+    /// Returns the vertices to which an edge leads from this one, in rising order.
     pub fn successors(&self, vertex: u32) -> &[u32]
         requires { vertex < order_of self.now }
         ensures successors { result.now ≡ successors_of self.now vertex }

@@ -1,5 +1,5 @@
 ghost use Rattle.std.specs.Prelude.{◌≡◌, ℕ, ◌^◌, ◌<◌, ◌≤◌, ◌⊎◌, map, All, Contains, EachIndex, length, slice_index, IfOk};
-ghost use Rattle.weighted_dag.specs.Graphs.{IsGraph, order_of};
+ghost use Rattle.weighted_dag.specs.Graphs.{IsGraph, order_of, with_weights};
 ghost use Rattle.weighted_dag.specs.Chains.{AllAreShorter, IsLongestFrom, IsLongestLength};
 
 use crate::dag::Dag;
@@ -26,29 +26,50 @@ pub fn lengths_from<L: Length + Drop>(alloc: Global, dag: &Dag) -> Result<Length
     ensures longest { IfOk result (λ lengths. IsLongestLength dag.now (L.value lengths.longest)) }
     ensures form { IsGraph dag.now }
 {
-    let weights = dag.weights();
-    let mut from = vec![in alloc; L::of(0); weights.len()]?;
+    lengths_over(alloc, dag, dag.weights())
+}
+
+/// Computes the longest length over the edges of a graph with these weights, by index: its own
+/// weights, or others.
+pub fn longest_length(alloc: Global, dag: &Dag, weights: &[u64]) -> Result<u128, AllocError>
+    requires { length weights.now ≡ order_of dag.now }
+    ensures { IfOk result (λ n. IsLongestLength (with_weights dag.now weights.now) n) }
+{
+    if dag.total_with(weights) < 1 << 64 {
+        let lengths = lengths_over::<u64>(alloc, dag, weights)?;
+        Ok(lengths.longest.to_u128())
+    } else {
+        let lengths = lengths_over::<u128>(alloc, dag, weights)?;
+        Ok(lengths.longest)
+    }
+}
+
+/// Computes the lengths of the longest chains over the edges of a graph with these weights.
+fn lengths_over<L: Length + Drop>(
+    alloc: Global,
+    dag: &Dag,
+    weights: &[u64],
+) -> Result<Lengths<L>, AllocError>
+    requires entries { length weights.now ≡ order_of dag.now }
+    requires fits { AllAreShorter (with_weights dag.now weights.now) L.limit }
+    ensures entries { IfOk result (λ lengths. length lengths.from.items ≡ order_of dag.now) }
+    ensures from { IfOk result
+        (λ lengths. EachIndex weights.now
+        (λ v. IsLongestFrom (with_weights dag.now weights.now) v
+        (slice_index (map L.value lengths.from.items) v))) }
+    ensures longest { IfOk result
+        (λ lengths. IsLongestLength (with_weights dag.now weights.now) (L.value lengths.longest)) }
+{
+    let count = dag.weights().len();
+    let mut from = vec![in alloc; L::of(0); count]?;
     let mut longest = L::of(0);
-    'vertices: for vertex in (0..weights.len()).rev() {
+    'vertices: for vertex in (0..count).rev() {
         let after = greatest_at(&from, dag.successors(vertex as u32));
         let length = L::of(weights[vertex]).plus(after);
         from[vertex] = length;
         longest = longest.or_greater(length);
     }
     Ok(Lengths { from, longest })
-}
-
-/// Computes the longest length of a graph: the length of its longest chains.
-pub fn longest_length(alloc: Global, dag: &Dag) -> Result<u128, AllocError>
-    ensures { IfOk result (λ n. IsLongestLength dag.now n) }
-{
-    if dag.total() < 1 << 64 {
-        let lengths = lengths_from::<u64>(alloc, dag)?;
-        Ok(lengths.longest.to_u128())
-    } else {
-        let lengths = lengths_from::<u128>(alloc, dag)?;
-        Ok(lengths.longest)
-    }
 }
 
 /// Finds the greatest of the numbers at these indices; 0 where there is no index.
