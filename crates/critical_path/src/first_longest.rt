@@ -1,6 +1,7 @@
 ghost use Rattle.std.specs.Prelude.{◌≡◌, IfOk};
-ghost use Rattle.weighted_dag.specs.Chains.{AllAreShorter, IsChain, chain_length, NoneIsLonger, NoLongestIsBefore};
-ghost use Rattle.critical_path.specs.Walks.{IsFirstLongest};
+ghost use Rattle.weighted_dag.specs.Chains.{AllAreShorter, IsChain, chain_length, NoneIsLonger};
+ghost use Rattle.weighted_dag.specs.Chains.{NoLongestIsBefore};
+ghost use Rattle.critical_path.specs.inner.Walks.{IsFirstLongest};
 
 use crate::chain::Chain;
 use crate::walk::walk;

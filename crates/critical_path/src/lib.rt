@@ -1,4 +1,4 @@
-//! The critical path of a weighted graph: of its longest chains the first in list order.
+//! The critical path of a weighted graph: of its longest chains the first in lexicographic order.
 #![tactic(auto)]
 
 mod chain;

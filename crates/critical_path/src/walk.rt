@@ -1,8 +1,9 @@
-ghost use Rattle.std.specs.Prelude.{◌≡◌, ◌≢◌, ℕ, ◌^◌, ◌<◌, ◌⊎◌, map, All, EachIndex, length, slice_index, IfOk, IfSome, IfNone};
+ghost use Rattle.std.specs.Prelude.{◌≡◌, ◌≢◌, ℕ, ◌^◌, ◌<◌, ◌⊎◌, map, All, EachIndex, length};
+ghost use Rattle.std.specs.Prelude.{slice_index, IfOk, IfSome, IfNone};
 ghost use Rattle.std.specs.List.Sorted.{IsStrictlyIncreasing};
 ghost use Rattle.weighted_dag.specs.Graphs.{order_of};
 ghost use Rattle.weighted_dag.specs.Chains.{IsLongestFrom, IsLongestLength};
-ghost use Rattle.critical_path.specs.Walks.{IsFirstIndexOf, IsFirstLongest};
+ghost use Rattle.critical_path.specs.inner.Walks.{IsFirstIndexOf, IsFirstLongest};
 
 use std::alloc::{AllocError, Global};
 use weighted_dag::{Dag, Length};

@@ -1,3 +1,3 @@
-pub mod Leading
-pub mod Into
-pub mod Growing
+pub mod LeadingLemmas
+pub mod IntoLemmas
+pub mod GrowthLemmas

@@ -1,7 +1,7 @@
 ghost use Rattle.std.specs.Prelude.{◌≡◌, ℕ, ◌<◌, map, All, EachIndex, length, slice_index, IfOk};
 ghost use Rattle.weighted_dag.specs.Graphs.{IsGraph, order_of};
 ghost use Rattle.weighted_dag.specs.Chains.{AllAreShorter};
-ghost use Rattle.slack.specs.Passes.{IsLongestInto, RaisesAt};
+ghost use Rattle.slack.specs.inner.Passes.{IsLongestInto, RaisesAt};
 
 use std::alloc::{AllocError, Global};
 use weighted_dag::{Dag, Length};
@@ -27,7 +27,9 @@ pub(crate) fn lengths_into<L: Length + Drop>(alloc: Global, dag: &Dag) -> Result
 /// Raises the numbers at these indices to the least value that they may have.
 fn raise_each<L: Length>(numbers: &mut [L], indices: &[u32], least: L)
     requires { All (λ i. i < length numbers.old) indices.now }
-    ensures { (k : ℕ) → RaisesAt indices.now (L.value least) (map L.value numbers.old) (map L.value numbers.new) k }
+    ensures { (k : ℕ)
+        → RaisesAt indices.now (L.value least)
+        (map L.value numbers.old) (map L.value numbers.new) k }
 {
     'indices: for index in indices {
         let at = *index as usize;

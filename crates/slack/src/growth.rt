@@ -22,7 +22,8 @@ pub struct SlackTable {
 pub fn slacks(alloc: Global, dag: &Dag) -> Result<Vec<u128>, AllocError>
     ensures entries { IfOk result (λ slacks. length slacks.items ≡ order_of dag.now) }
     ensures slack { IfOk result
-        (λ slacks. EachIndex dag.now.weights (λ v. IsSlack dag.now v (slice_index slacks.items v))) }
+        (λ slacks. EachIndex dag.now.weights
+        (λ v. IsSlack dag.now v (slice_index slacks.items v))) }
     ensures one_more_moves { IfOk result
         (λ slacks. EachIndex dag.now.weights
         (λ v. ¬ KeepsLongest dag.now v (slice_index slacks.items v + 1))) }
@@ -37,7 +38,8 @@ pub fn longest_and_slacks(alloc: Global, dag: &Dag) -> Result<SlackTable, AllocE
     ensures longest { IfOk result (λ table. IsLongestLength dag.now table.longest) }
     ensures entries { IfOk result (λ table. length table.slacks.items ≡ order_of dag.now) }
     ensures slack { IfOk result
-        (λ table. EachIndex dag.now.weights (λ v. IsSlack dag.now v (slice_index table.slacks.items v))) }
+        (λ table. EachIndex dag.now.weights
+        (λ v. IsSlack dag.now v (slice_index table.slacks.items v))) }
     ensures one_more_moves { IfOk result
         (λ table. EachIndex dag.now.weights
         (λ v. ¬ KeepsLongest dag.now v (slice_index table.slacks.items v + 1))) }
@@ -55,7 +57,8 @@ fn measure<L: Length + Drop>(alloc: Global, dag: &Dag) -> Result<SlackTable, All
     ensures longest { IfOk result (λ table. IsLongestLength dag.now table.longest) }
     ensures entries { IfOk result (λ table. length table.slacks.items ≡ order_of dag.now) }
     ensures slack { IfOk result
-        (λ table. EachIndex dag.now.weights (λ v. IsSlack dag.now v (slice_index table.slacks.items v))) }
+        (λ table. EachIndex dag.now.weights
+        (λ v. IsSlack dag.now v (slice_index table.slacks.items v))) }
     ensures one_more_moves { IfOk result
         (λ table. EachIndex dag.now.weights
         (λ v. ¬ KeepsLongest dag.now v (slice_index table.slacks.items v + 1))) }

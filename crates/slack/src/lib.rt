@@ -1,4 +1,5 @@
-//! The slack of each vertex of a weighted graph: how much it can grow so that the longest length stays.
+//! The slack of each vertex of a weighted graph: how much its weight can grow so that the longest
+//! length stays.
 #![tactic(auto)]
 
 mod forward;

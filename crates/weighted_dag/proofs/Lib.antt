@@ -1,8 +1,8 @@
-pub mod Edges
-pub mod Bits
-pub mod Paths
-pub mod Longest
-pub mod Reduced
-pub mod Keeping
-pub mod Reducing
-pub mod SuccessorLists
+pub mod EdgeLemmas
+pub mod BitLemmas
+pub mod PathLemmas
+pub mod LengthLemmas
+pub mod ReducedLemmas
+pub mod KeepingLemmas
+pub mod ReducingLemmas
+pub mod SuccessorListLemmas

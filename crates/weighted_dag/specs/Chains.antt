@@ -1,5 +1,6 @@
--- Chains of a graph, their lengths, and which of them is the first longest. The longest chain is the critical path of
--- M. Chow et al., "The Mystery Machine", OSDI 2014, section 3.4; the order among equal chains is this project's own.
+-- Chains of a graph, their lengths, and which of them is the first longest. The longest chain is the
+-- critical path of M. Chow et al., "The Mystery Machine", OSDI 2014, section 3.4; the order among
+-- equal chains is this project's own.
 use Rattle.std.specs.Prelude.{◌≡◌, ℕ, ◌<◌, ◌≤◌, List, [], ◌∷◌, sum_by, ◌⊎◌}
 use Rattle.weighted_dag.specs.Graphs.{Graph, order_of, weight_of, IsEdge}
 
@@ -30,7 +31,8 @@ pub record IsLongest (g : Graph) (c : List ℕ) : Type 0 where
   pub chain : IsChain g c
   pub none_longer : NoneIsLonger g (chain_length g c)
 
--- list order: the lesser number at the first difference comes first, and a prefix before the list
+-- lexicographic order: the lesser number at the first difference comes first, and a prefix before
+-- the list
 abbrev pub IsBefore : List ℕ → List ℕ → Type 0
 IsBefore c [] = ⊥
 IsBefore [] (_ ∷ _) = Unit {0}

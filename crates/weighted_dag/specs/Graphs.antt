@@ -1,5 +1,6 @@
 -- Weighted graphs whose vertices are numbered from 0, and whose edges lead to greater numbers.
-use Rattle.std.specs.Prelude.{◌≡◌, ℕ, ◌^◌, ◌<◌, List, [], ◌∷◌, ◌++◌, length, replicate, slice_index, slice_index_or, slice_set, Contains}
+use Rattle.std.specs.Prelude.{◌≡◌, ℕ, ◌^◌, ◌<◌, List, [], ◌∷◌, ◌++◌, length, replicate}
+use Rattle.std.specs.Prelude.{slice_index, slice_index_or, slice_set, Contains}
 use Rattle.std.specs.List.Sorted.{IsStrictlyIncreasing}
 
 -- a weight for each vertex, and for each vertex the list of its successors
@@ -23,8 +24,8 @@ successors_of g v = slice_index_or g.successors v []
 abbrev pub IsEdge : Graph → ℕ → ℕ → Type 0
 IsEdge g a b = Contains (successors_of g a) b
 
--- what each graph keeps: there are fewer than 2 ^ 32 vertices, each has its list of successors, edges lead
--- to later vertices, and each list of successors rises
+-- what each graph keeps: there are fewer than 2 ^ 32 vertices, each has its list of successors,
+-- edges lead to later vertices, and each list of successors rises
 pub record IsGraph (g : Graph) : Type 0 where
   pub small : order_of g < 2 ^ 32
   pub lists : length g.successors ≡ order_of g
@@ -39,7 +40,10 @@ edgeless ws = record { weights = ws; successors = replicate (length ws) [] }
 -- the graph with b as the last successor of a
 abbrev pub with_edge : Graph → ℕ → ℕ → Graph
 with_edge g a b =
-    record { weights = g.weights; successors = slice_set g.successors a (successors_of g a ++ b ∷ []) }
+    record {
+      weights = g.weights;
+      successors = slice_set g.successors a (successors_of g a ++ b ∷ []);
+    }
 
 -- the graph with the same edges and these weights
 abbrev pub with_weights : Graph → List ℕ → Graph

@@ -1,4 +1,4 @@
--- Which edges of a graph are kept when it is reduced: its transitive reduction. This rule is the project's own.
+-- Which edges of a graph its transitive reduction keeps. This rule is the project's own.
 use Rattle.std.specs.Prelude.{ℕ, List, [], ◌∷◌, ◌++◌}
 use Rattle.weighted_dag.specs.Graphs.{Graph, IsEdge}
 use Rattle.weighted_dag.specs.Chains.{IsChain}
@@ -11,6 +11,7 @@ IsReachable g a b = (between : List ℕ) × IsChain g (a ∷ between ++ b ∷ []
 abbrev pub HasDetour : Graph → ℕ → ℕ → Type 0
 HasDetour g a b = (x : ℕ) × (between : List ℕ) × IsChain g (a ∷ x ∷ between ++ b ∷ [])
 
--- an edge that the reduced graph keeps: no path of two or more edges leads from its start to its end
+-- an edge that the reduced graph keeps: no path of two or more edges leads from its start to its
+-- end
 abbrev pub IsKeptEdge : Graph → ℕ → ℕ → Type 0
 IsKeptEdge g a b = IsEdge g a b × ¬ HasDetour g a b

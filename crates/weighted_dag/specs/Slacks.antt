@@ -1,5 +1,5 @@
--- The slack of a vertex, by the longest length of the graph with its weight raised (M. Chow et al., "The Mystery
--- Machine", OSDI 2014, section 3.4).
+-- The slack of a vertex, by the longest length of the graph with its weight raised (M. Chow et al.,
+-- "The Mystery Machine", OSDI 2014, section 3.4).
 use Rattle.std.specs.Prelude.{ℕ, ◌+◌, ◌≤◌, slice_set}
 use Rattle.weighted_dag.specs.Graphs.{Graph, weight_of, with_weights}
 use Rattle.weighted_dag.specs.Chains.{IsLongestLength}

@@ -5,8 +5,8 @@ use crate::number_list::NumberList;
 use std::alloc::{AllocError, Global};
 use std::marker::Model;
 
-/// A weighted graph without cycles: its vertices are numbered from 0, and each edge leads to a later
-/// vertex.
+/// A weighted graph without cycles: its vertices are numbered from 0, and each edge leads to a
+/// later vertex.
 #[derive(Drop)]
 pub struct Dag {
     weights: Vec<u64>,
@@ -20,13 +20,16 @@ impl Model for Dag {
 
     ghost view = { λ d. record { weights = d.weights.items; successors = d.successors.items } };
 
-    ghost invariant = { λ d. IsGraph (record { weights = d.weights.items; successors = d.successors.items }) };
+    ghost invariant = { λ d.
+        IsGraph (record { weights = d.weights.items; successors = d.successors.items }) };
 }
 
 impl Dag {
-    ghost use Rattle.std.specs.Prelude.{◌≡◌, ◌^◌, ◌<◌, ◌↔◌, IsTrue, All, length, sum, IfOk, OnOk, OnErr};
+    ghost use Rattle.std.specs.Prelude.{◌≡◌, ◌^◌, ◌<◌, ◌↔◌, IsTrue, All, length, sum};
+    ghost use Rattle.std.specs.Prelude.{IfOk, OnOk, OnErr};
     ghost use Rattle.weighted_dag.specs.Chains.{NoneIsLonger};
-    ghost use Rattle.weighted_dag.specs.Graphs.{IsGraph, order_of, successors_of, edgeless, with_edge, with_weights};
+    ghost use Rattle.weighted_dag.specs.Graphs.{IsGraph, order_of, successors_of};
+    ghost use Rattle.weighted_dag.specs.Graphs.{edgeless, with_edge, with_weights};
 
     /// Makes a graph with a vertex for each weight, by index, and no edge yet.
     pub fn new(alloc: Global, weights: Vec<u64>) -> Result<Dag, AllocError>
@@ -44,8 +47,8 @@ impl Dag {
         })
     }
 
-    /// Makes a graph of finished lists of successors, one for each vertex. It takes no memory; `fits`
-    /// tests what it requires.
+    /// Makes a graph of finished lists of successors, one for each vertex. It takes no memory;
+    /// `fits` tests what it requires.
     pub fn of(weights: Vec<u64>, successors: Vec<NumberList>) -> Dag
         requires { IsGraph (record { weights = weights.items; successors = successors.items }) }
         ensures { result ≡ record { weights = weights.items; successors = successors.items } }
@@ -59,7 +62,8 @@ impl Dag {
     /// Tells whether weights and lists of successors form a graph, as `of` requires: fewer than
     /// 2^32 weights, a list for each, and each list rises and has only later vertices.
     pub fn fits(weights: &[u64], successors: &[NumberList]) -> bool
-        ensures { IsTrue result ↔ IsGraph (record { weights = weights.now; successors = successors.now }) }
+        ensures { IsTrue result
+            ↔ IsGraph (record { weights = weights.now; successors = successors.now }) }
     {
         let order = weights.len();
         if order >= 1 << 32 || successors.len() != order {
@@ -73,8 +77,8 @@ impl Dag {
         true
     }
 
-    /// Adds an edge. The successors of a vertex are added in rising order, whatever the order of the
-    /// vertices.
+    /// Adds an edge. The successors of one vertex are added in rising order; those of different
+    /// vertices may be mixed.
     pub fn edge(&mut self, from: u32, to: u32) -> Result<(), AllocError>
         requires later { from < to }
         requires within { to < order_of self.old }

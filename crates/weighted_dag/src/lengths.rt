@@ -1,4 +1,5 @@
-ghost use Rattle.std.specs.Prelude.{◌≡◌, ℕ, ◌^◌, ◌<◌, ◌≤◌, ◌⊎◌, map, All, Contains, EachIndex, length, slice_index, IfOk};
+ghost use Rattle.std.specs.Prelude.{◌≡◌, ℕ, ◌^◌, ◌<◌, ◌≤◌, ◌⊎◌, map, All, Contains, EachIndex};
+ghost use Rattle.std.specs.Prelude.{length, slice_index, IfOk};
 ghost use Rattle.weighted_dag.specs.Graphs.{IsGraph, order_of, with_weights};
 ghost use Rattle.weighted_dag.specs.Chains.{AllAreShorter, IsLongestFrom, IsLongestLength};
 
@@ -77,7 +78,8 @@ fn greatest_at<L: Length>(numbers: &[L], indices: &[u32]) -> L
     requires { All (λ i. i < length numbers.now) indices.now }
     ensures upper { All (λ i. slice_index (map L.value numbers.now) i ≤ L.value result) indices.now }
     ensures reached { (L.value result ≡ 0)
-        ⊎ ((i : ℕ) × Contains indices.now i × (slice_index (map L.value numbers.now) i ≡ L.value result)) }
+        ⊎ ((i : ℕ) × Contains indices.now i
+        × (slice_index (map L.value numbers.now) i ≡ L.value result)) }
 {
     let mut greatest = L::of(0);
     'indices: for index in indices {

@@ -1,5 +1,5 @@
-//! Weighted graphs whose edges lead from lower to higher vertices: their chains, the longest lengths from each
-//! vertex, and the reduced graph.
+//! Weighted graphs whose edges lead from lower to higher vertices: the lengths of their longest
+//! chains, and their transitive reduction.
 #![tactic(auto)]
 
 mod bit_set;

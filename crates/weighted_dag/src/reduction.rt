@@ -1,4 +1,5 @@
-ghost use Rattle.std.specs.Prelude.{◌≡◌, ◌≢◌, ℕ, ◌+◌, ◌*◌, ◌<◌, ◌≤◌, ◌↔◌, ◌⊎◌, [], length, IfOk, OnOk};
+ghost use Rattle.std.specs.Prelude.{◌≡◌, ◌≢◌, ℕ, ◌+◌, ◌*◌, ◌<◌, ◌≤◌, ◌↔◌, ◌⊎◌, [], length};
+ghost use Rattle.std.specs.Prelude.{IfOk, OnOk};
 ghost use Rattle.weighted_dag.specs.Graphs.{IsGraph, order_of, successors_of, IsEdge};
 ghost use Rattle.weighted_dag.specs.Chains.{IsLongestLength};
 ghost use Rattle.weighted_dag.specs.Reductions.{IsReachable, HasDetour, IsKeptEdge};
@@ -16,7 +17,8 @@ use std::alloc::{AllocError, Global};
 /// bit for each pair of vertices, and each edge costs at most one union of two sets.
 pub fn reduce(alloc: Global, dag: &Dag) -> Result<Dag, AllocError>
     ensures weights { IfOk result (λ reduced. reduced.weights ≡ dag.now.weights) }
-    ensures edges { IfOk result (λ reduced. (a b : ℕ) → IsEdge reduced a b ↔ IsKeptEdge dag.now a b) }
+    ensures edges { IfOk result
+        (λ reduced. (a b : ℕ) → IsEdge reduced a b ↔ IsKeptEdge dag.now a b) }
     ensures dropped { IfOk result
         (λ reduced. (a b : ℕ) → IsEdge dag.now a b → IsEdge reduced a b ⊎ HasDetour dag.now a b) }
     ensures reachability { IfOk result

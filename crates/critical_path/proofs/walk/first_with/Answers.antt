@@ -2,7 +2,7 @@ use Rattle.std.proofs.Common.{◌≡◌, ◌≢◌, ℕ, ◌<◌, length, map, g
 use Rattle.std.proofs.lemmas.Bool.{both_ways}
 use Rattle.std.proofs.lemmas.List.{take_all, get_or-map}
 use Rattle.std.proofs.lemmas.List.Elements.{All-more, All-get_or}
-use Rattle.critical_path.proofs.Walking.{first_index}
+use Rattle.critical_path.proofs.WalkLemmas.{first_index}
 use Rattle.critical_path.proofs.walk.first_with.Given.{Over}
 use Rattle.critical_path.proofs.walk.first_with.Goals as goal
 use Rattle.critical_path.proofs.walk.first_with.Goals.{After-index-lengths-index}

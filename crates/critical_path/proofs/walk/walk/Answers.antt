@@ -2,8 +2,8 @@ use Rattle.std.proofs.Common.{◌≡◌, ◌≢◌, ℕ, ◌-◌, ◌<◌, ◌�
 use Rattle.std.proofs.lemmas.List.{length-map}
 use Rattle.std.proofs.lemmas.List.Elements.{Contains-get_or}
 use Rattle.weighted_dag.specs.Graphs.{order_of, weight_of, successors_of}
-use Rattle.critical_path.specs.Walks.{IsFirstIndexOf}
-use Rattle.critical_path.proofs.Walking.{IsWalk, start_walk, step_walk, walk_smaller, weight_below}
+use Rattle.critical_path.specs.inner.Walks.{IsFirstIndexOf}
+use Rattle.critical_path.proofs.WalkLemmas.{IsWalk, start_walk, step_walk, walk_smaller, weight_below}
 use Rattle.critical_path.proofs.walk.walk.Given.{Over}
 use Rattle.critical_path.proofs.walk.walk.Goals as goal
 use Rattle.critical_path.proofs.walk.walk.Goals.{In_ok-push, After-of, After-minus-left}

@@ -1,5 +1,5 @@
 use Rattle.std.proofs.Common.{map}
-use Rattle.critical_path.proofs.Walking.{IsWalk, walk_left}
+use Rattle.critical_path.proofs.WalkLemmas.{IsWalk, walk_left}
 use Rattle.critical_path.proofs.walk.walk.Given as goal
 
 abbrev pub invariant-chain : goal.invariant-chain

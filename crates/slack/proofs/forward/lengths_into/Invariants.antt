@@ -1,5 +1,5 @@
 use Rattle.std.proofs.Common.{map}
-use Rattle.slack.proofs.Into.{IsPassedBelow}
+use Rattle.slack.proofs.IntoLemmas.{IsPassedBelow}
 use Rattle.slack.proofs.forward.lengths_into.Given as goal
 
 abbrev pub invariant-vertices : goal.invariant-vertices

@@ -1,8 +1,8 @@
 use Rattle.std.proofs.Common.{◌≡◌, ℕ, ◌<◌, List, length, map, set, max, get_or, ap, sym, ◌∙◌, subst, arith}
 use Rattle.std.proofs.lemmas.List.{take_all, get_or-map, map-set, length-map}
 use Rattle.std.proofs.lemmas.List.Elements.{All-get_or}
-use Rattle.slack.specs.Passes.{RaisesAt}
-use Rattle.slack.proofs.Into.{RaisesAt-more}
+use Rattle.slack.specs.inner.Passes.{RaisesAt}
+use Rattle.slack.proofs.IntoLemmas.{RaisesAt-more}
 use Rattle.slack.proofs.forward.raise_each.Goals as goal
 
 pub indices-preserved : goal.indices-preserved

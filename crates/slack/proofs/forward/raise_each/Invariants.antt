@@ -1,5 +1,5 @@
 use Rattle.std.proofs.Common.{ℕ, take, map}
-use Rattle.slack.specs.Passes.{RaisesAt}
+use Rattle.slack.specs.inner.Passes.{RaisesAt}
 use Rattle.slack.proofs.forward.raise_each.Given as goal
 
 abbrev pub invariant-indices : goal.invariant-indices

@@ -1,4 +1,4 @@
-use Rattle.weighted_dag.proofs.SuccessorLists.{IsInOrderTo}
+use Rattle.weighted_dag.proofs.SuccessorListLemmas.{IsInOrderTo}
 use Rattle.weighted_dag.proofs.dag.are_successors.Given as goal
 
 abbrev pub invariant-successors : goal.invariant-successors

@@ -1,7 +1,7 @@
-use Rattle.std.proofs.Common.{◌≡◌, ℕ, ◌<◌, length, map, get_or, ap, sym, ◌∙◌, arith}
+use Rattle.std.proofs.Common.{◌≡◌, ℕ, ◌<◌, length, map, get_or, ap, sym, ◌∙◌}
 use Rattle.std.proofs.lemmas.List.{take_all, get_or-map}
 use Rattle.std.proofs.lemmas.List.Elements.{All-get_or}
-use Rattle.weighted_dag.proofs.Longest.{IsGreatestAt-more}
+use Rattle.weighted_dag.proofs.LengthLemmas.{IsGreatestAt-more}
 use Rattle.weighted_dag.proofs.lengths.greatest_at.Goals as goal
 
 pub indices-preserved : goal.indices-preserved

@@ -1,5 +1,5 @@
 use Rattle.std.proofs.Common.{take, map}
-use Rattle.weighted_dag.proofs.Longest.{IsGreatestAt}
+use Rattle.weighted_dag.proofs.LengthLemmas.{IsGreatestAt}
 use Rattle.weighted_dag.proofs.lengths.greatest_at.Given as goal
 
 abbrev pub invariant-indices : goal.invariant-indices

@@ -1,6 +1,3 @@
-use Rattle.std.proofs.Common.{List, ℕ, map, IfOk, subst}
-use Rattle.weighted_dag.specs.Graphs.{with_weights}
-use Rattle.weighted_dag.specs.Chains.{AllAreShorter}
 use Rattle.weighted_dag.proofs.lengths.lengths_from.Goals as goal
 
 pub lengths_over-requires-clause-fits : goal.lengths_over-requires-clause-fits

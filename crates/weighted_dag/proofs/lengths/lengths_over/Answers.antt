@@ -1,7 +1,7 @@
-use Rattle.std.proofs.Common.{◌≡◌, ℕ, ◌+◌, ◌-◌, ◌<◌, List, length, map, get_or, set, ap, ◌∙◌, subst, sym, arith}
+use Rattle.std.proofs.Common.{◌≡◌, ℕ, ◌+◌, ◌-◌, ◌<◌, List, length, map, ap, subst, arith}
 use Rattle.std.proofs.lemmas.List.{length-map, map-set}
 use Rattle.weighted_dag.specs.Graphs.{order_of, weight_of, successors_of, with_weights}
-use Rattle.weighted_dag.proofs.Longest.{IsGraph-with_weights, IsKnownFrom, IsGreatestAt, successors_within, IsKnownFrom-step, IsLongestFrom-step, IsLongestFrom-lt, IsLongestLength-known}
+use Rattle.weighted_dag.proofs.LengthLemmas.{IsGraph-with_weights, IsKnownFrom, IsGreatestAt, successors_within, IsKnownFrom-step, IsLongestFrom-step, IsLongestFrom-lt, IsLongestLength-known}
 use Rattle.weighted_dag.proofs.lengths.lengths_over.Given.{Over}
 use Rattle.weighted_dag.proofs.lengths.lengths_over.Goals as goal
 use Rattle.weighted_dag.proofs.lengths.lengths_over.Goals.{After-of-in-vertices}

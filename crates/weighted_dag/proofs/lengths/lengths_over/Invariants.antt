@@ -1,6 +1,6 @@
 use Rattle.std.proofs.Common.{map}
 use Rattle.weighted_dag.specs.Graphs.{with_weights}
-use Rattle.weighted_dag.proofs.Longest.{IsKnownFrom}
+use Rattle.weighted_dag.proofs.LengthLemmas.{IsKnownFrom}
 use Rattle.weighted_dag.proofs.lengths.lengths_over.Given as goal
 
 abbrev pub invariant-vertices : goal.invariant-vertices

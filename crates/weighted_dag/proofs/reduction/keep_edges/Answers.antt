@@ -1,11 +1,11 @@
 use Rattle.std.proofs.Common.{◌≡◌, ℕ, ◌<◌, ◌≤◌, List, length, get_or, ap, ◌∙◌, subst, arith}
 use Rattle.std.proofs.lemmas.List.{take_all}
 use Rattle.weighted_dag.specs.Graphs.{order_of, successors_of}
-use Rattle.weighted_dag.proofs.Keeping.{edge_at, kept_below, kept_step, dropped_step, IsReachOf-all, IsReducedAt-all}
+use Rattle.weighted_dag.proofs.KeepingLemmas.{edge_at, kept_below, kept_step, dropped_step, IsReachOf-all, IsReducedAt-all}
 use Rattle.std.proofs.lemmas.Bool.{both_ways}
 use Rattle.weighted_dag.specs.inner.BitSets.{Has, words_for}
 use Rattle.weighted_dag.specs.inner.ReductionSteps.{IsReachOf}
-use Rattle.weighted_dag.proofs.Reducing.{set_room, set_reached}
+use Rattle.weighted_dag.proofs.ReducingLemmas.{set_room, set_reached}
 use Rattle.weighted_dag.proofs.reduction.keep_edges.Goals as goal
 use Rattle.weighted_dag.proofs.reduction.keep_edges.Goals.{After-set_of, then-not-contains+in_ok-edge, else-not-contains}
 

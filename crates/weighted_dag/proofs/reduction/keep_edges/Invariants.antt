@@ -1,6 +1,6 @@
 use Rattle.std.proofs.Common.{take}
 use Rattle.weighted_dag.specs.Graphs.{successors_of}
-use Rattle.weighted_dag.proofs.Keeping.{IsKept}
+use Rattle.weighted_dag.proofs.KeepingLemmas.{IsKept}
 use Rattle.weighted_dag.proofs.reduction.keep_edges.Given as goal
 
 abbrev pub invariant-successors : goal.invariant-successors

@@ -1,7 +1,7 @@
 use Rattle.std.proofs.Common.{◌≡◌, ℕ, ◌+◌, ◌-◌, ◌++◌, length, ap, subst, arith}
 use Rattle.weighted_dag.specs.inner.ReductionSteps.{IsReducedAt}
-use Rattle.weighted_dag.proofs.Reducing.{IsReducedFrom, IsReducedFrom-more}
-use Rattle.weighted_dag.proofs.Reduced.{edges, reachability, longest}
+use Rattle.weighted_dag.proofs.ReducingLemmas.{IsReducedFrom, IsReducedFrom-more}
+use Rattle.weighted_dag.proofs.ReducedLemmas.{edges, reachability, longest}
 use Rattle.weighted_dag.proofs.reduction.reduce.Goals as goal
 use Rattle.weighted_dag.proofs.reduction.reduce.Goals.{After-vertices}
 

@@ -1,6 +1,6 @@
 use Rattle.std.proofs.Common.{ℕ, ◌/◌, ◌<◌, List, length, subst, sym}
 use Rattle.std.proofs.lemmas.List.{get_or_read}
-use Rattle.weighted_dag.proofs.Bits.{Has-insert}
+use Rattle.weighted_dag.proofs.BitLemmas.{Has-insert}
 use Rattle.weighted_dag.proofs.bit_set.BitSet.insert.Goals as goal
 
 pub returns-clause-has : goal.returns-clause-has

@@ -1,5 +1,5 @@
-use Rattle.std.proofs.Common.{◌≡◌, ℕ, length, ap, ◌∙◌, subst, sym, arith}
-use Rattle.weighted_dag.proofs.Bits.{IsUnitedBelow, Has-unite}
+use Rattle.std.proofs.Common.{◌≡◌, ℕ, length, ap, ◌∙◌, subst, arith}
+use Rattle.weighted_dag.proofs.BitLemmas.{IsUnitedBelow, Has-unite}
 use Rattle.weighted_dag.proofs.bit_set.BitSet.unite.Goals as goal
 
 pub returns-clause-has : goal.returns-clause-has

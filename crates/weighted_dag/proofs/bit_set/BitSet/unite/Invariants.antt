@@ -1,4 +1,4 @@
-use Rattle.weighted_dag.proofs.Bits.{IsUnitedBelow}
+use Rattle.weighted_dag.proofs.BitLemmas.{IsUnitedBelow}
 use Rattle.weighted_dag.proofs.bit_set.BitSet.unite.Given as goal
 
 abbrev pub invariant-words : goal.invariant-words

@@ -1,7 +1,7 @@
 use Rattle.std.proofs.Common.{◌≡◌, ℕ, ◌<◌, List, [], ◌∷◌, ◌++◌, ap, ◌∙◌, subst, sym, set, arith, All}
 use Rattle.std.proofs.lemmas.List.{get_or_read}
 use Rattle.weighted_dag.specs.Graphs.{Graph, IsGraph, order_of, successors_of}
-use Rattle.weighted_dag.proofs.Edges.{IsGraph-with_edge}
+use Rattle.weighted_dag.proofs.EdgeLemmas.{IsGraph-with_edge}
 use Rattle.weighted_dag.proofs.dag.Dag.edge.Goals as goal
 
 -- the fields with the new edge form a graph

@@ -1,9 +1,9 @@
-use Rattle.std.proofs.Common.{◌≡◌, ℕ, ◌<◌, ◌≤◌, false, List, [], length, get_or, ⊎_elim, refl, sym, ap, ◌∙◌, subst, arith}
+use Rattle.std.proofs.Common.{◌≡◌, ℕ, ◌<◌, ◌≤◌, false, List, [], length, get_or, ⊎_elim, refl, sym, ◌∙◌, subst, arith}
 use Rattle.std.proofs.lemmas.Bool.{both_ways, cases_lt}
 use Rattle.std.proofs.lemmas.List.{get_or_read}
 use Rattle.weighted_dag.specs.Graphs.{Graph}
 use Rattle.weighted_dag.specs.inner.SuccessorLists.{AreSuccessors}
-use Rattle.weighted_dag.proofs.SuccessorLists.{IsGraph-lists, AreSuccessors-graph}
+use Rattle.weighted_dag.proofs.SuccessorListLemmas.{IsGraph-lists, AreSuccessors-graph}
 use Rattle.weighted_dag.proofs.dag.Dag.fits.Goals as goal
 use Rattle.weighted_dag.proofs.dag.Dag.fits.Goals.{After-are_successors}
 

@@ -1,8 +1,8 @@
-use Rattle.std.proofs.Common.{◌≡◌, ℕ, ◌<◌, ◌≤◌, List, sum, length, ◌∙◌, ap, sym, subst, arith}
+use Rattle.std.proofs.Common.{◌≡◌, ℕ, ◌≤◌, sum, length, ◌∙◌, ap, subst, arith}
 use Rattle.std.proofs.lemmas.List.{take_all}
 use Rattle.std.proofs.lemmas.List.Sums.{sum_by_more}
-use Rattle.weighted_dag.specs.Graphs.{Graph, IsGraph, order_of, with_weights}
-use Rattle.weighted_dag.proofs.Longest.{IsGraph-with_weights, chain_length-le-sum}
+use Rattle.weighted_dag.specs.Graphs.{IsGraph, order_of, with_weights}
+use Rattle.weighted_dag.proofs.LengthLemmas.{IsGraph-with_weights, chain_length-le-sum}
 use Rattle.weighted_dag.proofs.dag.Dag.total_with.Goals as goal
 use Rattle.weighted_dag.proofs.dag.Dag.total_with.Goals.{After-len-vertex-end, After-vertices}
 

@@ -7,8 +7,8 @@ use Rattle.std.proofs.lemmas.List.Sums.{sum_by-cons, sum_by-le-sum_by}
 use Rattle.weighted_dag.specs.Graphs.{Graph, IsGraph, order_of, weight_of}
 use Rattle.weighted_dag.specs.Chains.{AllAreShorter, IsChain, LeadsTo, chain_length, NoneIsLonger, IsLongest, IsLongestLength, IsLongestFrom}
 use Rattle.weighted_dag.specs.Slacks.{raised, KeepsLongest, IsSlack}
-use Rattle.slack.specs.Passes.{LeadsInto, IsLongestInto}
-use Rattle.slack.proofs.Leading.{lead, chain_length-lead, IsChain-lead}
+use Rattle.slack.specs.inner.Passes.{LeadsInto, IsLongestInto}
+use Rattle.slack.proofs.LeadingLemmas.{lead, chain_length-lead, IsChain-lead}
 
 module _ (g : Graph) (form : IsGraph g) (v n : ℕ) (inside : v < order_of g) where
   -- the raised graph has the same vertices

@@ -5,7 +5,7 @@ use Rattle.weighted_dag.specs.Graphs.{Graph, IsGraph, IsEdge, order_of, weight_o
 use Rattle.weighted_dag.specs.Chains.{IsChain, LeadsTo, IsLongest, IsLongestLength, chain_length}
 use Rattle.weighted_dag.specs.Reductions.{IsReachable, HasDetour, IsKeptEdge}
 use Rattle.weighted_dag.specs.inner.ReductionSteps.{IsReducedAt}
-use Rattle.weighted_dag.proofs.Paths.{IsChain-join, IsReachable-cases, reachable_by_edge, reachable_later, reachable_trans}
+use Rattle.weighted_dag.proofs.PathLemmas.{IsChain-join, IsReachable-cases, reachable_by_edge, reachable_later, reachable_trans}
 
 module _ (g r : Graph) (form : IsGraph g) (form' : IsGraph r) (same : r.weights ≡ g.weights) (reduced : (a : ℕ) → IsReducedAt g r a) where
   -- the orders are the same

@@ -1,4 +1,4 @@
--- What the private steps towards the slacks keep. No public clause cites this file.
+-- What the private steps towards the slacks keep. Private contracts alone cite this file.
 use Rattle.std.specs.Prelude.{◌≡◌, ℕ, ◌≤◌, max, List, [], ◌∷◌, slice_index, Contains, ◌⊎◌}
 use Rattle.weighted_dag.specs.Graphs.{Graph, IsEdge}
 use Rattle.weighted_dag.specs.Chains.{chain_length}
@@ -16,4 +16,5 @@ pub record IsLongestInto (g : Graph) (v n : ℕ) : Type 0 where
 -- the number at k was raised to the least where k is among the indices, and else stayed
 abbrev pub RaisesAt : List ℕ → ℕ → List ℕ → List ℕ → ℕ → Type 0
 RaisesAt indices least old new k =
-    (Contains indices k × (slice_index new k ≡ max (slice_index old k) least)) ⊎ ((¬ Contains indices k) × (slice_index new k ≡ slice_index old k))
+    (Contains indices k × (slice_index new k ≡ max (slice_index old k) least))
+    ⊎ ((¬ Contains indices k) × (slice_index new k ≡ slice_index old k))

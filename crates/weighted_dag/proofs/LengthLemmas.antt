@@ -1,11 +1,11 @@
 -- The greatest lengths of chains that begin with a vertex, from those of its successors.
-use Rattle.std.proofs.Common.{◌≡◌, ◌≢◌, ℕ, ◌+◌, ◌-◌, ◌*◌, ◌<◌, ◌≤◌, List, [], ◌∷◌, length, get_or, set, take, drop, sum, max, All, Contains, ◌⊎◌, inl, inr, ⊎_elim, sym, ap, ◌∙◌, subst, arith, get_or-set_same, get_or-set_other, length-set}
+use Rattle.std.proofs.Common.{◌≡◌, ◌≢◌, ℕ, ◌+◌, ◌-◌, ◌<◌, ◌≤◌, List, [], ◌∷◌, length, get_or, set, take, drop, sum, max, All, Contains, ◌⊎◌, inl, inr, ⊎_elim, sym, ap, ◌∙◌, subst, arith, get_or-set_same, get_or-set_other, length-set}
 use Rattle.std.proofs.lemmas.Bool.{cases_lt, cases_eq}
 use Rattle.std.proofs.lemmas.List.Elements.{All-contains, All-weaker, All-more, Contains-get_or}
 use Rattle.std.proofs.lemmas.List.Sums.{sum_by-cons, sum_by-drop_more, sum_by-take-drop}
 use Rattle.std.proofs.lemmas.List.{drop-drop}
 use Rattle.weighted_dag.specs.Graphs.{Graph, IsGraph, IsEdge, order_of, weight_of, successors_of, with_weights}
-use Rattle.weighted_dag.specs.Chains.{IsChain, AllAreShorter, IsLongest, IsLongestFrom, IsLongestLength, chain_length}
+use Rattle.weighted_dag.specs.Chains.{IsChain, AllAreShorter, IsLongestFrom, IsLongestLength, chain_length}
 
 -- the numbers of the vertices from v on are their greatest lengths, and most is the greatest of them
 pub record IsKnownFrom (g : Graph) (v : ℕ) (lengths : List ℕ) (most : ℕ) : Type 0 where

@@ -3,7 +3,7 @@ use Rattle.std.proofs.Common.{◌≡◌, ℕ, ◌+◌, List, [], ◌∷◌, arit
 use Rattle.std.proofs.lemmas.List.Sums.{sum_by-cons}
 use Rattle.weighted_dag.specs.Graphs.{Graph, IsGraph, weight_of}
 use Rattle.weighted_dag.specs.Chains.{IsChain, chain_length}
-use Rattle.slack.specs.Passes.{LeadsInto}
+use Rattle.slack.specs.inner.Passes.{LeadsInto}
 
 -- the list that leads to a vertex, put before a chain that begins with it
 pub lead : List ℕ → List ℕ → List ℕ

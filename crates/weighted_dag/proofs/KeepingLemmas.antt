@@ -1,5 +1,5 @@
 -- The edges of one vertex, taken in rising order: which are kept, and which vertices they lead to.
-use Rattle.std.proofs.Common.{◌≡◌, ◌≢◌, ℕ, ◌+◌, ◌-◌, ◌<◌, List, [], ◌∷◌, ◌++◌, length, get_or, take, All, Contains, ◌⊎◌, ◌↔◌, inl, inr, ⊎_elim, refl, sym, ap, ◌∙◌, subst, arith}
+use Rattle.std.proofs.Common.{◌≡◌, ◌≢◌, ℕ, ◌+◌, ◌<◌, List, [], ◌∷◌, ◌++◌, length, get_or, take, All, Contains, ◌⊎◌, ◌↔◌, inl, inr, ⊎_elim, refl, sym, ap, ◌∙◌, subst, arith}
 use Rattle.std.proofs.lemmas.Bool.{cases_order}
 use Rattle.std.proofs.lemmas.List.{get_or-take, length-take-le, take_more, get_or_default, length-set}
 use Rattle.std.proofs.lemmas.List.Elements.{Contains-append_left, Contains-push, Contains-push_cases, Contains-get_or}
@@ -8,8 +8,8 @@ use Rattle.weighted_dag.specs.Graphs.{Graph, IsGraph, IsEdge, order_of, successo
 use Rattle.weighted_dag.specs.inner.BitSets.{Has, words_for}
 use Rattle.weighted_dag.specs.Reductions.{IsReachable, HasDetour}
 use Rattle.weighted_dag.specs.inner.ReductionSteps.{IsReducedAt, IsReachOf}
-use Rattle.weighted_dag.proofs.Edges.{with_edge_same, with_edge_other}
-use Rattle.weighted_dag.proofs.Paths.{IsReachable-cases, reachable_by_edge, reachable_by_detour, detour_by_edge, reachable_later, reachable_trans}
+use Rattle.weighted_dag.proofs.EdgeLemmas.{with_edge_same, with_edge_other}
+use Rattle.weighted_dag.proofs.PathLemmas.{IsReachable-cases, reachable_by_edge, reachable_by_detour, detour_by_edge, reachable_later, reachable_trans}
 
 -- what holds once the front of the successors of v is done
 pub record IsKept (g before r : Graph) (v : ℕ) (front set : List ℕ) : Type 0 where

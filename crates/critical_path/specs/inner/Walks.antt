@@ -1,4 +1,5 @@
--- What the private steps of the walk along the first longest chain keep. No public clause cites this file.
+-- What the private steps of the walk along the first longest chain keep. Private contracts alone
+-- cite this file.
 use Rattle.std.specs.Prelude.{◌≡◌, ◌≢◌, ℕ, ◌<◌, ◌≤◌, List, ◌∷◌, slice_index, Contains}
 use Rattle.weighted_dag.specs.Graphs.{Graph}
 use Rattle.weighted_dag.specs.Chains.{IsChain, chain_length, NoneIsLonger, IsBefore}

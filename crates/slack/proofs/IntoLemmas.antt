@@ -6,8 +6,8 @@ use Rattle.std.proofs.lemmas.List.Elements.{Contains-append_left, Contains-push,
 use Rattle.std.proofs.lemmas.List.Sums.{sum_by-cons}
 use Rattle.weighted_dag.specs.Graphs.{Graph, IsGraph, IsEdge, order_of, weight_of, successors_of}
 use Rattle.weighted_dag.specs.Chains.{AllAreShorter, chain_length}
-use Rattle.slack.specs.Passes.{LeadsInto, IsLongestInto, RaisesAt}
-use Rattle.slack.proofs.Leading.{lead, chain_length-lead, IsChain-lead}
+use Rattle.slack.specs.inner.Passes.{LeadsInto, IsLongestInto, RaisesAt}
+use Rattle.slack.proofs.LeadingLemmas.{lead, chain_length-lead, IsChain-lead}
 
 -- the nearest of the list is below u
 abbrev pub BeginsBelow : ℕ → List ℕ → Type 0

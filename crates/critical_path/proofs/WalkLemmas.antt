@@ -8,7 +8,7 @@ use Rattle.std.proofs.lemmas.List.Elements.{All-contains, All-get_or, Contains-g
 use Rattle.std.proofs.lemmas.List.Sums.{sum_by-cons}
 use Rattle.weighted_dag.specs.Graphs.{Graph, IsGraph, IsEdge, order_of, weight_of, successors_of}
 use Rattle.weighted_dag.specs.Chains.{IsChain, chain_length, NoneIsLonger, IsLongest, IsLongestLength, IsBefore, IsLongestFrom}
-use Rattle.critical_path.specs.Walks.{IsFirstIndexOf, IsFirstLongest, IsFirstAfter}
+use Rattle.critical_path.specs.inner.Walks.{IsFirstIndexOf, IsFirstLongest, IsFirstAfter}
 
 -- no chain is longer than the longest length
 none_longer_than : (g : Graph) (n : ℕ) → IsLongestLength g n → NoneIsLonger g n
