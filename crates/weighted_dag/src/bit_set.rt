@@ -67,7 +67,7 @@ impl BitSet {
         self.words.fill(0);
     }
 
-    /// The words of the set, a bit for each number.
+    /// Returns the words of the set, a bit for each number.
     pub(crate) fn words(&self) -> &[u64]
         ensures { result.now ≡ self.now }
     {

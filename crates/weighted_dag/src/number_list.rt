@@ -1,7 +1,7 @@
 use std::alloc::AllocError;
 use std::marker::Model;
 
-/// A list of numbers of vertices or places.
+/// A list of vertices or indices.
 #[derive(Drop)]
 pub struct NumberList {
     items: Vec<u32>,
@@ -18,21 +18,21 @@ impl Model for NumberList {
 impl NumberList {
     ghost use Rattle.std.specs.Prelude.{◌≡◌, [], ◌∷◌, ◌++◌, OnOk, OnErr};
 
-    /// The list of these numbers. It takes no memory.
+    /// Makes the list of these numbers. It takes no memory.
     pub fn of(items: Vec<u32>) -> NumberList
         ensures { result ≡ items.items }
     {
         NumberList { items }
     }
 
-    /// The numbers in order.
+    /// Returns the numbers in order.
     pub fn items(&self) -> &[u32]
         ensures { result.now ≡ self.now }
     {
         self.items.as_slice()
     }
 
-    /// The numbers as a `Vec`. It takes no memory.
+    /// Returns the numbers as a `Vec`. It takes no memory.
     pub fn into_items(self) -> Vec<u32>
         ensures { result.items ≡ self }
     {
