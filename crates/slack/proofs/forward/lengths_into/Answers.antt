@@ -3,7 +3,7 @@ use Rattle.std.proofs.lemmas.List.{take_at, get_or-map, length-map, length-repli
 use Rattle.std.proofs.lemmas.List.Elements.{Contains-get_or}
 use Rattle.weighted_dag.specs.Graphs.{order_of, weight_of, successors_of}
 use Rattle.slack.specs.inner.Passes.{RaisesAt}
-use Rattle.slack.proofs.IntoLemmas.{IsPassedBelow, IsPassedBelow-none, IsPassedBelow-more, IsLongestInto-below, through_fits}
+use Rattle.slack.proofs.IntoLemmas.{IsPassedBelow-none, IsPassedBelow-more, IsLongestInto-below, through_fits}
 use Rattle.slack.proofs.forward.lengths_into.Given.{Over}
 use Rattle.slack.proofs.forward.lengths_into.Goals as goal
 use Rattle.slack.proofs.forward.lengths_into.Goals.{After-of-in-vertices}
