@@ -83,7 +83,7 @@ const ROWS: [Row; 10] = [
         length: 4,
         slacks: &[1, 0],
     },
-    // a vertex without weight in front, but none at the end
+    // a vertex without weight at the start, but none at the end
     Row {
         weights: &[0, 6, 0],
         edges: &[(0, 1), (0, 2), (1, 2)],
