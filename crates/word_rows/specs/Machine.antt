@@ -2,6 +2,8 @@
 use Rattle.std.specs.Prelude.{◌≡◌, ℕ, Bool, true, false, not, ◌&&◌, ◌||◌, ◌==◌, nat_lt, if◌then◌else◌, Option, Some, None, Result, Ok, Err, List, [], ◌∷◌, ◌++◌, map, length, slice_index, slice_index_or, slice_set}
 use Rattle.word_rows.specs.declared.entries.Entry.{Entry}
 use Rattle.word_rows.specs.declared.views.View.{View}
+pub use Rattle.word_rows.specs.declared.events.Event.{Event}
+pub use Rattle.word_rows.specs.declared.events.Event.TheVariants.{Clear as clear, Load as load, Split as split, Join as join, Close as close}
 use Rattle.word_rows.specs.Rows.{is_row, below}
 use Rattle.word_rows.specs.Words.{full, without_entry}
 use Rattle.word_rows.specs.Changes.{first_view, empty_view, cleared_next, with_reading, left_by, new_of, joined}
@@ -13,14 +15,6 @@ pub record StepState : Type 0 where
   pub all : ℕ
   pub views : List View
   pub live : List Bool
-
--- clear the next entry of a row at a seat; load a word; split off shares; join another seat; close
-pub data Event : Type 0 where
-  clear : ℕ → List Entry → Event
-  load : ℕ → ℕ → Event
-  split : ℕ → ℕ → Event
-  join : ℕ → ℕ → Event
-  close : ℕ → Event
 
 -- the word's old value; the value read; the new seat; nothing; the words
 pub data Answer : Type 0 where

@@ -2,6 +2,7 @@
 #![tactic(auto)]
 
 mod entries;
+mod events;
 pub mod laws;
 mod sheets;
 #[cfg(test)]
@@ -9,5 +10,6 @@ mod tests;
 mod views;
 
 pub use entries::{Entry, Row};
+pub use events::Event;
 pub use sheets::Sheet;
 pub use views::{Reading, View};

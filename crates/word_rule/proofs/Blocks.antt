@@ -1,7 +1,7 @@
 -- Readings of all words, one more of them.
-use Rattle.std.proofs.Common.{◌≡◌, ℕ, ◌+◌, ◌<◌, true, ◌||◌, List, [], ◌∷◌, ◌++◌, length, set, take, slice_index, sym, ap, ◌∙◌, ⊎_elim, arith, append_assoc, get_or-set_same, get_or-set_other}
+use Rattle.std.proofs.Common.{◌≡◌, ℕ, ◌+◌, ◌<◌, true, ◌||◌, List, [], ◌∷◌, ◌++◌, length, set, take, slice_index, sym, ap, ◌∙◌, subst, ⊎_elim, arith, append_assoc, get_or-set_same, get_or-set_other}
 use Rattle.std.proofs.lemmas.Bool.{cases_eq, or_cases, or_left, or_right}
-use Rattle.std.proofs.lemmas.List.{take_more_set, length-take-le}
+use Rattle.std.proofs.lemmas.List.{take_more_set, length-take-le, take-set-le}
 use Rattle.std.proofs.lemmas.List.Folds.{list_any-append}
 use Rattle.std.specs.Int.{bit_at}
 use Rattle.word_rows.specs.declared.views.Reading.{Reading}
@@ -9,8 +9,9 @@ use Rattle.word_rows.specs.declared.views.View.{View}
 use Rattle.word_rows.specs.Rows.{rows_clear}
 use Rattle.word_rows.specs.Words.{bit_of}
 use Rattle.word_rows.specs.Accounts.{lacks}
-use Rattle.word_rows.specs.Changes.{readings_from, with_reading}
+use Rattle.word_rows.specs.Changes.{readings_from, with_reading, with_readings}
 use Rattle.word_rule.specs.Shown.{shows}
+use Rattle.word_rule.specs.Standing.{read_until}
 
 abbrev reading : ℕ → ℕ → Reading
 reading i x = record { word = i; value = x }
@@ -44,4 +45,16 @@ module _ (v : View) (into : List ℕ) (i x : ℕ) (inside : i < length into) whe
   step_knows old new j b h l t = ⊎_elim
       (λ (is : j ≡ i). ap (λ (n : ℕ). bit_at n b) (ap (λ (k : ℕ). slice_index (set into i x) k) is ∙ get_or-set_same into i x 0 inside) ∙ new b l (shows_more b (ap (λ (k : ℕ). shows v k b) (sym is) ∙ t)))
       (λ (is : j ≡ i → ⊥). ap (λ (n : ℕ). bit_at n b) (get_or-set_other into i j x 0 is) ∙ old j b (omega arith) l t)
+      (cases_eq j i)
+
+  -- what was told of a word that was read stays so
+  pub step_told : (H : View → ℕ → ℕ → Type 0) → ((j : ℕ) → j < i → H (read_until v into j) j (slice_index into j)) → H (read_so_far v into i) i x
+      → (j : ℕ) → j < i + 1 → H (read_until v (set into i x) j) j (slice_index (set into i x) j)
+  step_told H old new j h = ⊎_elim
+      (λ (is : j ≡ i). subst (λ (k : ℕ). H (read_until v (set into i x) k) k (slice_index (set into i x) k)) (sym is)
+      (subst (λ (n : ℕ). H (read_until v (set into i x) i) i n) (sym (get_or-set_same into i x 0 inside))
+      (subst (λ (l : List ℕ). H (with_readings v (readings_from 0 l)) i x) (sym (take-set-le i into i x (omega arith))) new)))
+      (λ (is : j ≡ i → ⊥).
+      subst (λ (n : ℕ). H (read_until v (set into i x) j) j n) (sym (get_or-set_other into i j x 0 is))
+      (subst (λ (l : List ℕ). H (with_readings v (readings_from 0 l)) j (slice_index into j)) (sym (take-set-le j into i x (omega arith))) (old j (omega arith))))
       (cases_eq j i)

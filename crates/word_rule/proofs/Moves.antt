@@ -1,14 +1,14 @@
 -- Each step keeps the rule of the table, since it is a step of the step machine.
-use Rattle.std.proofs.Common.{◌≡◌, ◌≢◌, ℕ, zero, suc, ◌+◌, ◌^◌, ◌<◌, ◌≤◌, Bool, true, false, ◌||◌, ◌==◌, List, [], ◌∷◌, ◌++◌, length, set, get_or, take, replicate, bit_and, slice_index, sym, refl, ap, ◌∙◌, subst, ⊎_elim, inl, inr, arith, length-set}
-use Rattle.std.specs.Prelude.{Result}
-use Rattle.std.proofs.lemmas.Bool.{or_cases, or_left, cond_both}
-use Rattle.std.proofs.lemmas.List.{set-get_or, length-replicate}
+use Rattle.std.proofs.Common.{◌≡◌, ◌≢◌, ℕ, zero, suc, ◌+◌, ◌^◌, ◌<◌, ◌≤◌, Bool, true, false, not, ◌||◌, ◌==◌, List, [], ◌∷◌, ◌++◌, length, map, set, get_or, take, bit_and, slice_index, sym, refl, ap, ◌∙◌, subst, ⊎_elim, inl, inr, arith, length-set}
+use Rattle.std.specs.Prelude.{Ok, MatchBool}
+use Rattle.std.proofs.lemmas.Bool.{or_cases, or_left, cond_both, eqb-true}
+use Rattle.std.proofs.lemmas.List.{set-get_or, length-replicate, map-set, map-append}
 use Rattle.std.proofs.lemmas.List.Sums.{get_or-le-sum_by}
 use Rattle.atomic_table.proofs.Lists.{at_set, set_again}
 use Rattle.std.specs.Int.{bit_at, bit_not, w64}
 use mathlib.Core.Option.{some, none, some-injective, some-ne-none}
 use lib.ListN.{get_elem?}
-use Rattle.atomic_table.specs.Table.{State, Me, step, stepped, keeps, Allows, Splits, Joins, opening, Seen, Final}
+use Rattle.atomic_table.specs.Table.{State, Me, Act, Valid, carried_after, step, stepped, keeps, Allows, Splits, Joins, opening, Seen, Final}
 use Rattle.word_rows.specs.declared.entries.Entry.{Entry}
 use Rattle.word_rows.specs.declared.views.View.{View}
 use Rattle.word_rows.specs.Rows.{is_row, below, clears, rows_clear}
@@ -16,141 +16,201 @@ use Rattle.word_rows.specs.Words.{IsMeet, full}
 use Rattle.word_rows.specs.Accounts.{lacks}
 use Rattle.word_rows.specs.Changes.{IsIdle, empty_view, first_view, finished, part_way, cleared_next, left_by, new_of, joined, with_reading}
 use Rattle.word_rows.specs.Sound.{IsSound}
-use Rattle.word_rows.specs.Machine.{StepState, Event, Answer, Fault, IsSoundState, HasRow, can_clear, clear, load, split, join, step as machine_step}
+use Rattle.word_rows.specs.Machine.{entry_at, can_clear, was, loaded, seat_made, merged, closed}
+use Rattle.word_rows.specs.declared.events.Event.TheVariants.{Clear as clear, Load as load, Split as split, Join as join, Close as close}
 use Rattle.word_rows.specs.Meeting.{ComplementClears}
-use Rattle.word_rows.specs.Keeping.{KnowsAll, OpeningIsSound, StepKeepsSound, WholeShareKnowsAll}
+use Rattle.word_rows.specs.Keeping.{KnowsAll, EventsKeepSound, WholeShareKnowsAll}
 use Rattle.word_rule.specs.declared.rule.Plan.{Plan}
 use Rattle.word_rule.specs.Shown.{shows}
-use Rattle.word_rule.specs.Ruled.{IsRuled, IsKnown, Clears, Loads, Tells}
-use Rattle.word_rule.specs.Kinds.{machine_of, with_views, IsAt}
-use Rattle.word_rule.proofs.Lists.{at_or, at_inside, live_at, each_set, each_snoc}
-use Rattle.word_rule.proofs.StepKinds.{clear_is_step, load_is_step, split_is_step, join_is_step}
+use Rattle.word_rule.specs.Standing.{is_seated, machine_of, RepliesClosed}
+use Rattle.word_rule.specs.Ruled.{IsRuled, IsKnown, Clears, Skips, Loads, Tells}
+use Rattle.word_rule.specs.Kinds.{RuleIsSound, with_views, IsAt}
+use Rattle.word_rule.proofs.Lists.{at_or, at_inside, each_set, each_snoc}
+use Rattle.word_rule.proofs.Reaching.{reached_next, reached_sound, reached_replies, seated, seated_at, seated_set}
+use Rattle.word_rule.proofs.StepKinds.{clear_step, skip_step, load_step, split_is_step, join_is_step, close_is_step}
 
 abbrev shares_of : View → ℕ
 shares_of v = v.shares
 
--- a seat with a share carries the number of all shares, and has no more
-pub carries : (plan : Plan) (s : State (Unit {0}) View) (id : ℕ) (v : View) → IsRuled plan s → get_elem? s.views id ≡ some v → 0 < v.shares → (v.all ≡ plan.all) × (v.shares ≤ v.all)
-carries plan s id v r at share =
-    let all : v.all ≡ plan.all = ⊎_elim (λ (h : v.all ≡ plan.all). h) (λ (h : v ≡ empty_view). let z : v.shares ≡ 0 = ap shares_of h in absurd (omega arith)) (r.carried id v at) in
-    let here : (get_or s.views id v).shares ≡ v.shares = ap shares_of (at_or s.views id v v at) in
-    let less = get_or-le-sum_by shares_of s.views id v (at_inside s.views id v at) in let total = r.sound.shared_out in (all, omega arith)
+-- an entry more does not change the number of all shares
+pub next_all : (v : View) (row : List Entry) → (cleared_next v row).all ≡ v.all
+next_all v row = cond_both (v.cleared + 1 == length row) (finished v row) (part_way v row (v.cleared + 1)) (λ (u : View). u.all ≡ v.all) (λ _. refl) (λ _. refl)
 
--- all seats that have a view, as live ones
-abbrev all_live : State (Unit {0}) View → List Bool
-all_live s = replicate (length s.views) true
+-- a load that leaves the view leaves the table
+unchanged : (s : State (Unit {0}) View) (word id : ℕ) (v : View) → get_elem? s.views id ≡ some v → record { words = set s.words word (slice_index s.words word); homes = s.homes; views = set s.views id v } ≡ s
+unchanged s word id v at i = record { words = set-get_or s.words word 0 i; homes = s.homes; views = set_again s.views id v at i }
 
-module _ (sound : StepKeepsSound) (plan : Plan) where
-  -- what a step of the step machine leaves is sound
-  stays : (s : State (Unit {0}) View) (e : Event) (after : StepState) (reply : Result Answer Fault) → IsRuled plan s → HasRow e → machine_step (machine_of plan (all_live s) s) e ≡ (after, reply) → IsSound after.words after.all after.views
-  stays s e after reply r has is = (subst (λ (p : StepState × Result Answer Fault). IsSoundState p.0) is (sound (machine_of plan (all_live s) s) e (record { sound = r.sound; seats = length-replicate (length s.views) true }) has)).sound
+module _ (sound : EventsKeepSound) where
+  -- the words and views of the table are sound
+  pub rule_is_sound : RuleIsSound
+  rule_is_sound plan s r = reached_sound sound plan s r.reached
 
-  stands : (s : State (Unit {0}) View) (id : ℕ) (v : View) → IsRuled plan s → get_elem? s.views id ≡ some v → 0 < v.shares → IsAt plan (all_live s) s id v
-  stands s id v r at share = record { ruled = r; has = at; is_live = live_at s.views id v at; share = share }
+  -- a seat with a share carries the number of all shares, and has no more
+  pub carries : (plan : Plan) (s : State (Unit {0}) View) (id : ℕ) (v : View) → IsRuled plan s → get_elem? s.views id ≡ some v → 0 < v.shares → (v.all ≡ plan.all) × (v.shares ≤ v.all)
+  carries plan s id v r at share =
+      let all : v.all ≡ plan.all = ⊎_elim (λ (h : v.all ≡ plan.all). h) (λ (h : v ≡ empty_view). let z : v.shares ≡ 0 = ap shares_of h in absurd (omega arith)) (r.carried id v at) in
+      let here : (get_or s.views id v).shares ≡ v.shares = ap shares_of (at_or s.views id v v at) in
+      let less = get_or-le-sum_by shares_of s.views id v (at_inside s.views id v at) in let total = (rule_is_sound plan s r).shared_out in (all, omega arith)
 
-  pub clear_allowed : ComplementClears → (slots id : ℕ) (me : Me (Unit {0}) View) (row : List Entry) (e : Entry) → get_or row me.0.cleared (record { word = 0; mask = 0 }) ≡ e → e.mask < 2 ^ 64
+  -- and is live
+  pub stands : (plan : Plan) (s : State (Unit {0}) View) (id : ℕ) (v : View) → IsRuled plan s → get_elem? s.views id ≡ some v → 0 < v.shares → IsAt plan (map is_seated s.views) s id v
+  stands plan s id v r at share = let c = carries plan s id v r at share in record { ruled = r; has = at; is_live = seated_at s.views id v at ∙ seated v (let l = c.1 in omega arith); share = share }
+
+  pub clear_allowed : ComplementClears → (plan : Plan) (slots id : ℕ) (me : Me (Unit {0}) View) (row : List Entry) (e : Entry) → get_or row me.0.cleared (record { word = 0; mask = 0 }) ≡ e → e.mask < 2 ^ 64
       → is_row row ≡ true → can_clear me.0 row ≡ true → 0 < me.0.shares → below plan.width row ≡ true
-      → Allows (IsRuled plan) slots id me e.word (λ n. bit_and n (bit_not w64 e.mask)) (Clears row (step slots e.word (bit_not w64 e.mask) 0 none) me)
-  clear_allowed complement slots id me row e is fits form can share named s r homes at small =
+      → Allows (IsRuled plan) slots id me e.word (λ n. bit_and n (bit_not w64 e.mask)) (Clears plan row (step slots e.word (bit_not w64 e.mask) 0 none) me)
+  clear_allowed complement plan slots id me row e is fits form can share named s r homes at small =
       let w : View = cleared_next me.0 row in
-      let a : IsAt plan (all_live s) s id me.0 = stands s id me.0 r at share in
-      let is_step = clear_is_step complement plan (all_live s) s slots id me (w, me.1) row e a can named is small fits refl in (
+      let a : IsAt plan (map is_seated s.views) s id me.0 = stands plan s id me.0 r at share in
+      let is_step = clear_step complement plan (map is_seated s.views) s id me row e w a can named is small fits refl in
+      let next : State (Unit {0}) View = stepped s e.word (bit_and (slice_index s.words e.word) (bit_not w64 e.mask)) id me.1 w keeps in
+      let same : map is_seated (set s.views id w) ≡ map is_seated s.views = seated_set s.views id me.0 w at (ap (λ (n : ℕ). not (n == 0)) (next_all me.0 row)) in (
         w,
         keeps,
         tt,
         record {
           width = length-set s.words e.word _ ∙ r.width;
-          sound = stays s (clear id row) (machine_of plan (all_live s) (stepped s e.word (bit_and (slice_index s.words e.word) (bit_not w64 e.mask)) id me.1 w keeps)) _ r form is_step;
+          reached = reached_next plan s next (clear id row) _ r.reached form (is_step ∙ λ j. (machine_of plan (sym same j) next, Ok (was (slice_index s.words e.word))));
           fits = r.fits;
-          carried = each_set _ s.views id w (inl (next_all ∙ (carries plan s id me.0 r at share).0)) r.carried;
+          carried = each_set _ s.views id w (inl (next_all me.0 row ∙ (carries plan s id me.0 r at share).0)) r.carried;
         },
-        refl,
+        (refl, (slice_index s.words e.word, reached_replies plan s id me.0 (λ seat. clear seat row) _ (was (slice_index s.words e.word)) r.reached at is_step)),
       )
-    where
-      next_all : (cleared_next me.0 row).all ≡ me.0.all
-      next_all = cond_both (me.0.cleared + 1 == length row) (finished me.0 row) (part_way me.0 row (me.0.cleared + 1)) (λ (u : View). u.all ≡ me.0.all) (λ _. refl) (λ _. refl)
 
-  pub load_allowed : (slots id : ℕ) (me : Me (Unit {0}) View) (word : ℕ) → 0 < me.0.shares → IsIdle me.0 → word < plan.width → Allows (IsRuled plan) slots id me word (λ n. n) (Loads (step slots word 0 0 none) me)
-  load_allowed slots id me word share idle inside s r homes at small =
-      let value : ℕ = slice_index s.words word in let w : View = with_reading me.0 word value in
+  -- a load that counts the next entry as cleared where the word has none of its bits
+  pub skip_allowed : (plan : Plan) (slots id : ℕ) (me : Me (Unit {0}) View) (row : List Entry) (e : Entry) → get_or row me.0.cleared (record { word = 0; mask = 0 }) ≡ e
+      → is_row row ≡ true → can_clear me.0 row ≡ true → 0 < me.0.shares → below plan.width row ≡ true
+      → Allows (IsRuled plan) slots id me e.word (λ n. n) (Skips plan row (step slots e.word 0 0 none) me)
+  skip_allowed plan slots id me row e is form can share named s r homes at small = by_test (bit_and value (entry_at row me.0.cleared).mask == 0) refl
+    where
+      value : ℕ
+      value = slice_index s.words e.word
+
+      by_test : (b : Bool) → (bit_and value (entry_at row me.0.cleared).mask == 0) ≡ b
+          → (w : View) × (a : Act (Unit {0})) × Valid s.homes me.1 a × IsRuled plan (stepped s e.word value id me.1 w a) × Skips plan row (step slots e.word 0 0 none) me value (w, carried_after me.1 a)
+      by_test true t =
+          let w : View = cleared_next me.0 row in
+          let free : bit_and value e.mask ≡ 0 = ap (λ (x : Entry). bit_and value x.mask) (sym is) ∙ eqb-true _ _ t in
+          let is_step = skip_step plan (map is_seated s.views) s id me row e w (stands plan s id me.0 r at share) can named is free refl in
+          let next : State (Unit {0}) View = stepped s e.word value id me.1 w keeps in
+          let same : map is_seated (set s.views id w) ≡ map is_seated s.views = seated_set s.views id me.0 w at (ap (λ (n : ℕ). not (n == 0)) (next_all me.0 row)) in (
+            w,
+            keeps,
+            tt,
+            record {
+              width = length-set s.words e.word value ∙ r.width;
+              reached = reached_next plan s next (clear id row) _ r.reached form (is_step ∙ λ j. (machine_of plan (sym same j) next, Ok (was value)));
+              fits = r.fits;
+              carried = each_set _ s.views id w (inl (next_all me.0 row ∙ (carries plan s id me.0 r at share).0)) r.carried;
+            },
+            subst (λ (b : Bool). MatchBool b (Clears plan row (step slots e.word 0 0 none) me value (w, me.1)) (◌≡◌ {A = Me (Unit {0}) View} (w, me.1) me)) (sym t)
+                (refl, (value, reached_replies plan s id me.0 (λ seat. clear seat row) _ (was value) r.reached at is_step)),
+          )
+      by_test false t = (
+        me.0,
+        keeps,
+        tt,
+        subst (IsRuled plan) (sym (unchanged s e.word id me.0 at)) r,
+        subst (λ (b : Bool). MatchBool b (Clears plan row (step slots e.word 0 0 none) me value me) (me ≡ me)) (sym t) refl,
+      )
+
+  -- what the view shows to be cleared is 0
+  pub shown_zero : (plan : Plan) (s : State (Unit {0}) View) (id : ℕ) (v : View) (word : ℕ) → IsRuled plan s → get_elem? s.views id ≡ some v → word < plan.width → (b : ℕ) → b < 64 → shows v word b ≡ true → bit_at (slice_index s.words word) b ≡ 0
+  shown_zero plan s id v word r at inside b l t =
       let inside' : word < length s.words = subst (λ (n : ℕ). word < n) (sym r.width) inside in
-      let knows : (b : ℕ) → b < 64 → shows me.0 word b ≡ true → bit_at value b ≡ 0 = λ b l t. ⊎_elim
-      (λ (o : (rows_clear me.0.done word b || rows_clear me.0.seen word b) ≡ true). ⊎_elim
-      (λ (d : rows_clear me.0.done word b ≡ true). r.sound.cleared id me.0 at word b inside' l (or_left _ (clears (take me.0.cleared me.0.row) word b) d))
-      (λ (d : rows_clear me.0.seen word b ≡ true). r.sound.seen id me.0 at word b inside' l d)
+      let is_sound : IsSound s.words plan.all s.views = rule_is_sound plan s r in ⊎_elim
+      (λ (o : (rows_clear v.done word b || rows_clear v.seen word b) ≡ true). ⊎_elim
+      (λ (d : rows_clear v.done word b ≡ true). is_sound.cleared id v at word b inside' l (or_left _ (clears (take v.cleared v.row) word b) d))
+      (λ (d : rows_clear v.seen word b ≡ true). is_sound.seen id v at word b inside' l d)
       (or_cases _ _ o))
-      (λ (o : lacks me.0.readings word b ≡ true). r.sound.kept id me.0 at word b inside' l o)
-      (or_cases _ _ t) in
-      let then : Loads (step slots word 0 0 none) me value (w, me.1) = (refl, knows) in
-      let is_step = load_is_step plan (all_live s) s slots id word me (w, me.1) (stands s id me.0 r at share) idle inside then in (
+      (λ (o : lacks v.readings word b ≡ true). is_sound.kept id v at word b inside' l o)
+      (or_cases _ _ t)
+
+  pub load_allowed : (plan : Plan) (slots id : ℕ) (me : Me (Unit {0}) View) (word : ℕ) → 0 < me.0.shares → IsIdle me.0 → word < plan.width → Allows (IsRuled plan) slots id me word (λ n. n) (Loads plan (step slots word 0 0 none) me)
+  load_allowed plan slots id me word share idle inside s r homes at small =
+      let value : ℕ = slice_index s.words word in let w : View = with_reading me.0 word value in
+      let knows : (b : ℕ) → b < 64 → shows me.0 word b ≡ true → bit_at value b ≡ 0 = shown_zero plan s id me.0 word r at inside in
+      let is_step = load_step plan (map is_seated s.views) s id word me w (stands plan s id me.0 r at share) idle inside refl in
+      let next : State (Unit {0}) View = stepped s word value id me.1 w keeps in
+      let same : map is_seated (set s.views id w) ≡ map is_seated s.views = seated_set s.views id me.0 w at refl in (
         w,
         keeps,
         tt,
         record {
           width = length-set s.words word value ∙ r.width;
-          sound = stays s (load id word) (machine_of plan (all_live s) (stepped s word value id me.1 w keeps)) _ r tt is_step;
+          reached = reached_next plan s next (load id word) _ r.reached tt (is_step ∙ λ j. (machine_of plan (sym same j) next, Ok (loaded value)));
           fits = r.fits;
           carried = each_set _ s.views id w (inl (carries plan s id me.0 r at share).0) r.carried;
         },
-        then,
+        (refl, knows, reached_replies plan s id me.0 (λ seat. load seat word) _ (loaded value) r.reached at is_step),
       )
 
-  pub split_allowed : (id : ℕ) (v : View) (n : ℕ) → n < v.shares → IsIdle v → Splits (IsRuled plan) id v (left_by n v) (new_of n v)
-  split_allowed id v n less idle s r at =
+  pub split_allowed : (plan : Plan) (id : ℕ) (v : View) (n : ℕ) → n < v.shares → IsIdle v → Splits (IsRuled plan) id v (left_by n v) (new_of n v)
+  split_allowed plan id v n less idle s r at =
       let share : 0 < v.shares = omega arith in let mine = carries plan s id v r at share in
-      let is_step = split_is_step plan (all_live s) s id n v (stands s id v r at share) idle less in
+      let is_step = split_is_step plan (map is_seated s.views) s id n v (stands plan s id v r at share) idle less in
+      let next : State (Unit {0}) View = with_views s (set s.views id (left_by n v) ++ new_of n v ∷ []) in
+      let new_seated : is_seated (new_of n v) ≡ true = seated (new_of n v) (let l = mine.1 in omega arith) in
+      let same : map is_seated (set s.views id (left_by n v) ++ new_of n v ∷ []) ≡ map is_seated s.views ++ true ∷ [] =
+      map-append is_seated (set s.views id (left_by n v)) (new_of n v ∷ []) ∙ λ j. seated_set s.views id v (left_by n v) at refl j ++ new_seated j ∷ [] in
       record {
         width = r.width;
-        sound = stays s (split id n) (machine_of plan (all_live s ++ true ∷ []) (with_views s (set s.views id (left_by n v) ++ new_of n v ∷ []))) _ r tt is_step;
+        reached = reached_next plan s next (split id n) _ r.reached tt (is_step ∙ λ j. (machine_of plan (sym same j) next, Ok (seat_made (length s.views))));
         fits = r.fits;
         carried = each_snoc _ (set s.views id (left_by n v)) (new_of n v) (each_set _ s.views id (left_by n v) (inl mine.0) r.carried) (inl mine.0);
       }
 
-  pub join_allowed : (id : ℕ) (v : View) (other : ℕ) (w : View) → 0 < v.shares → IsIdle v → IsIdle w → Joins (IsRuled plan) id v other w (joined v w) empty_view
-  join_allowed id v other w share idle idle' s r at apart there =
+  pub join_allowed : (plan : Plan) (id : ℕ) (v : View) (other : ℕ) (w : View) → 0 < v.shares → IsIdle v → IsIdle w → w.all ≡ plan.all → Joins (IsRuled plan) id v other w (joined v w) empty_view
+  join_allowed plan id v other w share idle idle' carried s r at apart there =
       let at' : get_elem? s.views other ≡ some w = ⊎_elim (λ (t : (other ≡ id) × (joined v w ≡ w)). absurd (apart t.0)) (λ (t : (other ≢ id) × (get_elem? s.views other ≡ some w)). t.1) (at_set s.views id other (joined v w) w there) in
       let mine = carries plan s id v r at share in
-      let is_step = join_is_step plan (all_live s) s id other v w (stands s id v r at share) at' (live_at s.views other w at') apart idle idle' in
+      let lives : get_or (map is_seated s.views) other false ≡ true = seated_at s.views other w at' ∙ seated w (let a = mine.0 in let l = mine.1 in omega arith) in
+      let is_step = join_is_step plan (map is_seated s.views) s id other v w (stands plan s id v r at share) at' lives apart idle idle' in
+      let next : State (Unit {0}) View = with_views s (set (set s.views id (joined v w)) other empty_view) in
+      let same : map is_seated (set (set s.views id (joined v w)) other empty_view) ≡ set (map is_seated s.views) other false =
+      map-set is_seated (set s.views id (joined v w)) other empty_view ∙ ap (λ (l : List Bool). set l other false) (seated_set s.views id v (joined v w) at refl) in
       record {
         width = r.width;
-        sound = stays s (join id other) (machine_of plan (set (all_live s) other false) (with_views s (set (set s.views id (joined v w)) other empty_view))) _ r tt is_step;
+        reached = reached_next plan s next (join id other) _ r.reached tt (is_step ∙ λ j. (machine_of plan (sym same j) next, Ok merged));
         fits = r.fits;
         carried = each_set _ (set s.views id (joined v w)) other empty_view (inr refl) (each_set _ s.views id (joined v w) (inl mine.0) r.carried);
       }
 
--- a load that leaves all as it is tells that the seat has at most all shares
-pub tell_allowed : (plan : Plan) (slots id : ℕ) (me : Me (Unit {0}) View) (word : ℕ) → 0 < me.0.shares → Allows (IsRuled plan) slots id me word (λ n. n) (Tells (step slots word 0 0 none) me)
-tell_allowed plan slots id me word share s r homes at small =
-    let mine = carries plan s id me.0 r at share in
-    let same_words : set s.words word (slice_index s.words word) ≡ s.words = set-get_or s.words word 0 in
-    let same_views : set s.views id me.0 ≡ s.views = set_again s.views id me.0 at in (
-      me.0,
-      keeps,
-      tt,
-      subst (IsRuled plan) (λ i. record { words = sym same_words i; homes = s.homes; views = sym same_views i }) (record { width = r.width; sound = r.sound; fits = r.fits; carried = r.carried }),
-      (refl, mine.1, let all = mine.0 in let fits = r.fits in omega arith),
-    )
+  -- a load that leaves all as it is tells that the seat has at most all shares
+  pub tell_allowed : (plan : Plan) (slots id : ℕ) (me : Me (Unit {0}) View) (word : ℕ) → 0 < me.0.shares → Allows (IsRuled plan) slots id me word (λ n. n) (Tells (step slots word 0 0 none) me)
+  tell_allowed plan slots id me word share s r homes at small =
+      let mine = carries plan s id me.0 r at share in (
+        me.0,
+        keeps,
+        tt,
+        subst (IsRuled plan) (sym (unchanged s word id me.0 at)) r,
+        (refl, mine.1, let all = mine.0 in let fits = r.fits in omega arith),
+      )
 
-only_one : (u v : View) (j : ℕ) → get_elem? (u ∷ []) j ≡ some v → v ≡ u
+  -- the pass that has all shares knows the words that are left
+  pub closes : WholeShareKnowsAll → (plan : Plan) (id : ℕ) (v : View) (words : List ℕ) (slots : List (Unit {0})) → Final (Seen (IsRuled plan) id v) words slots → 0 < v.shares → IsIdle v → plan.all ≤ v.shares
+      → IsKnown plan v words
+  closes knows plan id v words slots f share rests whole =
+      let s = f.0 in let r = f.1.0 in let same : s.words ≡ words = f.2 in
+      let is_sound : IsSound s.words plan.all s.views = rule_is_sound plan s r in
+      let is_step = close_is_step plan (map is_seated s.views) s id v (stands plan s id v r f.1.1 share) rests whole in
+      let k : KnowsAll s.words plan.all v = knows s.words plan.all s.views id v is_sound f.1.1 rests whole in record {
+        shares = k.shares;
+        met = subst (IsMeet (full plan.width) v.done) same (subst (λ (n : ℕ). IsMeet (full n) v.done s.words) r.width k.met);
+        readings = k.readings;
+        stood = record { views = s.views; seat = id; has = f.1.1; sound = subst (λ (ws : List ℕ). IsSound ws plan.all s.views) same is_sound };
+        reply = subst (λ (ws : List ℕ). RepliesClosed plan.width plan.all v ws) same (reached_replies plan s id v close _ (closed s.words) r.reached f.1.1 is_step);
+      }
+
+pub only_one : (u v : View) (j : ℕ) → get_elem? (u ∷ []) j ≡ some v → v ≡ u
 only_one u v zero e = sym (some-injective u v e)
 only_one u v (suc j) e = absurd (some-ne-none v (sym e))
 
 -- the table as it opens
-pub opens : OpeningIsSound → (plan : Plan) → plan.all < 2 ^ 32 → IsRuled plan (opening (full plan.width) [] (first_view plan.all))
-opens sound plan fits = record {
+abbrev pub opens : (plan : Plan) → 0 < plan.all → plan.all < 2 ^ 32 → IsRuled plan (opening (full plan.width) [] (first_view plan.all))
+opens plan share fits = record {
   width = length-replicate plan.width 18446744073709551615;
-  sound = (sound plan.width plan.all).sound;
+  reached = record { events = []; rows = tt; stands = λ j. record { words = full plan.width; all = plan.all; views = first_view plan.all ∷ []; live = sym (seated (first_view plan.all) share) j ∷ [] } };
   fits = fits;
   carried = λ j v e. inl (ap (λ (u : View). u.all) (only_one (first_view plan.all) v j e));
 }
-
--- the pass that has all shares knows the words that are left
-pub closes : WholeShareKnowsAll → (plan : Plan) (id : ℕ) (v : View) (words : List ℕ) (slots : List (Unit {0})) → Final (Seen (IsRuled plan) id v) words slots → IsIdle v → plan.all ≤ v.shares
-    → IsKnown plan v words
-closes knows plan id v words slots f rests whole =
-    let s = f.0 in let r = f.1.0 in let same : s.words ≡ words = f.2 in
-    let k : KnowsAll s.words plan.all v = knows s.words plan.all s.views id v r.sound f.1.1 rests whole in record {
-      shares = k.shares;
-      met = subst (IsMeet (full plan.width) v.done) same (subst (λ (n : ℕ). IsMeet (full n) v.done s.words) r.width k.met);
-      readings = k.readings;
-    }

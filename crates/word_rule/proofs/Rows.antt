@@ -1,42 +1,39 @@
 -- A row that is offered, as far as it is cleared.
-use Rattle.std.proofs.Common.{◌≡◌, ℕ, ◌+◌, ◌<◌, true, ◌==◌, cond, List, [], ◌∷◌, ◌++◌, length, ⊎_elim, sym, refl, ap, ◌∙◌, arith}
+use Rattle.std.proofs.Common.{◌≡◌, ℕ, ◌+◌, ◌<◌, true, ◌==◌, cond, List, [], ◌∷◌, ◌++◌, length, ⊎_elim, subst, sym, refl, ap, ◌∙◌, arith}
 use Rattle.std.proofs.lemmas.Bool.{cases_eq, and_from, eq-eqb, ne_eqb, or_left, or_right, cond-true, cond-false}
 use Rattle.word_rows.specs.declared.entries.Entry.{Entry}
 use Rattle.word_rows.specs.declared.views.View.{View}
 use Rattle.word_rows.specs.Changes.{IsIdle, finished, part_way, cleared_next}
 use Rattle.word_rows.specs.Machine.{can_clear, same_row}
-
--- the view of a pass after so many entries of the row
-abbrev pub state_at : View → List Entry → ℕ → View
-state_at v row k = cond (k == 0) v (cond (k == length row) (finished v row) (part_way v row k))
+use Rattle.word_rule.specs.Standing.{offered_until}
 
 same_row-refl : (row : List Entry) → same_row row row ≡ true
 same_row-refl [] = refl
 same_row-refl (e ∷ es) = and_from _ _ (and_from _ _ (eq-eqb e.word e.word refl) (eq-eqb e.mask e.mask refl)) (same_row-refl es)
 
 module _ (v : View) (row : List Entry) (rests : IsIdle v) where
-  begins : (k : ℕ) → k ≡ 0 → state_at v row k ≡ v
+  begins : (k : ℕ) → k ≡ 0 → offered_until v row k ≡ v
   begins k z = cond-true _ v _ (eq-eqb k 0 z)
 
-  midway : (k : ℕ) → (k ≡ 0 → ⊥) → k < length row → state_at v row k ≡ part_way v row k
+  midway : (k : ℕ) → (k ≡ 0 → ⊥) → k < length row → offered_until v row k ≡ part_way v row k
   midway k n h = cond-false _ v _ (ne_eqb k 0 n) ∙ cond-false _ (finished v row) _ (ne_eqb k (length row) (λ e. omega arith))
 
   -- what the step of the next entry asks, and what it leaves
   pub record Next (k : ℕ) : Type 0 where
-    pub cleared : k ≡ (state_at v row k).cleared
-    pub can : can_clear (state_at v row k) row ≡ true
-    pub shares : (state_at v row k).shares ≡ v.shares
-    pub more : cleared_next (state_at v row k) row ≡ state_at v row (k + 1)
+    pub cleared : k ≡ (offered_until v row k).cleared
+    pub can : can_clear (offered_until v row k) row ≡ true
+    pub shares : (offered_until v row k).shares ≡ v.shares
+    pub more : cleared_next (offered_until v row k) row ≡ offered_until v row (k + 1)
 
   -- the state after one entry more, by the number of entries
   abbrev after_one : ℕ → View
   after_one k = cond (k + 1 == length row) (finished v row) (part_way v row (k + 1))
 
-  one_more : (k : ℕ) → after_one k ≡ state_at v row (k + 1)
+  one_more : (k : ℕ) → after_one k ≡ offered_until v row (k + 1)
   one_more k = sym (cond-false _ v _ (ne_eqb (k + 1) 0 (λ e. omega arith)))
 
   next_first : (k : ℕ) → k ≡ 0 → Next k
-  next_first k z = let here : state_at v row k ≡ v = begins k z in let same : v.cleared ≡ k = rests.1 ∙ sym z in record {
+  next_first k z = let here : offered_until v row k ≡ v = begins k z in let same : v.cleared ≡ k = rests.1 ∙ sym z in record {
     cleared = sym same ∙ ap (λ (u : View). u.cleared) (sym here);
     can = or_left _ _ (eq-eqb _ 0 (ap (λ (u : View). u.cleared) here ∙ rests.1));
     shares = ap (λ (u : View). u.shares) here;
@@ -44,7 +41,7 @@ module _ (v : View) (row : List Entry) (rests : IsIdle v) where
   }
 
   next_midway : (k : ℕ) → (k ≡ 0 → ⊥) → k < length row → Next k
-  next_midway k n h = let here : state_at v row k ≡ part_way v row k = midway k n h in record {
+  next_midway k n h = let here : offered_until v row k ≡ part_way v row k = midway k n h in record {
     cleared = ap (λ (u : View). u.cleared) (sym here);
     can = ap (λ (u : View). can_clear u row) here ∙ or_right (k == 0) _ (same_row-refl row);
     shares = ap (λ (u : View). u.shares) here;
@@ -55,6 +52,13 @@ module _ (v : View) (row : List Entry) (rests : IsIdle v) where
   next k h = ⊎_elim (λ (z : k ≡ 0). next_first k z) (λ (n : k ≡ 0 → ⊥). next_midway k n h) (cases_eq k 0)
 
   -- the view after the whole row
-  pub ends : (k : ℕ) → 0 < length row → k ≡ length row → ◌≡◌ {A = View} (state_at v row k) (record v { done = v.done ++ row ∷ [] })
+  pub ends : (k : ℕ) → 0 < length row → k ≡ length row → ◌≡◌ {A = View} (offered_until v row k) (record v { done = v.done ++ row ∷ [] })
   ends k long e = cond-false _ v _ (ne_eqb k 0 (λ z. omega arith)) ∙ cond-true _ (finished v row) _ (eq-eqb k (length row) e)
       ∙ λ j. record { all = v.all; shares = v.shares; done = v.done ++ row ∷ []; row = sym rests.0 j; cleared = sym rests.1 j; seen = v.seen; readings = v.readings }
+
+-- what was told of the entries before, and of one more
+pub one_told : (H : View → Type 0) (v u : View) (row : List Entry) (at : ℕ) → u ≡ offered_until v row at → ((k : ℕ) → k < at → H (offered_until v row k)) → H u → (k : ℕ) → k < at + 1 → H (offered_until v row k)
+one_told H v u row at here old new k h = ⊎_elim
+    (λ (is : k ≡ at). subst (λ (n : ℕ). H (offered_until v row n)) (sym is) (subst H here new))
+    (λ (is : k ≡ at → ⊥). old k (omega arith))
+    (cases_eq k at)

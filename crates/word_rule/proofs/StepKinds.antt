@@ -1,25 +1,26 @@
 -- Each kind of atomic step is a step of the step machine.
-use Rattle.std.proofs.Common.{◌≡◌, ◌≢◌, ℕ, ◌<◌, Bool, true, false, not, ◌||◌, ◌==◌, nat_lt, cond, List, [], ◌∷◌, ◌++◌, length, set, bit_and, slice_index, sym, refl, ap, ◌∙◌, arith}
-use Rattle.std.specs.Prelude.{Option, Some, None, Ok}
-use Rattle.std.proofs.lemmas.Bool.{cond-false, not_from_true, ne_eqb, eq-eqb, lt-ltb, or_from}
+use Rattle.std.proofs.Common.{◌≡◌, ◌≢◌, ℕ, ◌^◌, ◌<◌, ◌≤◌, Bool, true, false, not, ◌||◌, ◌==◌, nat_lt, cond, List, [], ◌∷◌, ◌++◌, length, set, bit_and, bit_xor, slice_index, subst, sym, refl, ap, ◌∙◌, arith}
+use Rattle.std.specs.Prelude.{Option, Some, None, Ok, MatchBool}
+use Rattle.std.proofs.lemmas.Bool.{cond-false, not_from_true, ne_eqb, eq-eqb, lt-ltb, le-ltb, or_from}
 use Rattle.std.proofs.lemmas.List.{set-get_or}
 use Rattle.std.specs.Int.{bit_not, w64}
-use mathlib.Core.Option.{some}
+use Rattle.std.specs.Int.Bits.{xor_zero_r}
+use mathlib.Core.Option.{none, some}
 use lib.ListN.{get_elem?}
-use Rattle.atomic_table.specs.Table.{State, Me}
+use Rattle.atomic_table.specs.Table.{State, Me, step, stepped, keeps}
 use Rattle.word_rows.specs.declared.entries.Entry.{Entry}
 use Rattle.word_rows.specs.declared.views.View.{View}
 use Rattle.word_rows.specs.Rows.{below}
-use Rattle.word_rows.specs.Words.{without_entry}
+use Rattle.word_rows.specs.Words.{without, without_entry}
 use Rattle.word_rows.specs.Changes.{IsIdle, cleared_next, with_reading, left_by, new_of, joined, empty_view}
-use Rattle.word_rows.specs.Machine.{StepState, Fault, clear, load, split, join, was, loaded, seat_made, merged, no_seat, row_open, bad_share, bad_word, fault_of, settled, view_at, is_live, is_idle, can_clear, entry_at}
+use Rattle.word_rows.specs.Machine.{StepState, Fault, was, loaded, seat_made, merged, no_seat, row_open, bad_share, bad_word, shares_out, step as machine_step, fault_of, settled, view_at, is_live, is_idle, can_clear, entry_at}
+use Rattle.word_rows.specs.declared.events.Event.TheVariants.{Clear as clear, Load as load, Split as split, Join as join, Close as close}
 use Rattle.word_rows.specs.Meeting.{ComplementClears}
 use Rattle.word_rule.specs.declared.rule.Plan.{Plan}
-use Rattle.word_rule.specs.Kinds.{machine_of, IsAt, RuleIsSound, ClearIsStep, LoadIsStep, SplitIsStep, JoinIsStep}
+use Rattle.word_rule.specs.Standing.{machine_of}
+use Rattle.word_rule.specs.Ruled.{Clears}
+use Rattle.word_rule.specs.Kinds.{IsAt, ClearIsStep, SkipIsStep, LoadIsStep, SplitIsStep, JoinIsStep, CloseIsStep}
 use Rattle.word_rule.proofs.Lists.{at_or}
-
-pub rule_is_sound : RuleIsSound
-rule_is_sound plan s r = r.sound
 
 -- a test that is false finds no fault, and those behind it go on
 none_here : (b : Bool) (fault : Fault) (next : Option Fault) → b ≡ false → next ≡ None → ◌≡◌ {A = Option Fault} (cond b (Some fault) next) None
@@ -72,27 +73,70 @@ module _ (plan : Plan) (live : List Bool) (s : State (Unit {0}) View) (id : ℕ)
       (none_here (not (is_idle (view_at m id))) (row_open id) _ (rests i)
       (none_here (not (is_idle (view_at m other))) (row_open other) None (not_from_true _ (idle_view (view_at m other) w (at_or s.views other w empty_view at) j)) refl)))
 
-pub clear_is_step : ComplementClears → ClearIsStep
-clear_is_step complement plan live s slots id before after row e a can named is small fits then =
-    let v : View = before.0 in let m : StepState = machine_of plan live s in
+  pub close_fits : IsIdle v → plan.all ≤ v.shares → fault_of m (close id) ≡ None
+  close_fits i whole =
+      none_here (not (is_live m id)) (no_seat id) _ lives
+      (none_here (not (is_idle (view_at m id))) (row_open id) _ (rests i)
+      (none_here (nat_lt (view_at m id).shares plan.all) (shares_out (view_at m id).shares plan.all) None
+      (ap (λ (u : View). nat_lt u.shares plan.all) there ∙ le-ltb v.shares plan.all whole) refl))
+
+-- the `fetch_and` of an entry, with the view that it leaves
+pub clear_step : ComplementClears → (plan : Plan) (live : List Bool) (s : State (Unit {0}) View) (id : ℕ) (me : Me (Unit {0}) View) (row : List Entry) (e : Entry) (w : View) → IsAt plan live s id me.0 → can_clear me.0 row ≡ true → below plan.width row ≡ true
+    → entry_at row me.0.cleared ≡ e → slice_index s.words e.word < 2 ^ 64 → e.mask < 2 ^ 64 → w ≡ cleared_next me.0 row
+    → machine_step (machine_of plan live s) (clear id row) ≡ (machine_of plan live (stepped s e.word (bit_and (slice_index s.words e.word) (bit_not w64 e.mask)) id me.1 w keeps), Ok (was (slice_index s.words e.word)))
+clear_step complement plan live s id me row e w a can named is small fits then =
+    let v : View = me.0 in let m : StepState = machine_of plan live s in
     let same : view_at m id ≡ v = there plan live s id v a in
     let entry : entry_at row (view_at m id).cleared ≡ e = ap (λ (u : View). entry_at row u.cleared) same ∙ is in
     let words : without_entry s.words (entry_at row (view_at m id).cleared) ≡ set s.words e.word (bit_and (slice_index s.words e.word) (bit_not w64 e.mask)) =
     ap (without_entry s.words) entry ∙ ap (λ (n : ℕ). set s.words e.word n) (sym (complement (slice_index s.words e.word) e.mask small fits)) in
-    let views : set s.views id (cleared_next (view_at m id) row) ≡ set s.views id after.0 =
-    ap (λ (u : View). set s.views id (cleared_next u row)) same ∙ ap (λ (x : Me (Unit {0}) View). set s.views id x.0) (sym then) in
+    let views : set s.views id (cleared_next (view_at m id) row) ≡ set s.views id w =
+    ap (λ (u : View). set s.views id (cleared_next u row)) same ∙ ap (λ (u : View). set s.views id u) (sym then) in
     ap (settled m (clear id row)) (clear_fits plan live s id v a row can named)
     ∙ λ j. (record { words = words j; all = plan.all; views = views j; live = live }, Ok (was (slice_index s.words (entry j).word)))
 
-pub load_is_step : LoadIsStep
-load_is_step plan live s slots id word before after a i inside then =
-    let v : View = before.0 in let m : StepState = machine_of plan live s in
+pub clear_is_step : ComplementClears → ClearIsStep
+clear_is_step complement plan live s slots id before after row e a can named is small fits then = clear_step complement plan live s id before row e after.0 a can named is small fits (ap (λ (x : Me (Unit {0}) View). x.0) then.0)
+
+-- what the entry leaves of the word that has none of its bits
+without_none : (n mask : ℕ) → bit_and n mask ≡ 0 → without n mask ≡ n
+without_none n mask z = ap (λ (k : ℕ). bit_xor n k) z ∙ xor_zero_r n
+
+-- the load of a word that has none of the bits of the next entry, with the view that it leaves
+pub skip_step : (plan : Plan) (live : List Bool) (s : State (Unit {0}) View) (id : ℕ) (me : Me (Unit {0}) View) (row : List Entry) (e : Entry) (w : View) → IsAt plan live s id me.0 → can_clear me.0 row ≡ true → below plan.width row ≡ true
+    → entry_at row me.0.cleared ≡ e → bit_and (slice_index s.words e.word) e.mask ≡ 0 → w ≡ cleared_next me.0 row
+    → machine_step (machine_of plan live s) (clear id row) ≡ (machine_of plan live (stepped s e.word (slice_index s.words e.word) id me.1 w keeps), Ok (was (slice_index s.words e.word)))
+skip_step plan live s id me row e w a can named is free then =
+    let v : View = me.0 in let m : StepState = machine_of plan live s in
+    let same : view_at m id ≡ v = there plan live s id v a in
+    let entry : entry_at row (view_at m id).cleared ≡ e = ap (λ (u : View). entry_at row u.cleared) same ∙ is in
+    let words : without_entry s.words (entry_at row (view_at m id).cleared) ≡ set s.words e.word (slice_index s.words e.word) =
+    ap (without_entry s.words) entry ∙ ap (λ (n : ℕ). set s.words e.word n) (without_none (slice_index s.words e.word) e.mask free) in
+    let views : set s.views id (cleared_next (view_at m id) row) ≡ set s.views id w =
+    ap (λ (u : View). set s.views id (cleared_next u row)) same ∙ ap (λ (u : View). set s.views id u) (sym then) in
+    ap (settled m (clear id row)) (clear_fits plan live s id v a row can named)
+    ∙ λ j. (record { words = words j; all = plan.all; views = views j; live = live }, Ok (was (slice_index s.words (entry j).word)))
+
+pub skip_is_step : SkipIsStep
+skip_is_step plan live s slots id before after row e a can named is free then =
+    let test : bit_and (slice_index s.words e.word) (entry_at row before.0.cleared).mask == 0 ≡ true = eq-eqb _ 0 (ap (λ (x : Entry). bit_and (slice_index s.words e.word) x.mask) is ∙ free) in
+    let now : Clears plan row (step slots e.word 0 0 none) before (slice_index s.words e.word) after = subst (λ (t : Bool). MatchBool t (Clears plan row (step slots e.word 0 0 none) before (slice_index s.words e.word) after) (after ≡ before)) test then in
+    skip_step plan live s id before row e after.0 a can named is free (ap (λ (x : Me (Unit {0}) View). x.0) now.0)
+
+-- the load of a word, with the view that it leaves
+pub load_step : (plan : Plan) (live : List Bool) (s : State (Unit {0}) View) (id word : ℕ) (me : Me (Unit {0}) View) (w : View) → IsAt plan live s id me.0 → IsIdle me.0 → word < plan.width → w ≡ with_reading me.0 word (slice_index s.words word)
+    → machine_step (machine_of plan live s) (load id word) ≡ (machine_of plan live (stepped s word (slice_index s.words word) id me.1 w keeps), Ok (loaded (slice_index s.words word)))
+load_step plan live s id word me w a i inside then =
+    let v : View = me.0 in let m : StepState = machine_of plan live s in
     let same : view_at m id ≡ v = there plan live s id v a in
     let words : s.words ≡ set s.words word (slice_index s.words word) = sym (set-get_or s.words word 0) in
-    let views : set s.views id (with_reading (view_at m id) word (slice_index s.words word)) ≡ set s.views id after.0 =
-    ap (λ (u : View). set s.views id (with_reading u word (slice_index s.words word))) same ∙ ap (λ (x : Me (Unit {0}) View). set s.views id x.0) (sym then.0) in
+    let views : set s.views id (with_reading (view_at m id) word (slice_index s.words word)) ≡ set s.views id w =
+    ap (λ (u : View). set s.views id (with_reading u word (slice_index s.words word))) same ∙ ap (λ (u : View). set s.views id u) (sym then) in
     ap (settled m (load id word)) (load_fits plan live s id v a word i inside)
     ∙ λ j. (record { words = words j; all = plan.all; views = views j; live = live }, Ok (loaded (slice_index s.words word)))
+
+pub load_is_step : LoadIsStep
+load_is_step plan live s slots id word before after a i inside then = load_step plan live s id word before after.0 a i inside (ap (λ (x : Me (Unit {0}) View). x.0) then.0)
 
 pub split_is_step : SplitIsStep
 split_is_step plan live s id shares v a i less =
@@ -108,3 +152,8 @@ join_is_step plan live s id other v w a at t apart i k =
     let same' : view_at m other ≡ w = at_or s.views other w empty_view at in
     ap (settled m (join id other)) (join_fits plan live s id v a other w at t apart i k)
     ∙ λ j. (record { words = s.words; all = plan.all; views = set (set s.views id (joined (same j) (same' j))) other empty_view; live = set live other false }, Ok merged)
+
+pub close_is_step : CloseIsStep
+close_is_step plan live s id v a i whole =
+    let m : StepState = machine_of plan live s in
+    ap (settled m (close id)) (close_fits plan live s id v a i whole)

@@ -1,5 +1,5 @@
--- The four kinds of atomic step that change a word or a view, each a step of the step machine. The load at the end of a join is of none of them: it keeps every word and every view.
-use Rattle.std.specs.Prelude.{◌≡◌, ◌≢◌, ℕ, ◌^◌, ◌<◌, Bool, true, false, Ok, List, [], ◌∷◌, ◌++◌, length, bit_and, slice_index, slice_index_or, slice_set}
+-- The four kinds of atomic step that change a word or a view, and the end of the table, each a step of the step machine. The load at the end of a join is of none of them: it keeps every word and every view.
+use Rattle.std.specs.Prelude.{◌≡◌, ◌≢◌, ℕ, ◌^◌, ◌<◌, ◌≤◌, Bool, true, false, Ok, List, [], ◌∷◌, ◌++◌, length, map, bit_and, slice_index, slice_index_or, slice_set}
 use Rattle.std.specs.Int.{bit_not, w64}
 use mathlib.Core.Option.{none, some}
 use lib.ListN.{get_elem?}
@@ -9,13 +9,11 @@ use Rattle.word_rows.specs.declared.views.View.{View}
 use Rattle.word_rows.specs.Rows.{below}
 use Rattle.word_rows.specs.Changes.{IsIdle, left_by, new_of, joined, empty_view}
 use Rattle.word_rows.specs.Sound.{IsSound}
-use Rattle.word_rows.specs.Machine.{StepState, step, clear, load, split, join, was, loaded, seat_made, merged, can_clear, entry_at}
+use Rattle.word_rows.specs.Machine.{step, was, loaded, seat_made, merged, closed, can_clear, entry_at}
+use Rattle.word_rows.specs.declared.events.Event.TheVariants.{Clear as clear, Load as load, Split as split, Join as join, Close as close}
 use Rattle.word_rule.specs.declared.rule.Plan.{Plan}
-use Rattle.word_rule.specs.Ruled.{IsRuled, Clears, Loads}
-
--- the table as the step machine has it, with these seats live
-abbrev pub machine_of : Plan → List Bool → State (Unit {0}) View → StepState
-machine_of plan live s = record { words = s.words; all = plan.all; views = s.views; live = live }
+use Rattle.word_rule.specs.Standing.{machine_of}
+use Rattle.word_rule.specs.Ruled.{IsRuled, Clears, Skips, Loads}
 
 -- the table with other views
 abbrev pub with_views : State (Unit {0}) View → List View → State (Unit {0}) View
@@ -37,14 +35,22 @@ abbrev pub ClearIsStep : Type 0
 ClearIsStep = (plan : Plan) (live : List Bool) (s : State (Unit {0}) View) (slots id : ℕ) (before after : Me (Unit {0}) View) (row : List Entry) (e : Entry)
     → IsAt plan live s id before.0 → can_clear before.0 row ≡ true → below plan.width row ≡ true → entry_at row before.0.cleared ≡ e
     → slice_index s.words e.word < 2 ^ 64 → e.mask < 2 ^ 64
-    → Clears row (base_step slots e.word (bit_not w64 e.mask) 0 none) before (slice_index s.words e.word) after
+    → Clears plan row (base_step slots e.word (bit_not w64 e.mask) 0 none) before (slice_index s.words e.word) after
     → step (machine_of plan live s) (clear id row) ≡ (machine_of plan live (stepped s e.word (bit_and (slice_index s.words e.word) (bit_not w64 e.mask)) id before.1 after.0 keeps), Ok (was (slice_index s.words e.word)))
+
+-- `load`, which writes back what it found, where that has none of the entry's bits: the step machine clears the entry, and its reply is what was found
+abbrev pub SkipIsStep : Type 0
+SkipIsStep = (plan : Plan) (live : List Bool) (s : State (Unit {0}) View) (slots id : ℕ) (before after : Me (Unit {0}) View) (row : List Entry) (e : Entry)
+    → IsAt plan live s id before.0 → can_clear before.0 row ≡ true → below plan.width row ≡ true → entry_at row before.0.cleared ≡ e
+    → bit_and (slice_index s.words e.word) e.mask ≡ 0
+    → Skips plan row (base_step slots e.word 0 0 none) before (slice_index s.words e.word) after
+    → step (machine_of plan live s) (clear id row) ≡ (machine_of plan live (stepped s e.word (slice_index s.words e.word) id before.1 after.0 keeps), Ok (was (slice_index s.words e.word)))
 
 -- `load`, which writes back what it found: the step machine loads the word, and its reply is what was found
 abbrev pub LoadIsStep : Type 0
 LoadIsStep = (plan : Plan) (live : List Bool) (s : State (Unit {0}) View) (slots id word : ℕ) (before after : Me (Unit {0}) View)
     → IsAt plan live s id before.0 → IsIdle before.0 → word < plan.width
-    → Loads (base_step slots word 0 0 none) before (slice_index s.words word) after
+    → Loads plan (base_step slots word 0 0 none) before (slice_index s.words word) after
     → step (machine_of plan live s) (load id word) ≡ (machine_of plan live (stepped s word (slice_index s.words word) id before.1 after.0 keeps), Ok (loaded (slice_index s.words word)))
 
 -- `split_seat`: the step machine splits off the shares, and the new seat is the next one
@@ -58,3 +64,9 @@ abbrev pub JoinIsStep : Type 0
 JoinIsStep = (plan : Plan) (live : List Bool) (s : State (Unit {0}) View) (id other : ℕ) (v w : View)
     → IsAt plan live s id v → get_elem? s.views other ≡ some w → slice_index_or live other false ≡ true → other ≢ id → IsIdle v → IsIdle w
     → step (machine_of plan live s) (join id other) ≡ (machine_of plan (slice_set live other false) (with_views s (slice_set (slice_set s.views id (joined v w)) other empty_view)), Ok merged)
+
+-- `close_with`: the step machine closes, and its reply is the words
+abbrev pub CloseIsStep : Type 0
+CloseIsStep = (plan : Plan) (live : List Bool) (s : State (Unit {0}) View) (id : ℕ) (v : View)
+    → IsAt plan live s id v → IsIdle v → plan.all ≤ v.shares
+    → step (machine_of plan live s) (close id) ≡ (machine_of plan (map (λ _. false) live) s, Ok (closed s.words))

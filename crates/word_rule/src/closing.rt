@@ -1,19 +1,21 @@
-ghost use Rattle.std.specs.Prelude.{◌≡◌, ◌≤◌, [], vec_capacity, IfOk, IfErr};
+ghost use Rattle.std.specs.Prelude.{◌≡◌, ◌<◌, ◌≤◌, [], vec_capacity, IfOk, IfErr};
 ghost use Rattle.std.specs.Mem.Slots.{slots_items, slots_len, IsFull};
 ghost use Rattle.word_rows.specs.Words.{IsMeet, full};
 ghost use Rattle.word_rows.specs.Accounts.{LackOnly};
 ghost use Rattle.word_rows.specs.Changes.{IsIdle};
 ghost use Rattle.word_rule.specs.Holdings.{IsOf};
 ghost use Rattle.word_rule.specs.Ruled.{IsKnown};
+ghost use Rattle.word_rule.specs.Standing.{Stood};
+ghost use Rattle.word_rule.specs.History.{EndsWith};
 ghost use Rattle.word_rule.specs.Faults.{IsFault};
 
 use crate::passes::Pass;
-use crate::rule::{Keeps, Plan};
+use crate::rule::{Keeps, Knower, Plan};
 use crate::tables::MeetTable;
 use atomic_table::{Closed as Ended, Seat, Table};
 use std::alloc::Global;
-use word_rows::laws::whole_share_knows_all;
-use word_rows::{Sheet, View};
+use word_rows::Sheet;
+use word_rows::laws::{events_keep_sound, whole_share_knows_all};
 
 /// What is left of a table that was closed.
 #[derive(Drop)]
@@ -51,13 +53,16 @@ fn copy_words(from: &Ended<(), Global>, into: &mut Vec<u64>)
 }
 
 // Ends the table. The seat that has all shares knows its words.
-fn end(table: Table<(), View, Plan, Keeps, Global>, seat: Seat<(), View>) -> Ended<(), Global>
+fn end(table: Table<(), Knower, Plan, Keeps, Global>, seat: Seat<(), Knower>) -> Ended<(), Global>
     requires table { seat.table_id ≡ table.shared.table_id }
-    requires seat { IsIdle seat.me.0 × (table.shared.key.all ≤ seat.me.0.shares) }
+    requires share { 0 < seat.me.0.view.shares }
+    requires seat { IsIdle seat.me.0.view × (table.shared.key.all ≤ seat.me.0.view.shares) }
     ensures counts { (slots_len result.words ≡ table.shared.table_id.words) × (slots_len result.slots ≡ table.shared.table_id.slots) }
     ensures full { IsFull result.words × IsFull result.slots }
-    ensures known { IsKnown table.shared.key seat.me.0 (slots_items result.words) }
+    ensures ends { EndsWith table.shared.key.width table.shared.key.all seat.me.0.pasts seat.me.0.view (slots_items result.words) }
+    ensures known { IsKnown table.shared.key seat.me.0.view (slots_items result.words) }
 {
+    events_keep_sound();
     whole_share_knows_all();
     table.close_with(seat)
 }
@@ -69,6 +74,8 @@ impl MeetTable {
         ensures whole { IfOk result (λ _. pass.view.shares ≡ self.all) }
         ensures words { IfOk result (λ c. IsMeet (full self.width) pass.view.done c.words) }
         ensures readings { IfOk result (λ _. LackOnly pass.view.readings pass.view.done) }
+        ensures stood { IfOk result (λ c. Stood c.words self.all pass.view) }
+        ensures ends { IfOk result (λ c. EndsWith self.width self.all pass.pasts pass.view c.words) }
         ensures fault { IfErr result (IsFault self pass) }
     {
         let (have, all) = (pass.shares(), self.all);

@@ -1,12 +1,14 @@
 //! What the rule of the table means, over the definitions alone. Each law is the contract of a function that does nothing.
-ghost use Rattle.word_rule.specs.Kinds.{ClearIsStep, JoinIsStep, LoadIsStep, RuleIsSound, SplitIsStep};
+ghost use Rattle.word_rule.specs.Kinds.{ClearIsStep, CloseIsStep, JoinIsStep, LoadIsStep, RuleIsSound, SkipIsStep, SplitIsStep};
 
-use word_rows::laws::complement_clears;
+use word_rows::laws::{complement_clears, events_keep_sound};
 
 /// Between any two atomic steps the words and all views are sound.
 pub fn rule_is_sound()
     ensures { RuleIsSound }
-{}
+{
+    events_keep_sound();
+}
 
 /// The `fetch_and` of an entry is the step machine's Clear.
 pub fn clear_is_step()
@@ -14,6 +16,11 @@ pub fn clear_is_step()
 {
     complement_clears();
 }
+
+/// The `load` of a word that has none of the bits of the next entry is the step machine's Clear.
+pub fn skip_is_step()
+    ensures { SkipIsStep }
+{}
 
 /// The `load` of a word is the step machine's Load.
 pub fn load_is_step()
@@ -28,4 +35,9 @@ pub fn split_is_step()
 /// The `join_seat` of two passes, or of a pass and a note, is the step machine's Join.
 pub fn join_is_step()
     ensures { JoinIsStep }
+{}
+
+/// The end of the table, by the seat that has all shares, is the step machine's Close.
+pub fn close_is_step()
+    ensures { CloseIsStep }
 {}

@@ -14,6 +14,7 @@ mod single_steps;
 mod tables;
 #[cfg(test)]
 mod tests;
+pub mod uses;
 
 pub use closing::{CloseFault, Closed};
 pub use notes::Note;

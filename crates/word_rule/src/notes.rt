@@ -1,18 +1,18 @@
 ghost use Rattle.std.specs.Prelude.{◌≡◌};
-ghost use Rattle.word_rows.specs.Changes.{joined, new_of};
-ghost use Rattle.word_rule.specs.Holdings.{IsOf, with_view};
+ghost use Rattle.word_rows.specs.Changes.{new_of};
+ghost use Rattle.word_rule.specs.Holdings.{IsOf, together, with_view};
 
 use crate::passes::Pass;
+use crate::rule::Knower;
 use crate::single_steps::{join_seats, split_shares};
 use crate::tables::MeetTable;
 use atomic_table::Seat;
 use std::marker::{Brand, Model};
-use word_rows::View;
 
 /// A seat with no shares, which tells another pass what a pass has done and seen. Contracts see its table and its view.
 #[derive(Drop)]
 pub struct Note {
-    pub(crate) seat: Seat<(), View>,
+    pub(crate) seat: Seat<(), Knower>,
 }
 
 impl Model for Note {
@@ -20,7 +20,7 @@ impl Model for Note {
 
     ghost Value = { Holding };
 
-    ghost view = { λ n. record { table_id = n.seat.table_id; view = n.seat.me.0 } };
+    ghost view = { λ n. record { table_id = n.seat.table_id; view = n.seat.me.0.view; pasts = n.seat.me.0.pasts } };
 
     ghost invariant = { λ n. IsNote n.seat.me };
 }
@@ -40,7 +40,7 @@ impl MeetTable {
     pub fn meet(&self, pass: &mut Pass, note: Note)
         requires pass { IsOf self.now pass.old }
         requires note { IsOf self.now note }
-        ensures { pass.new ≡ with_view pass.old (joined pass.old.view note.view) }
+        ensures { pass.new ≡ together pass.old note }
     {
         let Note { seat } = note;
         join_seats(&self.table.shared, &mut pass.seat, seat);

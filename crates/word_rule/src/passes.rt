@@ -1,11 +1,11 @@
+use crate::rule::Knower;
 use atomic_table::Seat;
 use std::marker::Model;
-use word_rows::View;
 
 /// A seat at a table with at least one share, which may offer rows and read. Contracts see its table and its view. A pass that is dropped keeps its shares out.
 #[derive(Drop)]
 pub struct Pass {
-    pub(crate) seat: Seat<(), View>,
+    pub(crate) seat: Seat<(), Knower>,
     pub(crate) shares: u32,
 }
 
@@ -14,7 +14,7 @@ impl Model for Pass {
 
     ghost Value = { Holding };
 
-    ghost view = { λ p. record { table_id = p.seat.table_id; view = p.seat.me.0 } };
+    ghost view = { λ p. record { table_id = p.seat.table_id; view = p.seat.me.0.view; pasts = p.seat.me.0.pasts } };
 
     ghost invariant = { λ p. IsPass p.shares p.seat.me };
 }

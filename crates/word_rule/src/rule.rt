@@ -1,5 +1,6 @@
 use atomic_table::TableRule;
-use word_rows::View;
+use std::collections::LinkedList;
+use word_rows::{Event, View};
 
 /// What is fixed when a table is opened.
 #[derive(Clone, Copy)]
@@ -10,14 +11,21 @@ pub struct Plan {
     pub all: u32,
 }
 
+/// What a seat did and knows, and beginnings of the history that it knows: the events up to its last step, or after a join those of both. No value of it is made.
+pub struct Knower {
+    pub view: View,
+    pub pasts: LinkedList<LinkedList<Event>>,
+}
+
 /// What holds of a table between any two atomic steps of any threads.
 pub struct Keeps;
 
-impl TableRule<(), View, Plan> for Keeps {
+impl TableRule<(), Knower, Plan> for Keeps {
     ghost use Rattle.word_rows.specs.Changes.{first_view};
-    ghost use Rattle.word_rule.specs.Ruled.{IsRuled};
+    ghost use Rattle.std.specs.Prelude.{[]};
+    ghost use Rattle.word_rule.specs.History.{IsHistory};
 
-    ghost holds = { IsRuled };
+    ghost holds = { IsHistory };
 
-    ghost first = { λ plan. first_view plan.all };
+    ghost first = { λ plan. record { view = first_view plan.all; pasts = [] } };
 }

@@ -1,6 +1,6 @@
 ghost use Rattle.std.specs.Prelude.{◌≡◌, ◌<◌};
-ghost use Rattle.word_rows.specs.Changes.{joined, left_by, new_of};
-ghost use Rattle.word_rule.specs.Holdings.{IsOf, with_view};
+ghost use Rattle.word_rows.specs.Changes.{left_by, new_of};
+ghost use Rattle.word_rule.specs.Holdings.{IsOf, together, with_view};
 
 use crate::passes::Pass;
 use crate::single_steps::{join_seats, split_shares, tell_shares};
@@ -25,7 +25,7 @@ impl MeetTable {
     pub fn join(&self, pass: &mut Pass, other: Pass)
         requires pass { IsOf self.now pass.old }
         requires other { IsOf self.now other }
-        ensures { pass.new ≡ with_view pass.old (joined pass.old.view other.view) }
+        ensures { pass.new ≡ together pass.old other }
     {
         let Pass { seat, shares } = other;
         join_seats(&self.table.shared, &mut pass.seat, seat);

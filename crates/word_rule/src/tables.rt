@@ -1,18 +1,16 @@
-ghost use Rattle.std.specs.Prelude.{◌≡◌, ◌<◌, IfOk};
+ghost use Rattle.std.specs.Prelude.{◌≡◌, ◌<◌, [], IfOk};
 ghost use Rattle.word_rows.specs.Changes.{first_view};
 
 use crate::passes::Pass;
-use crate::rule::{Keeps, Plan};
+use crate::rule::{Keeps, Knower, Plan};
 use atomic_table::Table;
 use std::alloc::{AllocError, Global};
 use std::marker::Model;
-use word_rows::View;
-use word_rows::laws::opening_is_sound;
 
 /// The words that threads share. Contracts see which table it is, the number of its words and the number of all shares.
 #[derive(Drop)]
 pub struct MeetTable {
-    pub(crate) table: Table<(), View, Plan, Keeps, Global>,
+    pub(crate) table: Table<(), Knower, Plan, Keeps, Global>,
     pub(crate) width: u32,
     pub(crate) all: u32,
 }
@@ -33,9 +31,8 @@ impl MeetTable {
         requires width { 0 < width }
         requires shares { 0 < shares }
         ensures table { IfOk result (λ t. (t.0.width ≡ width) × (t.0.all ≡ shares)) }
-        ensures pass { IfOk result (λ t. t.1 ≡ record { table_id = t.0.table_id; view = first_view shares }) }
+        ensures pass { IfOk result (λ t. t.1 ≡ record { table_id = t.0.table_id; view = first_view shares; pasts = [] }) }
     {
-        opening_is_sound();
         let words = Vec::from_elem(alloc, u64::MAX, width as usize)?;
         let plan = Plan { width, all: shares };
         let (table, seat) = Table::of_words(alloc, words.as_slice(), &plan)?;

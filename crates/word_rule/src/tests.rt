@@ -1,5 +1,6 @@
 ghost use Rattle.std.specs.Prelude.{◌≡◌, ◌<◌, [], ◌∷◌, IfOk};
 
+use crate::uses::{read_beside, read_twice};
 use crate::{CloseFault, MeetTable};
 use std::alloc::{AllocError, Global};
 use std::sync::atomic::{AtomicU64, Ordering};
@@ -103,5 +104,24 @@ fn two_threads_offer_beside_each_other(rt: HostRuntime) -> Result<(), Fail> {
         Ok(closed) => assert_eq!(rt; closed.words.words(), [LEFT].as_slice()),
         Err(_) => return Err(Fail::from("not closed")),
     }
+    Ok(())
+}
+
+#[test]
+fn two_passes_read(rt: HostRuntime) -> Result<(), Fail> {
+    let (mut first, mut second) = ([0u64; 2], [0u64; 2]);
+    let Some(words) = read_twice(rt.alloc(), 2, &mut first, &mut second) else {
+        return Err(Fail::from("memory"));
+    };
+    assert_eq!(rt; words.words(), [u64::MAX, u64::MAX].as_slice());
+    assert_eq!(rt; (first, second), ([u64::MAX; 2], [u64::MAX; 2]));
+    let Some((first, second, words)) = read_beside(&rt, rt.alloc(), 2) else {
+        return Err(Fail::from("memory"));
+    };
+    assert_eq!(rt; words.words(), [u64::MAX, u64::MAX].as_slice());
+    assert_eq!(rt;
+        (first.as_slice(), second.as_slice()),
+        (words.words(), words.words())
+    );
     Ok(())
 }
