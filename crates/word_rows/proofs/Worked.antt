@@ -3,7 +3,7 @@ use Rattle.std.specs.Prelude.{◌≡◌, ℕ, true, false, Ok, Err, [], ◌∷�
 use Rattle.word_rows.specs.declared.entries.Entry.{Entry}
 use Rattle.word_rows.specs.Rows.{is_row}
 use Rattle.word_rows.specs.Words.{bit_of, full, without_entry}
-use Rattle.word_rows.specs.Machine.{after, clear, load, split, join, close, was, loaded, seat_made, merged, closed, no_seat, row_open, bad_share, bad_word, shares_out}
+use Rattle.word_rows.specs.Machine.{after, clear, load, split, join, close, Cleared, Loaded, Split, Joined, Closed, no_seat, row_open, bad_share, bad_word, shares_out}
 
 abbrev entry : ℕ → ℕ → Entry
 entry word mask = record { word = word; mask = mask }
@@ -19,13 +19,13 @@ two_seats : (after 1 2 (
     ∷ close 0
     ∷ load 0 0
     ∷ [])).1
-    ≡ Ok (seat_made 1)
-    ∷ Ok (was 18446744073709551615)
-    ∷ Ok (was 18446744073709551614)
-    ∷ Ok (loaded 18446744073709551610)
+    ≡ Ok (Split 1)
+    ∷ Ok (Cleared 18446744073709551615)
+    ∷ Ok (Cleared 18446744073709551614)
+    ∷ Ok (Loaded 18446744073709551610)
     ∷ Err (shares_out 1 2)
-    ∷ Ok merged
-    ∷ Ok (closed (18446744073709551610 ∷ []))
+    ∷ Ok Joined
+    ∷ Ok (Closed (18446744073709551610 ∷ []))
     ∷ Err (no_seat 0)
     ∷ []
 two_seats = refl
@@ -42,21 +42,21 @@ row_in_progress : (after 2 1 (
     ∷ clear 1 (entry 0 2 ∷ [])
     ∷ close 0
     ∷ [])).1
-    ≡ Ok (was 18446744073709551615)
+    ≡ Ok (Cleared 18446744073709551615)
     ∷ Err (row_open 0)
-    ∷ Ok (was 18446744073709551615)
-    ∷ Ok (loaded 18446744073709551614)
+    ∷ Ok (Cleared 18446744073709551615)
+    ∷ Ok (Loaded 18446744073709551614)
     ∷ Err (bad_word 2 2)
     ∷ Err (bad_share 1 1)
-    ∷ Ok (seat_made 1)
+    ∷ Ok (Split 1)
     ∷ Err (bad_share 0 1)
-    ∷ Ok (closed (18446744073709551614 ∷ 18446744073709551614 ∷ []))
+    ∷ Ok (Closed (18446744073709551614 ∷ 18446744073709551614 ∷ []))
     ∷ []
 row_in_progress = refl
 
 -- the join of a seat with itself, or with one that was joined away, has no seat
 joined_away : (after 1 2 (split 0 1 ∷ join 0 0 ∷ join 0 1 ∷ join 0 1 ∷ load 1 0 ∷ [])).1
-    ≡ Ok (seat_made 1) ∷ Err (no_seat 0) ∷ Ok merged ∷ Err (no_seat 1) ∷ Err (no_seat 1) ∷ []
+    ≡ Ok (Split 1) ∷ Err (no_seat 0) ∷ Ok Joined ∷ Err (no_seat 1) ∷ Err (no_seat 1) ∷ []
 joined_away = refl
 
 -- the row that clears nothing, a row of two words, a word that stands twice, words that fall, a mask 0, no entry

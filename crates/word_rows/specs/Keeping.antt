@@ -7,7 +7,7 @@ use Rattle.word_rows.specs.Words.{IsMeet, full}
 use Rattle.word_rows.specs.Accounts.{LackOnly}
 use Rattle.word_rows.specs.Changes.{IsIdle}
 use Rattle.word_rows.specs.Sound.{IsSound}
-use Rattle.word_rows.specs.Machine.{StepState, Event, IsSoundState, HasRow, HaveRows, opened, step, after}
+use Rattle.word_rows.specs.Machine.{StepState, StepEvent, IsSoundState, HasRow, HaveRows, opened, step, after}
 
 -- the state at opening is sound
 abbrev pub OpeningIsSound : Type 0
@@ -15,11 +15,11 @@ OpeningIsSound = (width all : ℕ) → IsSoundState (opened width all)
 
 -- an event, refused or not, keeps a state sound
 abbrev pub StepKeepsSound : Type 0
-StepKeepsSound = (s : StepState) (e : Event) → IsSoundState s → HasRow e → IsSoundState (step s e).0
+StepKeepsSound = (s : StepState) (e : StepEvent) → IsSoundState s → HasRow e → IsSoundState (step s e).0
 
 -- whatever the width, the number of shares and the events are, the state after them is sound
 abbrev pub EventsKeepSound : Type 0
-EventsKeepSound = (width all : ℕ) (events : List Event) → HaveRows events → IsSoundState (after width all events).0
+EventsKeepSound = (width all : ℕ) (events : List StepEvent) → HaveRows events → IsSoundState (after width all events).0
 
 -- what the one view that has all shares knows of the words
 pub record KnowsAll (words : List ℕ) (all : ℕ) (v : View) : Type 0 where

@@ -6,3 +6,4 @@ pub mod Sound
 pub mod Machine
 pub mod Meeting
 pub mod Keeping
+pub mod inner

@@ -2,9 +2,11 @@
 use Rattle.std.specs.Prelude.{◌≡◌, ℕ, Bool, true, false, not, ◌&&◌, ◌||◌, ◌==◌, nat_lt, if◌then◌else◌, Option, Some, None, Result, Ok, Err, List, [], ◌∷◌, ◌++◌, map, length, slice_index, slice_index_or, slice_set}
 use Rattle.word_rows.specs.declared.entries.Entry.{Entry}
 use Rattle.word_rows.specs.declared.views.View.{View}
-pub use Rattle.word_rows.specs.declared.events.Event.{Event}
-pub use Rattle.word_rows.specs.declared.events.Event.TheVariants.{Clear as clear, Load as load, Split as split, Join as join, Close as close}
-use Rattle.word_rows.specs.Rows.{is_row, below}
+pub use Rattle.word_rows.specs.declared.events.StepEvent.{StepEvent}
+pub use Rattle.word_rows.specs.declared.events.StepEvent.TheVariants.{Clear as clear, Load as load, Split as split, Join as join, Close as close}
+pub use Rattle.word_rows.specs.declared.replies.Reply.{Reply}
+pub use Rattle.word_rows.specs.declared.replies.Reply.TheVariants.{Cleared, Loaded, Split, Joined, Closed}
+use Rattle.word_rows.specs.Rows.{is_row, below, same_row}
 use Rattle.word_rows.specs.Words.{full, without_entry}
 use Rattle.word_rows.specs.Changes.{first_view, empty_view, cleared_next, with_reading, left_by, new_of, joined}
 use Rattle.word_rows.specs.Sound.{IsSound}
@@ -15,14 +17,6 @@ pub record StepState : Type 0 where
   pub all : ℕ
   pub views : List View
   pub live : List Bool
-
--- the word's old value; the value read; the new seat; nothing; the words
-pub data Answer : Type 0 where
-  was : ℕ → Answer
-  loaded : ℕ → Answer
-  seat_made : ℕ → Answer
-  merged : Answer
-  closed : List ℕ → Answer
 
 -- the seat; the seat; the shares that it has and those asked; the word and the width; the shares that the seat has and all
 pub data Fault : Type 0 where
@@ -50,15 +44,6 @@ entry_at row k = slice_index_or row k (record { word = 0; mask = 0 })
 abbrev pub is_idle : View → Bool
 is_idle v = v.cleared == 0
 
-abbrev pub same_entry : Entry → Entry → Bool
-same_entry e f = (e.word == f.word) && (e.mask == f.mask)
-
-abbrev pub same_row : List Entry → List Entry → Bool
-same_row [] [] = true
-same_row [] (f ∷ fs) = false
-same_row (e ∷ es) [] = false
-same_row (e ∷ es) (f ∷ fs) = same_entry e f && same_row es fs
-
 -- no row is in progress, or this one is
 abbrev pub can_clear : View → List Entry → Bool
 can_clear v row = is_idle v || same_row v.row row
@@ -69,7 +54,7 @@ first_past width [] = 0
 first_past width (e ∷ es) = if nat_lt e.word width then first_past width es else e.word
 
 -- the first fault of an event, in this order: no seat, a row open, a bad share, a bad word, shares out
-abbrev pub fault_of : StepState → Event → Option Fault
+abbrev pub fault_of : StepState → StepEvent → Option Fault
 fault_of s (clear seat row) =
     if not (is_live s seat) then Some (no_seat seat) else (
     if not (can_clear (view_at s seat) row) then Some (row_open seat) else (
@@ -94,7 +79,7 @@ fault_of s (close seat) =
     if nat_lt (view_at s seat).shares s.all then Some (shares_out (view_at s seat).shares s.all) else None))
 
 -- the state after an event that has no fault
-abbrev pub next_state : StepState → Event → StepState
+abbrev pub next_state : StepState → StepEvent → StepState
 next_state s (clear seat row) = record s { words = without_entry s.words (entry_at row (view_at s seat).cleared); views = slice_set s.views seat (cleared_next (view_at s seat) row) }
 next_state s (load seat word) = record s { views = slice_set s.views seat (with_reading (view_at s seat) word (slice_index s.words word)) }
 next_state s (split seat shares) = record s { views = slice_set s.views seat (left_by shares (view_at s seat)) ++ new_of shares (view_at s seat) ∷ []; live = s.live ++ true ∷ [] }
@@ -102,37 +87,37 @@ next_state s (join seat other) = record s { views = slice_set (slice_set s.views
 next_state s (close seat) = record s { live = map (λ _. false) s.live }
 
 -- the reply to an event that has no fault
-abbrev pub answer_of : StepState → Event → Answer
-answer_of s (clear seat row) = was (slice_index s.words (entry_at row (view_at s seat).cleared).word)
-answer_of s (load seat word) = loaded (slice_index s.words word)
-answer_of s (split seat shares) = seat_made (length s.views)
-answer_of s (join seat other) = merged
-answer_of s (close seat) = closed s.words
+abbrev pub reply_of : StepState → StepEvent → Reply
+reply_of s (clear seat row) = Cleared (slice_index s.words (entry_at row (view_at s seat).cleared).word)
+reply_of s (load seat word) = Loaded (slice_index s.words word)
+reply_of s (split seat shares) = Split (length s.views)
+reply_of s (join seat other) = Joined
+reply_of s (close seat) = Closed s.words
 
 -- a fault is the reply, and changes nothing
-abbrev pub settled : StepState → Event → Option Fault → StepState × Result Answer Fault
-settled s e None = (next_state s e, Ok (answer_of s e))
+abbrev pub settled : StepState → StepEvent → Option Fault → StepState × Result Reply Fault
+settled s e None = (next_state s e, Ok (reply_of s e))
 settled s e (Some fault) = (s, Err fault)
 
 -- the state after one event, and its reply
-abbrev pub step : StepState → Event → StepState × Result Answer Fault
+abbrev pub step : StepState → StepEvent → StepState × Result Reply Fault
 step s e = settled s e (fault_of s e)
 
 -- the state after a list of events, and one reply for each
-abbrev pub steps : StepState → List Event → StepState × List (Result Answer Fault)
+abbrev pub steps : StepState → List StepEvent → StepState × List (Result Reply Fault)
 steps s [] = (s, [])
 steps s (e ∷ es) = let first = step s e in let rest = steps first.0 es in (rest.0, first.1 ∷ rest.1)
 
 -- the state and the replies after an opening with this width and number of shares and then a list of events
-abbrev pub after : ℕ → ℕ → List Event → StepState × List (Result Answer Fault)
+abbrev pub after : ℕ → ℕ → List StepEvent → StepState × List (Result Reply Fault)
 after width all events = steps (opened width all) events
 
 -- a row that is to be cleared has the form of a row
-abbrev pub HasRow : Event → Type 0
+abbrev pub HasRow : StepEvent → Type 0
 HasRow (clear seat row) = is_row row ≡ true
 HasRow e = Unit {0}
 
-abbrev pub HaveRows : List Event → Type 0
+abbrev pub HaveRows : List StepEvent → Type 0
 HaveRows [] = Unit {0}
 HaveRows (e ∷ es) = HasRow e × HaveRows es
 

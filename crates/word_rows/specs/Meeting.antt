@@ -1,9 +1,12 @@
 -- What is promised of rows and meets, over the definitions alone.
-use Rattle.std.specs.Prelude.{◌≡◌, ℕ, ◌^◌, ◌<◌, ◌≤◌, true, List, [], ◌++◌, length, IsPermutation, bit_and}
+use Rattle.std.specs.Prelude.{◌≡◌, ℕ, ◌^◌, ◌<◌, ◌≤◌, true, ◌&&◌, ◌||◌, ◌==◌, nat_lt, List, [], ◌++◌, length, IsPermutation, bit_and, slice_index}
 use Rattle.std.specs.Int.{bit_not, w64}
 use Rattle.word_rows.specs.declared.entries.Entry.{Entry}
-use Rattle.word_rows.specs.Rows.{clears, below, rows_below}
-use Rattle.word_rows.specs.Words.{AreWords, IsMeet, IsCommon, widened, without}
+use Rattle.word_rows.specs.declared.views.Reading.{Reading}
+use Rattle.word_rows.specs.Rows.{clears, rows_clear, below, rows_below, same_row}
+use Rattle.word_rows.specs.Words.{AreWords, IsMeet, IsCommon, bit_of, widened, without}
+use Rattle.word_rows.specs.Accounts.{lacks}
+use Rattle.word_rows.specs.Changes.{readings_from}
 
 -- a row whose words are below a width has them below every greater one
 abbrev pub BelowWider : Type 0
@@ -40,3 +43,37 @@ WidenedMeet = (words met : List ℕ) (rows : List (List Entry)) (more : ℕ) →
 -- a word and the complement of a mask have in common the word without the mask's bits
 abbrev pub ComplementClears : Type 0
 ComplementClears = (n mask : ℕ) → n < 2 ^ 64 → mask < 2 ^ 64 → bit_and n (bit_not w64 mask) ≡ without n mask
+
+-- rows that clear the same bits of the words have the same meets
+abbrev pub MeetByBits : Type 0
+MeetByBits = (words met : List ℕ) (rows others : List (List Entry))
+    → ((i b : ℕ) → i < length words → b < 64 → rows_clear rows i b ≡ rows_clear others i b) → IsMeet words rows met → IsMeet words others met
+
+-- words that are `bit_and` word by word are what the two have in common
+abbrev pub CommonByAnd : Type 0
+CommonByAnd = (old other new : List ℕ) → length new ≡ length old
+    → ((k : ℕ) → k < length old → slice_index new k ≡ bit_and (slice_index old k) (slice_index other k)) → IsCommon old other new
+
+-- two lists of entries, one after the other, clear what either clears
+abbrev pub ClearsAppend : Type 0
+ClearsAppend = (row other : List Entry) (i b : ℕ) → clears (row ++ other) i b ≡ (clears row i b || clears other i b)
+
+-- two lists of rows, one after the other, clear what either clears
+abbrev pub RowsClearAppend : Type 0
+RowsClearAppend = (rows others : List (List Entry)) (i b : ℕ) → rows_clear (rows ++ others) i b ≡ (rows_clear rows i b || rows_clear others i b)
+
+-- two lists of readings, one after the other, lack what either lacks
+abbrev pub LacksAppend : Type 0
+LacksAppend = (readings others : List Reading) (i b : ℕ) → lacks (readings ++ others) i b ≡ (lacks readings i b || lacks others i b)
+
+-- one reading of each word lacks the bits that are 0 in the words
+abbrev pub BlockLacks : Type 0
+BlockLacks = (words : List ℕ) (i b : ℕ) → lacks (readings_from 0 words) i b ≡ (nat_lt i (length words) && (bit_of words i b == 0))
+
+-- rows that are the same by their entries are one row
+abbrev pub SameRowIsOne : Type 0
+SameRowIsOne = (row other : List Entry) → same_row row other ≡ true → row ≡ other
+
+-- a row is the same as itself
+abbrev pub RowIsSame : Type 0
+RowIsSame = (row : List Entry) → same_row row row ≡ true

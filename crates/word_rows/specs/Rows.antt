@@ -1,5 +1,6 @@
 -- Rows: which bits of which words they clear. Words are counted from 0, and the bits of a word from 0, the lowest, to 63.
-use Rattle.std.specs.Prelude.{ℕ, Bool, true, false, not, ◌&&◌, ◌||◌, ◌==◌, nat_lt, List, [], ◌∷◌, map, length}
+use Rattle.std.specs.Prelude.{◌≡◌, ℕ, Bool, true, false, not, ◌&&◌, ◌||◌, ◌==◌, nat_lt, List, [], ◌∷◌, map, length}
+use Rattle.std.specs.Cmp.Lexicographic.{pointwise}
 use Rattle.std.specs.List.{list_any, list_all}
 use Rattle.std.specs.Int.{bit_at}
 use Rattle.word_rows.specs.declared.entries.Entry.{Entry}
@@ -42,3 +43,15 @@ below width row = list_all (λ (e : Entry). nat_lt e.word width) row
 -- all words that these rows name are below the width
 abbrev pub rows_below : ℕ → List (List Entry) → Bool
 rows_below width rows = list_all (below width) rows
+
+-- the same word and the same mask
+abbrev pub same_entry : Entry → Entry → Bool
+same_entry e f = (e.word == f.word) && (e.mask == f.mask)
+
+-- the same entries in the same order
+abbrev pub same_row : List Entry → List Entry → Bool
+same_row = pointwise same_entry
+
+-- the new entries clear this bit of this word besides those of the old, and no other
+abbrev pub AddsBit : List Entry → ℕ → ℕ → List Entry → Type 0
+AddsBit old word bit new = (i b : ℕ) → clears new i b ≡ (clears old i b || ((word == i) && (bit == b)))

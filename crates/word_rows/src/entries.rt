@@ -1,6 +1,7 @@
-ghost use Rattle.std.specs.Prelude.{◌≡◌, IsTrue};
+ghost use Rattle.std.specs.Prelude.{◌≡◌, IfOk, IsTrue};
 ghost use Rattle.word_rows.specs.Rows.{is_ascending, is_blank, is_row};
 
+use std::alloc::{AllocError, Global};
 use std::marker::Model;
 
 /// The bits of one word that are to be cleared.
@@ -77,4 +78,36 @@ impl Row {
     {
         self.entries.as_slice()
     }
+
+    /// Makes a second row with the same entries. The only error is that memory ran out.
+    pub fn copy(&self, alloc: Global) -> Result<Row, AllocError>
+        ensures { IfOk result (λ r. r ≡ self.now) }
+    {
+        Ok(Row {
+            entries: Vec::from_slice(alloc, self.entries.as_slice())?,
+        })
+    }
+}
+
+impl PartialEq for Row {
+    ghost use Rattle.std.proofs.Common.{rules};
+    ghost use Rattle.std.specs.Cmp.Lexicographic.{lists_per};
+    ghost use Rattle.std.specs.Cmp.Rules.{comparing};
+    ghost use Rattle.word_rows.specs.Rows.{same_row};
+
+    ghost eq = { same_row };
+
+    ghost laws = { lists_per (Prim.search (comparing, rules)) };
+
+    fn eq(&self, other: &Row) -> bool {
+        self.entries == other.entries
+    }
+}
+
+impl Eq for Row {
+    ghost use Rattle.std.proofs.Common.{rules};
+    ghost use Rattle.std.specs.Cmp.Lexicographic.{lists_equiv};
+    ghost use Rattle.std.specs.Cmp.Rules.{comparing};
+
+    ghost laws = { lists_equiv (Prim.search (comparing, rules)) };
 }

@@ -1,16 +1,16 @@
-use crate::entries::Entry;
-use std::collections::LinkedList;
+use crate::entries::Row;
 
-/// One step at shared words, by the seat that makes it. Definitions and contracts speak of it; no value of it is made.
-pub enum Event {
-    /// Clear the next entry of a row.
-    Clear { seat: u64, row: LinkedList<Entry> },
-    /// Load a word.
-    Load { seat: u64, word: u32 },
-    /// Split off shares.
-    Split { seat: u64, shares: u32 },
+/// One step at shared words, by the seat that makes it. Seats are numbered from 0.
+#[derive(Debug, Drop)]
+pub enum StepEvent {
+    /// Clear the next entry of this row.
+    Clear { seat: u32, row: Row },
+    /// Load a word, counted from 0.
+    Load { seat: u32, word: u32 },
+    /// Split off shares to a new seat.
+    Split { seat: u32, shares: u32 },
     /// Join another seat.
-    Join { seat: u64, other: u64 },
-    /// Close.
-    Close { seat: u64 },
+    Join { seat: u32, other: u32 },
+    /// Close the words.
+    Close { seat: u32 },
 }

@@ -1,6 +1,6 @@
 //! What follows from the definitions alone. Each law is the contract of a function that does nothing.
 ghost use Rattle.word_rows.specs.Keeping.{EventsKeepSound, OpeningIsSound, StepKeepsSound, WholeShareKnowsAll};
-ghost use Rattle.word_rows.specs.Meeting.{BelowWider, ClearsBelow, CommonIsMeet, ComplementClears, MeetBegins, MeetIsUnique, MeetsFollow, OrderIsFree, WidenedMeet};
+ghost use Rattle.word_rows.specs.Meeting.{BelowWider, BlockLacks, ClearsAppend, ClearsBelow, CommonByAnd, CommonIsMeet, ComplementClears, LacksAppend, MeetBegins, MeetByBits, MeetIsUnique, MeetsFollow, OrderIsFree, RowIsSame, RowsClearAppend, SameRowIsOne, WidenedMeet};
 
 /// The state of the step machine at opening is sound.
 pub fn opening_is_sound()
@@ -43,19 +43,19 @@ pub fn meet_is_unique()
 {}
 
 /// Words are their own meet with no row.
-#[tactic(auto, using(crate::proofs::Meets::meet_begins))]
+#[tactic(auto, using(crate::proofs::MeetLemmas::meet_begins))]
 pub fn meet_begins()
     ensures { MeetBegins }
 {}
 
 /// The meet of a meet is that with both lists of rows.
-#[tactic(auto, using(crate::proofs::Meets::meets_follow))]
+#[tactic(auto, using(crate::proofs::MeetLemmas::meets_follow))]
 pub fn meets_follow()
     ensures { MeetsFollow }
 {}
 
 /// What two meets of the same words have in common is the meet with both lists of rows.
-#[tactic(auto, using(crate::proofs::Meets::common_is_meet))]
+#[tactic(auto, using(crate::proofs::MeetLemmas::common_is_meet))]
 pub fn common_is_meet()
     ensures { CommonIsMeet }
 {}
@@ -66,7 +66,53 @@ pub fn widened_meet()
 {}
 
 /// To keep the complement of a mask is to clear the mask.
-#[tactic(auto, using(crate::proofs::Bits::complement_clears))]
+#[tactic(auto, using(crate::proofs::BitLemmas::complement_clears))]
 pub fn complement_clears()
     ensures { ComplementClears }
+{}
+
+/// A meet depends only on which bits the rows clear.
+#[tactic(auto, using(crate::proofs::MeetLemmas::meet_by_bits))]
+pub fn meet_by_bits()
+    ensures { MeetByBits }
+{}
+
+/// Words that are `bit_and` word by word are what the two have in common.
+pub fn common_by_and()
+    ensures { CommonByAnd }
+{}
+
+/// Entries that follow others clear what either list clears.
+#[tactic(auto, using(crate::proofs::ViewLemmas::clears_append))]
+pub fn clears_append()
+    ensures { ClearsAppend }
+{}
+
+/// Rows that follow others clear what either list clears.
+#[tactic(auto, using(crate::proofs::ViewLemmas::rows_clear_append))]
+pub fn rows_clear_append()
+    ensures { RowsClearAppend }
+{}
+
+/// Readings that follow others lack what either list lacks.
+#[tactic(auto, using(crate::proofs::ViewLemmas::lacks_append))]
+pub fn lacks_append()
+    ensures { LacksAppend }
+{}
+
+/// One reading of each word lacks the bits that are 0 in the words.
+pub fn block_lacks()
+    ensures { BlockLacks }
+{}
+
+/// Rows that are the same by their entries are one row.
+#[tactic(auto, using(crate::proofs::RowLemmas::same_row_is_one))]
+pub fn same_row_is_one()
+    ensures { SameRowIsOne }
+{}
+
+/// A row is the same as itself.
+#[tactic(auto, using(crate::proofs::RowLemmas::row_is_same))]
+pub fn row_is_same()
+    ensures { RowIsSame }
 {}

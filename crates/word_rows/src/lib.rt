@@ -4,12 +4,16 @@
 mod entries;
 mod events;
 pub mod laws;
+mod making;
+mod replies;
 mod sheets;
 #[cfg(test)]
 mod tests;
 mod views;
 
 pub use entries::{Entry, Row};
-pub use events::Event;
+pub use events::StepEvent;
+pub use making::RowMaker;
+pub use replies::Reply;
 pub use sheets::Sheet;
 pub use views::{Reading, View};

@@ -1,6 +1,6 @@
-ghost use Rattle.std.specs.Prelude.{◌≡◌, ◌<◌, ◌↔◌, [], ◌∷◌, length, IfOk, IsTrue};
+ghost use Rattle.std.specs.Prelude.{◌≡◌, ◌<◌, ◌↔◌, [], ◌∷◌, length, IfOk, IsTrue, OnErr, OnOk};
 ghost use Rattle.word_rows.specs.Rows.{below};
-ghost use Rattle.word_rows.specs.Words.{IsCommon, IsMeet, bit_of, full};
+ghost use Rattle.word_rows.specs.Words.{AreWords, IsCommon, IsMeet, bit_of, full, widened};
 
 use crate::{Entry, Row};
 use std::alloc::{AllocError, Global};
@@ -38,6 +38,14 @@ fn keep_common(words: &mut [u64], others: &[u64])
     for (index, word) in words.iter_mut().enumerate() {
         *word &= others[index];
     }
+}
+
+// Lends the words, each of which has 64 bits.
+fn lent(words: &[u64]) -> &[u64]
+    ensures same { result.now ≡ words.now }
+    ensures bound { AreWords words.now }
+{
+    words
 }
 
 impl Sheet {
@@ -82,10 +90,34 @@ impl Sheet {
         (self.words[word as usize] >> bit) & 1 == 1
     }
 
-    /// The words.
-    pub fn words(&self) -> &[u64]
-        ensures { result.now ≡ self.now }
+    /// Sets all bits to 1 again.
+    pub fn fill(&mut self)
+        ensures { self.new ≡ full (length self.old) }
     {
-        self.words.as_slice()
+        self.words.as_mut_slice().fill(u64::MAX);
+    }
+
+    /// Appends so many words with all bits 1. The only error is that memory ran out.
+    pub fn widen(&mut self, more: u32) -> Result<(), AllocError>
+        ensures ok { OnOk result (self.new ≡ widened self.old more) }
+        ensures err { OnErr result (self.new ≡ self.old) }
+    {
+        let width = self.words.len() + more as usize;
+        self.words.resize(width, u64::MAX)
+    }
+
+    /// Lends the words.
+    pub fn words(&self) -> &[u64]
+        ensures same { result.now ≡ self.now }
+        ensures bound { AreWords self.now }
+    {
+        lent(self.words.as_slice())
+    }
+
+    /// Gives the words back, and takes no memory.
+    pub fn into_words(self) -> Vec<u64>
+        ensures { result.items ≡ self }
+    {
+        self.words
     }
 }

@@ -15,9 +15,11 @@ use Rattle.word_rows.specs.Rows.{is_row, below}
 use Rattle.word_rows.specs.Accounts.{Each}
 use Rattle.word_rows.specs.Words.{full}
 use Rattle.word_rows.specs.Changes.{IsIdle, first_view, empty_view, cleared_next, left_by, new_of, joined, with_reading}
-use Rattle.word_rows.specs.Machine.{StepState, Answer, Fault, HasRow, can_clear, was, loaded, seat_made, merged, closed, opened, entry_at, after, step as machine_step}
-use Rattle.word_rows.specs.declared.events.Event.{Event}
-use Rattle.word_rows.specs.declared.events.Event.TheVariants.{Clear as clear, Load as load, Split as split, Join as join, Close as close}
+use Rattle.word_rows.specs.Machine.{StepState, Fault, HasRow, can_clear, opened, entry_at, after, step as machine_step}
+use Rattle.word_rows.specs.declared.replies.Reply.{Reply}
+use Rattle.word_rows.specs.declared.replies.Reply.TheVariants.{Cleared, Loaded, Split, Joined, Closed}
+use Rattle.word_rows.specs.declared.events.StepEvent.{StepEvent}
+use Rattle.word_rows.specs.declared.events.StepEvent.TheVariants.{Clear as clear, Load as load, Split as split, Join as join, Close as close}
 use Rattle.word_rows.specs.Meeting.{ComplementClears}
 use Rattle.word_rows.specs.Keeping.{EventsKeepSound, WholeShareKnowsAll}
 use Rattle.word_rule.specs.declared.rule.Plan.{Plan}
@@ -33,33 +35,33 @@ use Rattle.word_rule.proofs.StepKinds.{clear_step, skip_step, load_step, split_i
 use Rattle.word_rule.proofs.Moves.{carries, next_all, stands, shown_zero, closes, opens}
 
 -- ---- beginnings
-begins_more : (p es : List Event) (e : Event) → IsPrefix p es → IsPrefix p (es ++ e ∷ [])
-begins_more p es e h = (h.0 ++ e ∷ [], sym (append_assoc p h.0 (e ∷ [])) ∙ ap (λ (l : List Event). l ++ e ∷ []) h.1)
+begins_more : (p es : List StepEvent) (e : StepEvent) → IsPrefix p es → IsPrefix p (es ++ e ∷ [])
+begins_more p es e h = (h.0 ++ e ∷ [], sym (append_assoc p h.0 (e ∷ [])) ∙ ap (λ (l : List StepEvent). l ++ e ∷ []) h.1)
 
-all_more : (ps : List (List Event)) (es : List Event) (e : Event) → AllBegin ps es → AllBegin ps (es ++ e ∷ [])
+all_more : (ps : List (List StepEvent)) (es : List StepEvent) (e : StepEvent) → AllBegin ps es → AllBegin ps (es ++ e ∷ [])
 all_more [] es e h = tt
 all_more (p ∷ ps) es e h = (begins_more p es e h.0, all_more ps es e h.1)
 
-all_both : (ps qs : List (List Event)) (es : List Event) → AllBegin ps es → AllBegin qs es → AllBegin (ps ++ qs) es
+all_both : (ps qs : List (List StepEvent)) (es : List StepEvent) → AllBegin ps es → AllBegin qs es → AllBegin (ps ++ qs) es
 all_both [] qs es h k = k
 all_both (p ∷ ps) qs es h k = (h.0, all_both ps qs es h.1 k)
 
-begins_longer : (p q r : List Event) → IsPrefix p q → IsPrefix q r → IsPrefix p r
-begins_longer p q r f g = (f.0 ++ g.0, sym (append_assoc p f.0 g.0) ∙ ap (λ (l : List Event). l ++ g.0) f.1 ∙ g.1)
+begins_longer : (p q r : List StepEvent) → IsPrefix p q → IsPrefix q r → IsPrefix p r
+begins_longer p q r f g = (f.0 ++ g.0, sym (append_assoc p f.0 g.0) ∙ ap (λ (l : List StepEvent). l ++ g.0) f.1 ∙ g.1)
 
-begins_through : (p : List Event) (e : Event) (r : List Event) → IsPrefix (p ++ e ∷ []) r → IsPrefix p r
+begins_through : (p : List StepEvent) (e : StepEvent) (r : List StepEvent) → IsPrefix (p ++ e ∷ []) r → IsPrefix p r
 begins_through p e r f = (e ∷ f.0, sym (append_assoc p (e ∷ []) f.0) ∙ f.1)
 
-pub all_longer : (ps : List (List Event)) (es fs : List Event) → IsPrefix es fs → AllBegin ps es → AllBegin ps fs
+pub all_longer : (ps : List (List StepEvent)) (es fs : List StepEvent) → IsPrefix es fs → AllBegin ps es → AllBegin ps fs
 all_longer [] es fs f h = tt
 all_longer (p ∷ ps) es fs f h = (begins_longer p es fs h.0 f, all_longer ps es fs f h.1)
 
-begins_itself : (es : List Event) → IsPrefix es es
+begins_itself : (es : List StepEvent) → IsPrefix es es
 begins_itself es = ([], append-nil es)
 
 -- ---- what happened
 -- what happened after more happened after less
-pub happened_before : (width all : ℕ) (less more then : List (List Event)) (v : View) (ask : ℕ → Event) (answer : Answer) → Grows less more → Happened width all more v ask answer then → Happened width all less v ask answer then
+pub happened_before : (width all : ℕ) (less more then : List (List StepEvent)) (v : View) (ask : ℕ → StepEvent) (answer : Reply) → Grows less more → Happened width all more v ask answer then → Happened width all less v ask answer then
 happened_before width all less more then v ask answer grows h history begins = let r = h history begins in record {
   events = r.events;
   rows = r.rows;
@@ -71,11 +73,11 @@ happened_before width all less more then v ask answer grows h history begins = l
 }
 
 -- and it stays so
-pub happened_after : (width all : ℕ) (before then later : List (List Event)) (v : View) (ask : ℕ → Event) (answer : Answer) → Grows then later → Happened width all before v ask answer then → Happened width all before v ask answer later
+pub happened_after : (width all : ℕ) (before then later : List (List StepEvent)) (v : View) (ask : ℕ → StepEvent) (answer : Reply) → Grows then later → Happened width all before v ask answer then → Happened width all before v ask answer later
 happened_after width all before then later v ask answer grows h history begins = h history (grows history begins)
 
 -- a bit that was 0 in a word that was loaded some view had cleared before
-pub loaded_cleared_before : EventsKeepSound → (width all word value b : ℕ) (pasts : List (List Event)) (v : View) (history : List Event) → Within width all pasts v (λ seat. load seat word) (loaded value) history → b < 64 → bit_at value b ≡ 0 → ClearedBefore width all history word b
+pub loaded_cleared_before : EventsKeepSound → (width all word value b : ℕ) (pasts : List (List StepEvent)) (v : View) (history : List StepEvent) → Within width all pasts v (λ seat. load seat word) (Loaded value) history → b < 64 → bit_at value b ≡ 0 → ClearedBefore width all history word b
 loaded_cleared_before sound width all word value b pasts v history r l z =
     let is = loaded_by (after width all r.events).0 r.seat word value _ refl r.reply in record {
       events = r.events;
@@ -83,19 +85,19 @@ loaded_cleared_before sound width all word value b pasts v history r l z =
       clears = (sound width all r.events r.rows).sound.accounted word b is.0 l (ap (λ (n : ℕ). bit_at n b) is.1 ∙ z);
     }
 
-pub of_left : (ps qs : List (List Event)) (es : List Event) → AllBegin (ps ++ qs) es → AllBegin ps es
+pub of_left : (ps qs : List (List StepEvent)) (es : List StepEvent) → AllBegin (ps ++ qs) es → AllBegin ps es
 of_left [] qs es h = tt
 of_left (p ∷ ps) qs es h = (h.0, of_left ps qs es h.1)
 
-pub of_right : (ps qs : List (List Event)) (es : List Event) → AllBegin (ps ++ qs) es → AllBegin qs es
+pub of_right : (ps qs : List (List StepEvent)) (es : List StepEvent) → AllBegin (ps ++ qs) es → AllBegin qs es
 of_right [] qs es h = h
 of_right (p ∷ ps) qs es h = of_right ps qs es h.1
 
-loaded_in : (width all word value : ℕ) (pasts : List (List Event)) (v : View) (history : List Event) → Within width all pasts v (λ seat. load seat word) (loaded value) history → LoadedIn width all history word value
+loaded_in : (width all word value : ℕ) (pasts : List (List StepEvent)) (v : View) (history : List StepEvent) → Within width all pasts v (λ seat. load seat word) (Loaded value) history → LoadedIn width all history word value
 loaded_in width all word value pasts v history r = record { events = r.events; seat = r.seat; stands = r.stands; reply = r.reply }
 
 -- what two passes read stands in the history that the pass that is both of them ends with
-pub both_in_one : (width all : ℕ) (first second words : List ℕ) (ps qs ps' qs' : List (List Event)) (u v w : View)
+pub both_in_one : (width all : ℕ) (first second words : List ℕ) (ps qs ps' qs' : List (List StepEvent)) (u v w : View)
     → ((i : ℕ) → i < length first → LoadHappened width all ps' (read_until u first i) i (slice_index first i) ps)
     → ((i : ℕ) → i < length second → LoadHappened width all qs' (read_until v second i) i (slice_index second i) qs)
     → EndsWith width all (ps ++ qs) w words → ReadInOneHistory width all first second words
@@ -115,11 +117,11 @@ view_here (x ∷ xs) zero k e = ap (λ (y : Knower). some y.view) (some-injectiv
 view_here (x ∷ xs) (suc id) k e = view_here xs id k e
 
 module _ (plan : Plan) (s : State (Unit {0}) Knower) (h : IsHistory plan s) where
-  abbrev past : List Event
+  abbrev past : List StepEvent
   past = h.ruled.reached.events
 
   -- a step of one seat, in which its event is the next of the history
-  pub seat_steps : (id : ℕ) (k : Knower) (e : Event) (t : State (Unit {0}) View) (w : View) (reply : Result Answer Fault) → get_elem? s.views id ≡ some k → HasRow e
+  pub seat_steps : (id : ℕ) (k : Knower) (e : StepEvent) (t : State (Unit {0}) View) (w : View) (reply : Result Reply Fault) → get_elem? s.views id ≡ some k → HasRow e
       → length t.words ≡ length s.words → t.views ≡ set (map view_of s.views) id w → is_seated w ≡ is_seated k.view → w.all ≡ plan.all
       → machine_step (standing plan (plain s)) e ≡ (machine_of plan (map is_seated (map view_of s.views)) t, reply)
       → IsHistory plan (record { words = t.words; homes = t.homes; views = set s.views id (record { view = w; pasts = (past ++ e ∷ []) ∷ [] }) })
@@ -142,7 +144,7 @@ module _ (plan : Plan) (s : State (Unit {0}) Knower) (h : IsHistory plan s) wher
       }
 
   -- what it tells
-  pub seat_tells : (id : ℕ) (k : Knower) (ask : ℕ → Event) (t : StepState) (answer : Answer) → get_elem? s.views id ≡ some k → machine_step (standing plan (plain s)) (ask id) ≡ (t, Ok answer)
+  pub seat_tells : (id : ℕ) (k : Knower) (ask : ℕ → StepEvent) (t : StepState) (answer : Reply) → get_elem? s.views id ≡ some k → machine_step (standing plan (plain s)) (ask id) ≡ (t, Ok answer)
       → Happened plan.width plan.all k.pasts k.view ask answer ((past ++ ask id ∷ []) ∷ [])
   seat_tells id k ask t answer at is history begins = record {
     events = past;
@@ -150,14 +152,14 @@ module _ (plan : Plan) (s : State (Unit {0}) Knower) (h : IsHistory plan s) wher
     seat = id;
     goes_on = h.begun id k at;
     has = ap (λ (m : StepState). get_elem? m.views id) h.ruled.reached.stands ∙ view_here s.views id k at;
-    reply = ap (λ (m : StepState). (machine_step m (ask id)).1) h.ruled.reached.stands ∙ ap (λ (p : StepState × Result Answer Fault). p.1) is;
+    reply = ap (λ (m : StepState). (machine_step m (ask id)).1) h.ruled.reached.stands ∙ ap (λ (p : StepState × Result Reply Fault). p.1) is;
     stands = begins.0;
   }
 
-  pub seat_grows : (id : ℕ) (k : Knower) (e : Event) → get_elem? s.views id ≡ some k → Grows k.pasts ((past ++ e ∷ []) ∷ [])
+  pub seat_grows : (id : ℕ) (k : Knower) (e : StepEvent) → get_elem? s.views id ≡ some k → Grows k.pasts ((past ++ e ∷ []) ∷ [])
   seat_grows id k e at history begins = all_longer k.pasts past history (begins_through past e history begins.0) (h.begun id k at)
 
-  pub seat_one : (e : Event) → HasRow e → IsOne ((past ++ e ∷ []) ∷ [])
+  pub seat_one : (e : StepEvent) → HasRow e → IsOne ((past ++ e ∷ []) ∷ [])
   seat_one e has = (past ++ e ∷ [], rows_snoc past e h.ruled.reached.rows has, refl)
 
 module _ (sound : EventsKeepSound) (plan : Plan) where
@@ -172,7 +174,7 @@ module _ (sound : EventsKeepSound) (plan : Plan) where
         keeps,
         tt,
         seat_steps plan s h id me.0 (load id word) (stepped (plain s) word value id me.1 w keeps) w _ at tt (length-set s.words word value) refl refl (carries sound plan (plain s) id me.0.view h.ruled here share).0 is_step,
-        (refl, refl, knows, seat_tells plan s h id me.0 (λ seat. load seat word) _ (loaded value) at is_step, seat_grows plan s h id me.0 (load id word) at, seat_one plan s h (load id word) tt),
+        (refl, refl, knows, seat_tells plan s h id me.0 (λ seat. load seat word) _ (Loaded value) at is_step, seat_grows plan s h id me.0 (load id word) at, seat_one plan s h (load id word) tt),
       )
 
   pub history_clear_allowed : ComplementClears → (slots id : ℕ) (me : Me (Unit {0}) Knower) (row : List Entry) (e : Entry) → get_or row me.0.view.cleared (record { word = 0; mask = 0 }) ≡ e → e.mask < 2 ^ 64
@@ -188,7 +190,7 @@ module _ (sound : EventsKeepSound) (plan : Plan) where
         tt,
         seat_steps plan s h id me.0 (clear id row) (stepped (plain s) e.word (bit_and value (bit_not w64 e.mask)) id me.1 w keeps) w _ at form (length-set s.words e.word _) refl
             (ap (λ (n : ℕ). not (n == 0)) (next_all me.0.view row)) (next_all me.0.view row ∙ (carries sound plan (plain s) id me.0.view h.ruled here share).0) is_step,
-        record { view = refl; held = refl; happened = (value, seat_tells plan s h id me.0 (λ seat. clear seat row) _ (was value) at is_step); grows = seat_grows plan s h id me.0 (clear id row) at; one = seat_one plan s h (clear id row) form },
+        record { view = refl; held = refl; happened = (value, seat_tells plan s h id me.0 (λ seat. clear seat row) _ (Cleared value) at is_step); grows = seat_grows plan s h id me.0 (clear id row) at; one = seat_one plan s h (clear id row) form },
       )
 
   pub history_skip_allowed : (slots id : ℕ) (me : Me (Unit {0}) Knower) (row : List Entry) (e : Entry) → get_or row me.0.view.cleared (record { word = 0; mask = 0 }) ≡ e
@@ -214,7 +216,7 @@ module _ (sound : EventsKeepSound) (plan : Plan) where
             seat_steps plan s h id me.0 (clear id row) (stepped (plain s) e.word value id me.1 w keeps) w _ at form (length-set s.words e.word value) refl
                 (ap (λ (n : ℕ). not (n == 0)) (next_all me.0.view row)) (next_all me.0.view row ∙ (carries sound plan (plain s) id me.0.view h.ruled here share).0) is_step,
             subst (λ (b : Bool). MatchBool b (HistoryClears plan row (step slots e.word 0 0 none) me value (k, me.1)) (◌≡◌ {A = Me (Unit {0}) Knower} (k, me.1) me)) (sym t)
-                record { view = refl; held = refl; happened = (value, seat_tells plan s h id me.0 (λ seat. clear seat row) _ (was value) at is_step); grows = seat_grows plan s h id me.0 (clear id row) at; one = seat_one plan s h (clear id row) form },
+                record { view = refl; held = refl; happened = (value, seat_tells plan s h id me.0 (λ seat. clear seat row) _ (Cleared value) at is_step); grows = seat_grows plan s h id me.0 (clear id row) at; one = seat_one plan s h (clear id row) form },
           )
       by_test false t = (
         me.0,
@@ -246,11 +248,11 @@ module _ (sound : EventsKeepSound) (plan : Plan) where
       let new_seated : is_seated (new_of n v) ≡ true = seated (new_of n v) (let l = mine.1 in omega arith) in
       let live : map is_seated views ++ true ∷ [] ≡ map is_seated (map view_of ks) =
       sym (map-append is_seated (set views id (left_by n v)) (new_of n v ∷ []) ∙ λ j. seated_set views id v (left_by n v) here refl j ++ new_seated j ∷ []) ∙ ap (map is_seated) alone in
-      let past : List Event = h.ruled.reached.events in let e : Event = split id n in record {
+      let past : List StepEvent = h.ruled.reached.events in let e : StepEvent = split id n in record {
         ruled = record {
           width = h.ruled.width;
           reached = reached_next plan (plain s) (plain (record { words = s.words; homes = s.homes; views = ks })) e _ h.ruled.reached tt
-              (is_step ∙ λ j. (record { words = s.words; all = plan.all; views = alone j; live = live j }, Ok (seat_made (length views))));
+              (is_step ∙ λ j. (record { words = s.words; all = plan.all; views = alone j; live = live j }, Ok (Split (length views))));
           fits = h.ruled.fits;
           carried = subst (Each _) alone (each_snoc _ (set views id (left_by n v)) (new_of n v) (each_set _ views id (left_by n v) (inl mine.0) h.ruled.carried) (inl mine.0));
         };
@@ -276,11 +278,11 @@ module _ (sound : EventsKeepSound) (plan : Plan) where
       sym (map-set view_of (set s.views id (both_know k l)) other knows_nothing ∙ ap (λ (m : List View). set m other empty_view) (map-set view_of s.views id (both_know k l))) in
       let live : set (map is_seated views) other false ≡ map is_seated (map view_of ks) =
       sym (map-set is_seated (set views id (joined v w)) other empty_view ∙ ap (λ (m : List Bool). set m other false) (seated_set views id v (joined v w) here refl)) ∙ ap (map is_seated) alone in
-      let past : List Event = h.ruled.reached.events in let e : Event = join id other in record {
+      let past : List StepEvent = h.ruled.reached.events in let e : StepEvent = join id other in record {
         ruled = record {
           width = h.ruled.width;
           reached = reached_next plan (plain s) (plain (record { words = s.words; homes = s.homes; views = ks })) e _ h.ruled.reached tt
-              (is_step ∙ λ j. (record { words = s.words; all = plan.all; views = alone j; live = live j }, Ok merged));
+              (is_step ∙ λ j. (record { words = s.words; all = plan.all; views = alone j; live = live j }, Ok Joined));
           fits = h.ruled.fits;
           carried = subst (Each _) alone (each_set _ (set views id (joined v w)) other empty_view (inr refl) (each_set _ views id (joined v w) (inl mine.0) h.ruled.carried));
         };
@@ -304,12 +306,12 @@ module _ (sound : EventsKeepSound) (plan : Plan) where
         seat = id;
         goes_on = h.begun id k at;
         has = ap (λ (m : StepState). get_elem? m.views id) h.ruled.reached.stands ∙ here;
-        reply = ap (λ (m : StepState). (machine_step m (close id)).1) h.ruled.reached.stands ∙ ap (λ (p : StepState × Result Answer Fault). p.1) is_step;
+        reply = ap (λ (m : StepState). (machine_step m (close id)).1) h.ruled.reached.stands ∙ ap (λ (p : StepState × Result Reply Fault). p.1) is_step;
       } in
       (closes sound knows plan id k.view words slots (plain s, (h.ruled, here), f.2, f.3, f.4) share rests whole, subst (EndsWith plan.width plan.all k.pasts k.view) f.2 ends)
 
 only_none : (k u : Knower) (j : ℕ) → k.pasts ≡ [] → get_elem? (k ∷ []) j ≡ some u → AllBegin u.pasts []
-only_none k u zero z e = subst (λ (x : Knower). AllBegin x.pasts []) (some-injective k u e) (subst (λ (ps : List (List Event)). AllBegin ps []) (sym z) tt)
+only_none k u zero z e = subst (λ (x : Knower). AllBegin x.pasts []) (some-injective k u e) (subst (λ (ps : List (List StepEvent)). AllBegin ps []) (sym z) tt)
 only_none k u (suc j) z e = absurd (some-ne-none u (sym e))
 
 pub history_opens : (plan : Plan) → 0 < plan.all → plan.all < 2 ^ 32 → IsHistory plan (opening (full plan.width) [] (record { view = first_view plan.all; pasts = [] }))

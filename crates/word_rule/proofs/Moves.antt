@@ -16,8 +16,9 @@ use Rattle.word_rows.specs.Words.{IsMeet, full}
 use Rattle.word_rows.specs.Accounts.{lacks}
 use Rattle.word_rows.specs.Changes.{IsIdle, empty_view, first_view, finished, part_way, cleared_next, left_by, new_of, joined, with_reading}
 use Rattle.word_rows.specs.Sound.{IsSound}
-use Rattle.word_rows.specs.Machine.{entry_at, can_clear, was, loaded, seat_made, merged, closed}
-use Rattle.word_rows.specs.declared.events.Event.TheVariants.{Clear as clear, Load as load, Split as split, Join as join, Close as close}
+use Rattle.word_rows.specs.Machine.{entry_at, can_clear}
+use Rattle.word_rows.specs.declared.replies.Reply.TheVariants.{Cleared, Loaded, Split, Joined, Closed}
+use Rattle.word_rows.specs.declared.events.StepEvent.TheVariants.{Clear as clear, Load as load, Split as split, Join as join, Close as close}
 use Rattle.word_rows.specs.Meeting.{ComplementClears}
 use Rattle.word_rows.specs.Keeping.{KnowsAll, EventsKeepSound, WholeShareKnowsAll}
 use Rattle.word_rule.specs.declared.rule.Plan.{Plan}
@@ -70,11 +71,11 @@ module _ (sound : EventsKeepSound) where
         tt,
         record {
           width = length-set s.words e.word _ ∙ r.width;
-          reached = reached_next plan s next (clear id row) _ r.reached form (is_step ∙ λ j. (machine_of plan (sym same j) next, Ok (was (slice_index s.words e.word))));
+          reached = reached_next plan s next (clear id row) _ r.reached form (is_step ∙ λ j. (machine_of plan (sym same j) next, Ok (Cleared (slice_index s.words e.word))));
           fits = r.fits;
           carried = each_set _ s.views id w (inl (next_all me.0 row ∙ (carries plan s id me.0 r at share).0)) r.carried;
         },
-        (refl, (slice_index s.words e.word, reached_replies plan s id me.0 (λ seat. clear seat row) _ (was (slice_index s.words e.word)) r.reached at is_step)),
+        (refl, (slice_index s.words e.word, reached_replies plan s id me.0 (λ seat. clear seat row) _ (Cleared (slice_index s.words e.word)) r.reached at is_step)),
       )
 
   -- a load that counts the next entry as cleared where the word has none of its bits
@@ -99,12 +100,12 @@ module _ (sound : EventsKeepSound) where
             tt,
             record {
               width = length-set s.words e.word value ∙ r.width;
-              reached = reached_next plan s next (clear id row) _ r.reached form (is_step ∙ λ j. (machine_of plan (sym same j) next, Ok (was value)));
+              reached = reached_next plan s next (clear id row) _ r.reached form (is_step ∙ λ j. (machine_of plan (sym same j) next, Ok (Cleared value)));
               fits = r.fits;
               carried = each_set _ s.views id w (inl (next_all me.0 row ∙ (carries plan s id me.0 r at share).0)) r.carried;
             },
             subst (λ (b : Bool). MatchBool b (Clears plan row (step slots e.word 0 0 none) me value (w, me.1)) (◌≡◌ {A = Me (Unit {0}) View} (w, me.1) me)) (sym t)
-                (refl, (value, reached_replies plan s id me.0 (λ seat. clear seat row) _ (was value) r.reached at is_step)),
+                (refl, (value, reached_replies plan s id me.0 (λ seat. clear seat row) _ (Cleared value) r.reached at is_step)),
           )
       by_test false t = (
         me.0,
@@ -138,11 +139,11 @@ module _ (sound : EventsKeepSound) where
         tt,
         record {
           width = length-set s.words word value ∙ r.width;
-          reached = reached_next plan s next (load id word) _ r.reached tt (is_step ∙ λ j. (machine_of plan (sym same j) next, Ok (loaded value)));
+          reached = reached_next plan s next (load id word) _ r.reached tt (is_step ∙ λ j. (machine_of plan (sym same j) next, Ok (Loaded value)));
           fits = r.fits;
           carried = each_set _ s.views id w (inl (carries plan s id me.0 r at share).0) r.carried;
         },
-        (refl, knows, reached_replies plan s id me.0 (λ seat. load seat word) _ (loaded value) r.reached at is_step),
+        (refl, knows, reached_replies plan s id me.0 (λ seat. load seat word) _ (Loaded value) r.reached at is_step),
       )
 
   pub split_allowed : (plan : Plan) (id : ℕ) (v : View) (n : ℕ) → n < v.shares → IsIdle v → Splits (IsRuled plan) id v (left_by n v) (new_of n v)
@@ -155,7 +156,7 @@ module _ (sound : EventsKeepSound) where
       map-append is_seated (set s.views id (left_by n v)) (new_of n v ∷ []) ∙ λ j. seated_set s.views id v (left_by n v) at refl j ++ new_seated j ∷ [] in
       record {
         width = r.width;
-        reached = reached_next plan s next (split id n) _ r.reached tt (is_step ∙ λ j. (machine_of plan (sym same j) next, Ok (seat_made (length s.views))));
+        reached = reached_next plan s next (split id n) _ r.reached tt (is_step ∙ λ j. (machine_of plan (sym same j) next, Ok (Split (length s.views))));
         fits = r.fits;
         carried = each_snoc _ (set s.views id (left_by n v)) (new_of n v) (each_set _ s.views id (left_by n v) (inl mine.0) r.carried) (inl mine.0);
       }
@@ -171,7 +172,7 @@ module _ (sound : EventsKeepSound) where
       map-set is_seated (set s.views id (joined v w)) other empty_view ∙ ap (λ (l : List Bool). set l other false) (seated_set s.views id v (joined v w) at refl) in
       record {
         width = r.width;
-        reached = reached_next plan s next (join id other) _ r.reached tt (is_step ∙ λ j. (machine_of plan (sym same j) next, Ok merged));
+        reached = reached_next plan s next (join id other) _ r.reached tt (is_step ∙ λ j. (machine_of plan (sym same j) next, Ok Joined));
         fits = r.fits;
         carried = each_set _ (set s.views id (joined v w)) other empty_view (inr refl) (each_set _ s.views id (joined v w) (inl mine.0) r.carried);
       }
@@ -199,7 +200,7 @@ module _ (sound : EventsKeepSound) where
         met = subst (IsMeet (full plan.width) v.done) same (subst (λ (n : ℕ). IsMeet (full n) v.done s.words) r.width k.met);
         readings = k.readings;
         stood = record { views = s.views; seat = id; has = f.1.1; sound = subst (λ (ws : List ℕ). IsSound ws plan.all s.views) same is_sound };
-        reply = subst (λ (ws : List ℕ). RepliesClosed plan.width plan.all v ws) same (reached_replies plan s id v close _ (closed s.words) r.reached f.1.1 is_step);
+        reply = subst (λ (ws : List ℕ). RepliesClosed plan.width plan.all v ws) same (reached_replies plan s id v close _ (Closed s.words) r.reached f.1.1 is_step);
       }
 
 pub only_one : (u v : View) (j : ℕ) → get_elem? (u ∷ []) j ≡ some v → v ≡ u

@@ -8,27 +8,29 @@ use lib.ListN.{get_elem?}
 use Rattle.atomic_table.specs.Table.{State}
 use Rattle.word_rows.specs.declared.views.View.{View}
 use Rattle.word_rows.specs.Sound.{IsSound}
-use Rattle.word_rows.specs.Machine.{StepState, Answer, Fault, IsSoundState, HasRow, HaveRows, loaded, no_seat, row_open, bad_word, opened, after, step as machine_step, steps, settled, fault_of, is_live, is_idle, view_at}
-use Rattle.word_rows.specs.declared.events.Event.{Event}
-use Rattle.word_rows.specs.declared.events.Event.TheVariants.{Load as load}
+use Rattle.word_rows.specs.Machine.{StepState, Fault, IsSoundState, HasRow, HaveRows, no_seat, row_open, bad_word, opened, after, step as machine_step, steps, settled, fault_of, is_live, is_idle, view_at}
+use Rattle.word_rows.specs.declared.replies.Reply.{Reply}
+use Rattle.word_rows.specs.declared.replies.Reply.TheVariants.{Loaded}
+use Rattle.word_rows.specs.declared.events.StepEvent.{StepEvent}
+use Rattle.word_rows.specs.declared.events.StepEvent.TheVariants.{Load as load}
 use Rattle.word_rows.specs.Keeping.{EventsKeepSound}
 use Rattle.word_rule.specs.declared.rule.Plan.{Plan}
 use Rattle.word_rule.specs.Standing.{is_seated, standing, IsReached, Replies, RepliesLoaded, WasCleared}
 
 -- one event more
-pub steps_snoc : (s : StepState) (es : List Event) (e : Event) → (steps s (es ++ e ∷ [])).0 ≡ (machine_step (steps s es).0 e).0
+pub steps_snoc : (s : StepState) (es : List StepEvent) (e : StepEvent) → (steps s (es ++ e ∷ [])).0 ≡ (machine_step (steps s es).0 e).0
 steps_snoc s [] e = refl
 steps_snoc s (d ∷ ds) e = steps_snoc (machine_step s d).0 ds e
 
-pub rows_snoc : (es : List Event) (e : Event) → HaveRows es → HasRow e → HaveRows (es ++ e ∷ [])
+pub rows_snoc : (es : List StepEvent) (e : StepEvent) → HaveRows es → HasRow e → HaveRows (es ++ e ∷ [])
 rows_snoc [] e h r = (r, tt)
 rows_snoc (d ∷ ds) e h r = (h.0, rows_snoc ds e h.1 r)
 
-abbrev pub reached_next : (plan : Plan) (s t : State (Unit {0}) View) (e : Event) (reply : Result Answer Fault) → IsReached plan s → HasRow e → machine_step (standing plan s) e ≡ (standing plan t, reply) → IsReached plan t
+abbrev pub reached_next : (plan : Plan) (s t : State (Unit {0}) View) (e : StepEvent) (reply : Result Reply Fault) → IsReached plan s → HasRow e → machine_step (standing plan s) e ≡ (standing plan t, reply) → IsReached plan t
 reached_next plan s t e reply r has is = record {
   events = r.events ++ e ∷ [];
   rows = rows_snoc r.events e r.rows has;
-  stands = steps_snoc (opened plan.width plan.all) r.events e ∙ ap (λ (m : StepState). (machine_step m e).0) r.stands ∙ ap (λ (p : StepState × Result Answer Fault). p.0) is;
+  stands = steps_snoc (opened plan.width plan.all) r.events e ∙ ap (λ (m : StepState). (machine_step m e).0) r.stands ∙ ap (λ (p : StepState × Result Reply Fault). p.0) is;
 }
 
 -- what is reached is sound
@@ -36,14 +38,14 @@ pub reached_sound : EventsKeepSound → (plan : Plan) (s : State (Unit {0}) View
 reached_sound sound plan s r = (subst IsSoundState r.stands (sound plan.width plan.all r.events r.rows)).sound
 
 -- what the step machine replies where it stands
-pub reached_replies : (plan : Plan) (s : State (Unit {0}) View) (id : ℕ) (v : View) (ask : ℕ → Event) (t : StepState) (answer : Answer) → IsReached plan s → get_elem? s.views id ≡ some v
+pub reached_replies : (plan : Plan) (s : State (Unit {0}) View) (id : ℕ) (v : View) (ask : ℕ → StepEvent) (t : StepState) (answer : Reply) → IsReached plan s → get_elem? s.views id ≡ some v
     → machine_step (standing plan s) (ask id) ≡ (t, Ok answer) → Replies plan.width plan.all v ask answer
 reached_replies plan s id v ask t answer r at is = record {
   events = r.events;
   rows = r.rows;
   seat = id;
   has = ap (λ (m : StepState). get_elem? m.views id) r.stands ∙ at;
-  reply = ap (λ (m : StepState). (machine_step m (ask id)).1) r.stands ∙ ap (λ (p : StepState × Result Answer Fault). p.1) is;
+  reply = ap (λ (m : StepState). (machine_step m (ask id)).1) r.stands ∙ ap (λ (p : StepState × Result Reply Fault). p.1) is;
 }
 
 -- ---- which seats are live
@@ -67,11 +69,11 @@ passed : (b : Bool) (fault : Fault) (next : Option Fault) → ◌≡◌ {A = Opt
 passed true fault next e = cc
 passed false fault next e = (refl, e)
 
-abbrev pub value_of : Result Answer Fault → ℕ
-value_of (Ok (loaded n)) = n
+abbrev pub value_of : Result Reply Fault → ℕ
+value_of (Ok (Loaded n)) = n
 value_of r = 0
 
-pub loaded_by : (s : StepState) (seat word value : ℕ) (fault : Option Fault) → fault_of s (load seat word) ≡ fault → (settled s (load seat word) fault).1 ≡ Ok (loaded value) → (word < length s.words) × (slice_index s.words word ≡ value)
+pub loaded_by : (s : StepState) (seat word value : ℕ) (fault : Option Fault) → fault_of s (load seat word) ≡ fault → (settled s (load seat word) fault).1 ≡ Ok (Loaded value) → (word < length s.words) × (slice_index s.words word ≡ value)
 loaded_by s seat word value None none is =
     let a = passed (not (is_live s seat)) (no_seat seat) _ none in
     let b = passed (not (is_idle (view_at s seat))) (row_open seat) _ a.1 in

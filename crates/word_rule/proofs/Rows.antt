@@ -4,7 +4,8 @@ use Rattle.std.proofs.lemmas.Bool.{cases_eq, and_from, eq-eqb, ne_eqb, or_left, 
 use Rattle.word_rows.specs.declared.entries.Entry.{Entry}
 use Rattle.word_rows.specs.declared.views.View.{View}
 use Rattle.word_rows.specs.Changes.{IsIdle, finished, part_way, cleared_next}
-use Rattle.word_rows.specs.Machine.{can_clear, same_row}
+use Rattle.word_rows.specs.Machine.{can_clear}
+use Rattle.word_rows.specs.Rows.{same_row}
 use Rattle.word_rule.specs.Standing.{offered_until}
 
 same_row-refl : (row : List Entry) → same_row row row ≡ true

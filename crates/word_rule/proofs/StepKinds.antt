@@ -13,8 +13,9 @@ use Rattle.word_rows.specs.declared.views.View.{View}
 use Rattle.word_rows.specs.Rows.{below}
 use Rattle.word_rows.specs.Words.{without, without_entry}
 use Rattle.word_rows.specs.Changes.{IsIdle, cleared_next, with_reading, left_by, new_of, joined, empty_view}
-use Rattle.word_rows.specs.Machine.{StepState, Fault, was, loaded, seat_made, merged, no_seat, row_open, bad_share, bad_word, shares_out, step as machine_step, fault_of, settled, view_at, is_live, is_idle, can_clear, entry_at}
-use Rattle.word_rows.specs.declared.events.Event.TheVariants.{Clear as clear, Load as load, Split as split, Join as join, Close as close}
+use Rattle.word_rows.specs.Machine.{StepState, Fault, no_seat, row_open, bad_share, bad_word, shares_out, step as machine_step, fault_of, settled, view_at, is_live, is_idle, can_clear, entry_at}
+use Rattle.word_rows.specs.declared.replies.Reply.TheVariants.{Cleared, Loaded, Split, Joined}
+use Rattle.word_rows.specs.declared.events.StepEvent.TheVariants.{Clear as clear, Load as load, Split as split, Join as join, Close as close}
 use Rattle.word_rows.specs.Meeting.{ComplementClears}
 use Rattle.word_rule.specs.declared.rule.Plan.{Plan}
 use Rattle.word_rule.specs.Standing.{machine_of}
@@ -83,7 +84,7 @@ module _ (plan : Plan) (live : List Bool) (s : State (Unit {0}) View) (id : ℕ)
 -- the `fetch_and` of an entry, with the view that it leaves
 pub clear_step : ComplementClears → (plan : Plan) (live : List Bool) (s : State (Unit {0}) View) (id : ℕ) (me : Me (Unit {0}) View) (row : List Entry) (e : Entry) (w : View) → IsAt plan live s id me.0 → can_clear me.0 row ≡ true → below plan.width row ≡ true
     → entry_at row me.0.cleared ≡ e → slice_index s.words e.word < 2 ^ 64 → e.mask < 2 ^ 64 → w ≡ cleared_next me.0 row
-    → machine_step (machine_of plan live s) (clear id row) ≡ (machine_of plan live (stepped s e.word (bit_and (slice_index s.words e.word) (bit_not w64 e.mask)) id me.1 w keeps), Ok (was (slice_index s.words e.word)))
+    → machine_step (machine_of plan live s) (clear id row) ≡ (machine_of plan live (stepped s e.word (bit_and (slice_index s.words e.word) (bit_not w64 e.mask)) id me.1 w keeps), Ok (Cleared (slice_index s.words e.word)))
 clear_step complement plan live s id me row e w a can named is small fits then =
     let v : View = me.0 in let m : StepState = machine_of plan live s in
     let same : view_at m id ≡ v = there plan live s id v a in
@@ -93,7 +94,7 @@ clear_step complement plan live s id me row e w a can named is small fits then =
     let views : set s.views id (cleared_next (view_at m id) row) ≡ set s.views id w =
     ap (λ (u : View). set s.views id (cleared_next u row)) same ∙ ap (λ (u : View). set s.views id u) (sym then) in
     ap (settled m (clear id row)) (clear_fits plan live s id v a row can named)
-    ∙ λ j. (record { words = words j; all = plan.all; views = views j; live = live }, Ok (was (slice_index s.words (entry j).word)))
+    ∙ λ j. (record { words = words j; all = plan.all; views = views j; live = live }, Ok (Cleared (slice_index s.words (entry j).word)))
 
 pub clear_is_step : ComplementClears → ClearIsStep
 clear_is_step complement plan live s slots id before after row e a can named is small fits then = clear_step complement plan live s id before row e after.0 a can named is small fits (ap (λ (x : Me (Unit {0}) View). x.0) then.0)
@@ -105,7 +106,7 @@ without_none n mask z = ap (λ (k : ℕ). bit_xor n k) z ∙ xor_zero_r n
 -- the load of a word that has none of the bits of the next entry, with the view that it leaves
 pub skip_step : (plan : Plan) (live : List Bool) (s : State (Unit {0}) View) (id : ℕ) (me : Me (Unit {0}) View) (row : List Entry) (e : Entry) (w : View) → IsAt plan live s id me.0 → can_clear me.0 row ≡ true → below plan.width row ≡ true
     → entry_at row me.0.cleared ≡ e → bit_and (slice_index s.words e.word) e.mask ≡ 0 → w ≡ cleared_next me.0 row
-    → machine_step (machine_of plan live s) (clear id row) ≡ (machine_of plan live (stepped s e.word (slice_index s.words e.word) id me.1 w keeps), Ok (was (slice_index s.words e.word)))
+    → machine_step (machine_of plan live s) (clear id row) ≡ (machine_of plan live (stepped s e.word (slice_index s.words e.word) id me.1 w keeps), Ok (Cleared (slice_index s.words e.word)))
 skip_step plan live s id me row e w a can named is free then =
     let v : View = me.0 in let m : StepState = machine_of plan live s in
     let same : view_at m id ≡ v = there plan live s id v a in
@@ -115,7 +116,7 @@ skip_step plan live s id me row e w a can named is free then =
     let views : set s.views id (cleared_next (view_at m id) row) ≡ set s.views id w =
     ap (λ (u : View). set s.views id (cleared_next u row)) same ∙ ap (λ (u : View). set s.views id u) (sym then) in
     ap (settled m (clear id row)) (clear_fits plan live s id v a row can named)
-    ∙ λ j. (record { words = words j; all = plan.all; views = views j; live = live }, Ok (was (slice_index s.words (entry j).word)))
+    ∙ λ j. (record { words = words j; all = plan.all; views = views j; live = live }, Ok (Cleared (slice_index s.words (entry j).word)))
 
 pub skip_is_step : SkipIsStep
 skip_is_step plan live s slots id before after row e a can named is free then =
@@ -125,7 +126,7 @@ skip_is_step plan live s slots id before after row e a can named is free then =
 
 -- the load of a word, with the view that it leaves
 pub load_step : (plan : Plan) (live : List Bool) (s : State (Unit {0}) View) (id word : ℕ) (me : Me (Unit {0}) View) (w : View) → IsAt plan live s id me.0 → IsIdle me.0 → word < plan.width → w ≡ with_reading me.0 word (slice_index s.words word)
-    → machine_step (machine_of plan live s) (load id word) ≡ (machine_of plan live (stepped s word (slice_index s.words word) id me.1 w keeps), Ok (loaded (slice_index s.words word)))
+    → machine_step (machine_of plan live s) (load id word) ≡ (machine_of plan live (stepped s word (slice_index s.words word) id me.1 w keeps), Ok (Loaded (slice_index s.words word)))
 load_step plan live s id word me w a i inside then =
     let v : View = me.0 in let m : StepState = machine_of plan live s in
     let same : view_at m id ≡ v = there plan live s id v a in
@@ -133,7 +134,7 @@ load_step plan live s id word me w a i inside then =
     let views : set s.views id (with_reading (view_at m id) word (slice_index s.words word)) ≡ set s.views id w =
     ap (λ (u : View). set s.views id (with_reading u word (slice_index s.words word))) same ∙ ap (λ (u : View). set s.views id u) (sym then) in
     ap (settled m (load id word)) (load_fits plan live s id v a word i inside)
-    ∙ λ j. (record { words = words j; all = plan.all; views = views j; live = live }, Ok (loaded (slice_index s.words word)))
+    ∙ λ j. (record { words = words j; all = plan.all; views = views j; live = live }, Ok (Loaded (slice_index s.words word)))
 
 pub load_is_step : LoadIsStep
 load_is_step plan live s slots id word before after a i inside then = load_step plan live s id word before after.0 a i inside (ap (λ (x : Me (Unit {0}) View). x.0) then.0)
@@ -143,7 +144,7 @@ split_is_step plan live s id shares v a i less =
     let m : StepState = machine_of plan live s in
     let same : view_at m id ≡ v = there plan live s id v a in
     ap (settled m (split id shares)) (split_fits plan live s id v a shares i less)
-    ∙ λ j. (record { words = s.words; all = plan.all; views = set s.views id (left_by shares (same j)) ++ new_of shares (same j) ∷ []; live = live ++ true ∷ [] }, Ok (seat_made (length s.views)))
+    ∙ λ j. (record { words = s.words; all = plan.all; views = set s.views id (left_by shares (same j)) ++ new_of shares (same j) ∷ []; live = live ++ true ∷ [] }, Ok (Split (length s.views)))
 
 pub join_is_step : JoinIsStep
 join_is_step plan live s id other v w a at t apart i k =
@@ -151,7 +152,7 @@ join_is_step plan live s id other v w a at t apart i k =
     let same : view_at m id ≡ v = there plan live s id v a in
     let same' : view_at m other ≡ w = at_or s.views other w empty_view at in
     ap (settled m (join id other)) (join_fits plan live s id v a other w at t apart i k)
-    ∙ λ j. (record { words = s.words; all = plan.all; views = set (set s.views id (joined (same j) (same' j))) other empty_view; live = set live other false }, Ok merged)
+    ∙ λ j. (record { words = s.words; all = plan.all; views = set (set s.views id (joined (same j) (same' j))) other empty_view; live = set live other false }, Ok Joined)
 
 pub close_is_step : CloseIsStep
 close_is_step plan live s id v a i whole =

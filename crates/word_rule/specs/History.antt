@@ -9,9 +9,11 @@ use Rattle.word_rows.specs.declared.entries.Entry.{Entry}
 use Rattle.word_rows.specs.declared.views.View.{View}
 use Rattle.word_rows.specs.Accounts.{views_clear}
 use Rattle.word_rows.specs.Changes.{cleared_next, with_reading, left_by, new_of, joined, empty_view}
-use Rattle.word_rows.specs.Machine.{Answer, HaveRows, was, loaded, closed, after, entry_at, step}
-use Rattle.word_rows.specs.declared.events.Event.{Event}
-use Rattle.word_rows.specs.declared.events.Event.TheVariants.{Clear as clear, Load as load, Close as close}
+use Rattle.word_rows.specs.Machine.{HaveRows, after, entry_at, step}
+use Rattle.word_rows.specs.declared.replies.Reply.{Reply}
+use Rattle.word_rows.specs.declared.replies.Reply.TheVariants.{Cleared, Loaded, Closed}
+use Rattle.word_rows.specs.declared.events.StepEvent.{StepEvent}
+use Rattle.word_rows.specs.declared.events.StepEvent.TheVariants.{Clear as clear, Load as load, Close as close}
 use Rattle.word_rule.specs.declared.rule.Plan.{Plan}
 use Rattle.word_rule.specs.declared.rule.Knower.{Knower}
 use Rattle.word_rule.specs.Shown.{shows}
@@ -21,7 +23,7 @@ abbrev pub view_of : Knower → View
 view_of k = k.view
 
 -- each of these begins the events
-abbrev pub AllBegin : List (List Event) → List Event → Type 0
+abbrev pub AllBegin : List (List StepEvent) → List StepEvent → Type 0
 AllBegin [] events = Unit {0}
 AllBegin (p ∷ ps) events = IsPrefix p events × AllBegin ps events
 
@@ -35,8 +37,8 @@ pub record IsHistory (plan : Plan) (s : State (Unit {0}) Knower) : Type 0 where
   pub begun : (id : ℕ) (k : Knower) → get_elem? s.views id ≡ some k → AllBegin k.pasts ruled.reached.events
 
 -- after each of these pasts, and before the end of this history, a seat with this view asked for something and got this answer
-pub record Within (width all : ℕ) (pasts : List (List Event)) (v : View) (ask : ℕ → Event) (answer : Answer) (history : List Event) : Type 0 where
-  pub events : List Event
+pub record Within (width all : ℕ) (pasts : List (List StepEvent)) (v : View) (ask : ℕ → StepEvent) (answer : Reply) (history : List StepEvent) : Type 0 where
+  pub events : List StepEvent
   pub rows : HaveRows events
   pub seat : ℕ
   pub goes_on : AllBegin pasts events
@@ -45,52 +47,52 @@ pub record Within (width all : ℕ) (pasts : List (List Event)) (v : View) (ask 
   pub stands : IsPrefix (events ++ ask seat ∷ []) history
 
 -- this stands in each history that goes on from all that is known then
-abbrev pub Happened : ℕ → ℕ → List (List Event) → View → (ℕ → Event) → Answer → List (List Event) → Type 0
-Happened width all before v ask answer then = (history : List Event) → AllBegin then history → Within width all before v ask answer history
+abbrev pub Happened : ℕ → ℕ → List (List StepEvent) → View → (ℕ → StepEvent) → Reply → List (List StepEvent) → Type 0
+Happened width all before v ask answer then = (history : List StepEvent) → AllBegin then history → Within width all before v ask answer history
 
-abbrev pub Grows : List (List Event) → List (List Event) → Type 0
-Grows before then = (history : List Event) → AllBegin then history → AllBegin before history
+abbrev pub Grows : List (List StepEvent) → List (List StepEvent) → Type 0
+Grows before then = (history : List StepEvent) → AllBegin then history → AllBegin before history
 
 -- all that is known is one history
-abbrev pub IsOne : List (List Event) → Type 0
-IsOne pasts = (history : List Event) × HaveRows history × (pasts ≡ history ∷ [])
+abbrev pub IsOne : List (List StepEvent) → Type 0
+IsOne pasts = (history : List StepEvent) × HaveRows history × (pasts ≡ history ∷ [])
 
-abbrev pub ClearHappened : ℕ → ℕ → List (List Event) → View → List Entry → List (List Event) → Type 0
-ClearHappened width all before v row then = (old : ℕ) × Happened width all before v (λ seat. clear seat row) (was old) then
+abbrev pub ClearHappened : ℕ → ℕ → List (List StepEvent) → View → List Entry → List (List StepEvent) → Type 0
+ClearHappened width all before v row then = (old : ℕ) × Happened width all before v (λ seat. clear seat row) (Cleared old) then
 
-abbrev pub LoadHappened : ℕ → ℕ → List (List Event) → View → ℕ → ℕ → List (List Event) → Type 0
-LoadHappened width all before v word value then = Happened width all before v (λ seat. load seat word) (loaded value) then
+abbrev pub LoadHappened : ℕ → ℕ → List (List StepEvent) → View → ℕ → ℕ → List (List StepEvent) → Type 0
+LoadHappened width all before v word value then = Happened width all before v (λ seat. load seat word) (Loaded value) then
 
 -- after a beginning of this history some view had cleared this bit: it had offered a row with it, or was offering one
-pub record ClearedBefore (width all : ℕ) (history : List Event) (word bit : ℕ) : Type 0 where
-  pub events : List Event
+pub record ClearedBefore (width all : ℕ) (history : List StepEvent) (word bit : ℕ) : Type 0 where
+  pub events : List StepEvent
   pub begins : IsPrefix events history
   pub clears : views_clear (after width all events).0.views word bit ≡ true
 
 -- in this history the word was loaded, and this value found
-pub record LoadedIn (width all : ℕ) (history : List Event) (word value : ℕ) : Type 0 where
-  pub events : List Event
+pub record LoadedIn (width all : ℕ) (history : List StepEvent) (word value : ℕ) : Type 0 where
+  pub events : List StepEvent
   pub seat : ℕ
   pub stands : IsPrefix (events ++ load seat word ∷ []) history
-  pub reply : (step (after width all events).0 (load seat word)).1 ≡ Ok (loaded value)
+  pub reply : (step (after width all events).0 (load seat word)).1 ≡ Ok (Loaded value)
 
 -- one history of the step machine has the loads of both, and its close gives these words
 pub record ReadInOneHistory (width all : ℕ) (first second words : List ℕ) : Type 0 where
-  pub history : List Event
+  pub history : List StepEvent
   pub rows : HaveRows history
   pub of_first : (i : ℕ) → i < length first → LoadedIn width all history i (slice_index first i)
   pub of_second : (i : ℕ) → i < length second → LoadedIn width all history i (slice_index second i)
   pub seat : ℕ
-  pub reply : (step (after width all history).0 (close seat)).1 ≡ Ok (closed words)
+  pub reply : (step (after width all history).0 (close seat)).1 ≡ Ok (Closed words)
 
 -- after each of these pasts a seat with this view closed, and got these words
-pub record EndsWith (width all : ℕ) (pasts : List (List Event)) (v : View) (words : List ℕ) : Type 0 where
-  pub events : List Event
+pub record EndsWith (width all : ℕ) (pasts : List (List StepEvent)) (v : View) (words : List ℕ) : Type 0 where
+  pub events : List StepEvent
   pub rows : HaveRows events
   pub seat : ℕ
   pub goes_on : AllBegin pasts events
   pub has : get_elem? (after width all events).0.views seat ≡ some v
-  pub reply : (step (after width all events).0 (close seat)).1 ≡ Ok (closed words)
+  pub reply : (step (after width all events).0 (close seat)).1 ≡ Ok (Closed words)
 
 -- load: the reading is the last, as the step machine replied
 abbrev pub HistoryLoads : Plan → Step (Unit {0}) → Me (Unit {0}) Knower → ℕ → Me (Unit {0}) Knower → Type 0
@@ -100,7 +102,7 @@ HistoryLoads plan s before found then =
     × LoadHappened plan.width plan.all before.0.pasts before.0.view s.word found then.0.pasts × Grows before.0.pasts then.0.pasts × IsOne then.0.pasts
 
 -- one entry more of the row is cleared, as the step machine replied
-pub record Cleared (width all : ℕ) (row : List Entry) (before then : Me (Unit {0}) Knower) : Type 0 where
+pub record ClearTells (width all : ℕ) (row : List Entry) (before then : Me (Unit {0}) Knower) : Type 0 where
   pub view : then.0.view ≡ cleared_next before.0.view row
   pub held : then.1 ≡ before.1
   pub happened : ClearHappened width all before.0.pasts before.0.view row then.0.pasts
@@ -108,7 +110,7 @@ pub record Cleared (width all : ℕ) (row : List Entry) (before then : Me (Unit 
   pub one : IsOne then.0.pasts
 
 abbrev pub HistoryClears : Plan → List Entry → Step (Unit {0}) → Me (Unit {0}) Knower → ℕ → Me (Unit {0}) Knower → Type 0
-HistoryClears plan row s before found then = Cleared plan.width plan.all row before then
+HistoryClears plan row s before found then = ClearTells plan.width plan.all row before then
 
 -- a load before a clear: where the word has none of the bits of the next entry of the row, the entry counts as cleared, and else the seat is as it was
 abbrev pub HistorySkips : Plan → List Entry → Step (Unit {0}) → Me (Unit {0}) Knower → ℕ → Me (Unit {0}) Knower → Type 0

@@ -4,7 +4,7 @@ use Rattle.atomic_table.specs.Seated.{TableId}
 use Rattle.atomic_table.specs.Table.{Me}
 use Rattle.word_rows.specs.declared.views.View.{View}
 use Rattle.word_rows.specs.Changes.{IsIdle, joined}
-use Rattle.word_rows.specs.declared.events.Event.{Event}
+use Rattle.word_rows.specs.declared.events.StepEvent.{StepEvent}
 use Rattle.word_rule.specs.declared.rule.Knower.{Knower}
 use Rattle.word_rule.specs.declared.rule.Plan.{Plan}
 
@@ -12,7 +12,7 @@ use Rattle.word_rule.specs.declared.rule.Plan.{Plan}
 pub record Holding : Type 0 where
   pub table_id : TableId
   pub view : View
-  pub pasts : List (List Event)
+  pub pasts : List (List StepEvent)
 
 -- the same pass or note with another view
 abbrev pub with_view : Holding → View → Holding

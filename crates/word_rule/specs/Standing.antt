@@ -8,9 +8,11 @@ use Rattle.word_rows.specs.declared.views.View.{View}
 use Rattle.word_rows.specs.Accounts.{views_clear}
 use Rattle.word_rows.specs.Changes.{finished, part_way, readings_from, with_readings}
 use Rattle.word_rows.specs.Sound.{IsSound}
-use Rattle.word_rows.specs.Machine.{StepState, Answer, HaveRows, was, loaded, closed, after, step}
-use Rattle.word_rows.specs.declared.events.Event.{Event}
-use Rattle.word_rows.specs.declared.events.Event.TheVariants.{Clear as clear, Load as load, Close as close}
+use Rattle.word_rows.specs.Machine.{StepState, HaveRows, after, step}
+use Rattle.word_rows.specs.declared.replies.Reply.{Reply}
+use Rattle.word_rows.specs.declared.replies.Reply.TheVariants.{Cleared, Loaded, Closed}
+use Rattle.word_rows.specs.declared.events.StepEvent.{StepEvent}
+use Rattle.word_rows.specs.declared.events.StepEvent.TheVariants.{Clear as clear, Load as load, Close as close}
 use Rattle.word_rule.specs.declared.rule.Plan.{Plan}
 
 -- the table as the step machine has it, with these seats live
@@ -27,13 +29,13 @@ standing plan s = machine_of plan (map is_seated s.views) s
 
 -- after some events, in which each row has the form of a row, the step machine stands where the table does
 pub record IsReached (plan : Plan) (s : State (Unit {0}) View) : Type 0 where
-  pub events : List Event
+  pub events : List StepEvent
   pub rows : HaveRows events
   pub stands : (after plan.width plan.all events).0 ≡ standing plan s
 
 -- after some events, in which each row has the form of a row, a seat of the step machine has this view, and gets this answer to what it asks
-pub record Replies (width all : ℕ) (v : View) (ask : ℕ → Event) (answer : Answer) : Type 0 where
-  pub events : List Event
+pub record Replies (width all : ℕ) (v : View) (ask : ℕ → StepEvent) (answer : Reply) : Type 0 where
+  pub events : List StepEvent
   pub rows : HaveRows events
   pub seat : ℕ
   pub has : get_elem? (after width all events).0.views seat ≡ some v
@@ -41,19 +43,19 @@ pub record Replies (width all : ℕ) (v : View) (ask : ℕ → Event) (answer : 
 
 -- the step machine loads this value from the word, at a seat that has this view
 abbrev pub RepliesLoaded : ℕ → ℕ → View → ℕ → ℕ → Type 0
-RepliesLoaded width all v word value = Replies width all v (λ seat. load seat word) (loaded value)
+RepliesLoaded width all v word value = Replies width all v (λ seat. load seat word) (Loaded value)
 
 -- the step machine clears the next entry of the row, at a seat that has this view
 abbrev pub RepliesCleared : ℕ → ℕ → View → List Entry → Type 0
-RepliesCleared width all v row = (old : ℕ) × Replies width all v (λ seat. clear seat row) (was old)
+RepliesCleared width all v row = (old : ℕ) × Replies width all v (λ seat. clear seat row) (Cleared old)
 
 -- the step machine closes with these words, at a seat that has this view
 abbrev pub RepliesClosed : ℕ → ℕ → View → List ℕ → Type 0
-RepliesClosed width all v words = Replies width all v close (closed words)
+RepliesClosed width all v words = Replies width all v close (Closed words)
 
 -- after some events a seat of the step machine has this view, and some view has cleared this bit: it has offered a row with it, or is offering one
 pub record WasCleared (width all : ℕ) (v : View) (word bit : ℕ) : Type 0 where
-  pub events : List Event
+  pub events : List StepEvent
   pub rows : HaveRows events
   pub seat : ℕ
   pub has : get_elem? (after width all events).0.views seat ≡ some v

@@ -5,7 +5,7 @@ ghost use Rattle.word_rule.specs.Holdings.{IsOf, IsSeated};
 ghost use Rattle.word_rule.specs.Shown.{shows};
 ghost use Rattle.word_rule.specs.Standing.{read_until};
 ghost use Rattle.word_rule.specs.History.{AllBegin, ClearedBefore, Grows, IsOne, LoadHappened};
-ghost use Rattle.word_rows.specs.declared.events.Event.{Event};
+ghost use Rattle.word_rows.specs.declared.events.StepEvent.{StepEvent};
 ghost use Rattle.word_rows.specs.Words.{bit_of};
 
 use crate::passes::Pass;
@@ -50,7 +50,7 @@ impl MeetTable {
         ensures grows { Grows pass.old.pasts pass.new.pasts }
         ensures one { IsOne pass.new.pasts }
         // in each history that goes on from what the pass knows now, some view had cleared each bit that is 0
-        ensures cleared { (i b : ℕ) → i < length into.new → b < 64 → bit_of into.new i b ≡ 0 → (history : List Event) → AllBegin pass.new.pasts history → ClearedBefore self.now.width self.now.all history i b }
+        ensures cleared { (i b : ℕ) → i < length into.new → b < 64 → bit_of into.new i b ≡ 0 → (history : List StepEvent) → AllBegin pass.new.pasts history → ClearedBefore self.now.width self.now.all history i b }
     {
         events_keep_sound();
         load_words(&self.table.shared, &mut pass.seat, into);

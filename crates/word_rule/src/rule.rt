@@ -1,6 +1,6 @@
 use atomic_table::TableRule;
 use std::collections::LinkedList;
-use word_rows::{Event, View};
+use word_rows::{StepEvent, View};
 
 /// What is fixed when a table is opened.
 #[derive(Clone, Copy)]
@@ -14,7 +14,7 @@ pub struct Plan {
 /// What a seat did and knows, and beginnings of the history that it knows: the events up to its last step, or after a join those of both. No value of it is made.
 pub struct Knower {
     pub view: View,
-    pub pasts: LinkedList<LinkedList<Event>>,
+    pub pasts: LinkedList<LinkedList<StepEvent>>,
 }
 
 /// What holds of a table between any two atomic steps of any threads.

@@ -6,7 +6,7 @@ ghost use Rattle.word_rows.specs.Changes.{IsIdle, with_reading};
 ghost use Rattle.word_rows.specs.Machine.{can_clear};
 ghost use Rattle.word_rule.specs.Holdings.{IsSeated};
 ghost use Rattle.word_rule.specs.Shown.{shows};
-ghost use Rattle.word_rule.specs.History.{Cleared, Grows, IsOne, LoadHappened, both_know, left_knows, new_knows};
+ghost use Rattle.word_rule.specs.History.{ClearTells, Grows, IsOne, LoadHappened, both_know, left_knows, new_knows};
 
 use crate::plays::{Clear, Counted, Cut, Load, Offered, Planned, Skip, Tell, Together};
 use crate::rule::{Keeps, Knower, Plan};
@@ -39,7 +39,7 @@ fn clear_entry<L: Offered>(
     requires next { can_clear seat.old.me.0.view row.now ≡ true }
     requires share { 0 < seat.old.me.0.view.shares }
     ensures table { seat.new.table_id ≡ seat.old.table_id }
-    ensures seat { Cleared shared.now.key.width shared.now.key.all row.now seat.old.me seat.new.me }
+    ensures seat { ClearTells shared.now.key.width shared.now.key.all row.now seat.old.me seat.new.me }
 {
     events_keep_sound();
     complement_clears();
@@ -64,7 +64,7 @@ fn skip_entry<L: Offered>(
     requires next { can_clear seat.old.me.0.view row.now ≡ true }
     requires share { 0 < seat.old.me.0.view.shares }
     ensures table { seat.new.table_id ≡ seat.old.table_id }
-    ensures seat { MatchBool result (Cleared shared.now.key.width shared.now.key.all row.now seat.old.me seat.new.me) (seat.new.me ≡ seat.old.me) }
+    ensures seat { MatchBool result (ClearTells shared.now.key.width shared.now.key.all row.now seat.old.me seat.new.me) (seat.new.me ≡ seat.old.me) }
 {
     events_keep_sound();
     let Entry { word, mask } = row[at];
@@ -88,7 +88,7 @@ pub(crate) fn offer_entry<L: Offered>(
     requires next { can_clear seat.old.me.0.view row.now ≡ true }
     requires share { 0 < seat.old.me.0.view.shares }
     ensures table { seat.new.table_id ≡ seat.old.table_id }
-    ensures seat { Cleared shared.now.key.width shared.now.key.all row.now seat.old.me seat.new.me }
+    ensures seat { ClearTells shared.now.key.width shared.now.key.all row.now seat.old.me seat.new.me }
 {
     if !skip_entry::<L>(shared, seat, row, at) {
         clear_entry::<L>(shared, seat, row, at);

@@ -1,4 +1,4 @@
-use Rattle.word_rows.proofs.Forms.{goes_on_all}
+use Rattle.word_rows.proofs.RowLemmas.{goes_on_all}
 use Rattle.word_rows.proofs.entries.ascends.Goals as goal
 
 pub loop-entry-init : goal.loop-entry-init

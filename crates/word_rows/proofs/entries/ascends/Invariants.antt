@@ -1,6 +1,6 @@
 use Rattle.std.proofs.Common.{◌≡◌, drop}
 use Rattle.word_rows.specs.Rows.{is_ascending}
-use Rattle.word_rows.proofs.Forms.{goes_on}
+use Rattle.word_rows.proofs.RowLemmas.{goes_on}
 use Rattle.word_rows.proofs.entries.ascends.Given as goal
 
 abbrev pub invariant-loop-entry : goal.invariant-loop-entry

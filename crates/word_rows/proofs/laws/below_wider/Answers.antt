@@ -1,4 +1,4 @@
-use Rattle.word_rows.proofs.Meets.{below_wider}
+use Rattle.word_rows.proofs.MeetLemmas.{below_wider}
 use Rattle.word_rows.proofs.laws.below_wider.Goals as goal
 
 pub returns : goal.returns

@@ -1,4 +1,4 @@
-use Rattle.word_rows.proofs.Meets.{clears_below}
+use Rattle.word_rows.proofs.MeetLemmas.{clears_below}
 use Rattle.word_rows.proofs.laws.clears_below.Goals as goal
 
 pub returns : goal.returns

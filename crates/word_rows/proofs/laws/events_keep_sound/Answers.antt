@@ -1,4 +1,4 @@
-use Rattle.word_rows.proofs.Machines.{events_keep_sound}
+use Rattle.word_rows.proofs.MachineLemmas.{events_keep_sound}
 use Rattle.word_rows.proofs.laws.events_keep_sound.Goals as goal
 
 pub returns : goal.returns

@@ -1,4 +1,4 @@
-use Rattle.word_rows.proofs.Machines.{opening_is_sound}
+use Rattle.word_rows.proofs.MachineLemmas.{opening_is_sound}
 use Rattle.word_rows.proofs.laws.opening_is_sound.Goals as goal
 
 pub returns : goal.returns

@@ -1,4 +1,4 @@
-use Rattle.word_rows.proofs.Machines.{step_keeps_sound}
+use Rattle.word_rows.proofs.MachineLemmas.{step_keeps_sound}
 use Rattle.word_rows.proofs.laws.step_keeps_sound.Goals as goal
 
 pub returns : goal.returns

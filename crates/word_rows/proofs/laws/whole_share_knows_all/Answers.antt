@@ -1,4 +1,4 @@
-use Rattle.word_rows.proofs.Closing.{whole_share_knows_all}
+use Rattle.word_rows.proofs.CloseLemmas.{whole_share_knows_all}
 use Rattle.word_rows.proofs.laws.whole_share_knows_all.Goals as goal
 
 pub returns : goal.returns

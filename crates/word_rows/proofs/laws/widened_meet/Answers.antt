@@ -1,4 +1,4 @@
-use Rattle.word_rows.proofs.Meets.{widened_meet}
+use Rattle.word_rows.proofs.MeetLemmas.{widened_meet}
 use Rattle.word_rows.proofs.laws.widened_meet.Goals as goal
 
 pub returns : goal.returns

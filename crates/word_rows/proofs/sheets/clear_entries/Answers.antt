@@ -3,7 +3,7 @@ use Rattle.std.proofs.lemmas.List.Folds.{list_any_more}
 use Rattle.word_rows.specs.declared.entries.Entry.{Entry}
 use Rattle.word_rows.specs.Rows.{entry_clears, clears}
 use Rattle.word_rows.specs.Words.{bit_of}
-use Rattle.word_rows.proofs.Bits.{write_clears}
+use Rattle.word_rows.proofs.BitLemmas.{write_clears}
 use Rattle.word_rows.proofs.sheets.clear_entries.Goals as goal
 
 pub loop-entry-preserved : goal.loop-entry-preserved

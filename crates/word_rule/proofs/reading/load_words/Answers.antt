@@ -1,9 +1,9 @@
 use Rattle.std.proofs.Common.{rules, ◌≡◌, ◌<◌, length, true, ℕ, List, ap, ◌∙◌, subst}
 use Rattle.std.specs.Int.{bit_at}
 use Rattle.word_rows.specs.declared.views.View.{View}
-use Rattle.word_rows.specs.declared.events.Event.{Event}
-use Rattle.word_rows.specs.declared.events.Event.TheVariants.{Load as load}
-use Rattle.word_rows.specs.Machine.{loaded}
+use Rattle.word_rows.specs.declared.events.StepEvent.{StepEvent}
+use Rattle.word_rows.specs.declared.events.StepEvent.TheVariants.{Load as load}
+use Rattle.word_rows.specs.declared.replies.Reply.TheVariants.{Loaded}
 use Rattle.word_rows.specs.Changes.{with_reading}
 use Rattle.word_rule.specs.Shown.{shows}
 use Rattle.word_rule.specs.Standing.{read_until}
@@ -24,7 +24,7 @@ loop-word-preserved c = let v = c.args.seat.now.me.0.view in let first = c.args.
       happened = step_told v into i x inside (λ (u : View) (j n : ℕ). LoadHappened key.width key.all first u j n then)
           (λ j l. happened_after key.width key.all first before then _ (λ seat. load seat j) _ c.load_word.ensures.grows (inv.happened j l))
           (subst (λ (u : View). LoadHappened key.width key.all first u i x then) inv.view
-          (happened_before key.width key.all first before then _ (λ seat. load seat i) (loaded x) inv.grows c.load_word.ensures.happened));
+          (happened_before key.width key.all first before then _ (λ seat. load seat i) (Loaded x) inv.grows c.load_word.ensures.happened));
       grows = λ history begins. inv.grows history (c.load_word.ensures.grows history begins);
       one = λ _. c.load_word.ensures.one;
     }

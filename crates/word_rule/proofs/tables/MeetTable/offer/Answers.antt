@@ -1,9 +1,10 @@
 use Rattle.std.proofs.Common.{rules, ◌≡◌, ◌<◌, ℕ, List, [], length, sym, ap, subst, ◌∙◌}
 use Rattle.word_rows.specs.declared.entries.Entry.{Entry}
 use Rattle.word_rows.specs.declared.views.View.{View}
-use Rattle.word_rows.specs.declared.events.Event.TheVariants.{Clear as clear}
+use Rattle.word_rows.specs.declared.events.StepEvent.TheVariants.{Clear as clear}
 use Rattle.word_rows.specs.Changes.{IsIdle, cleared_next}
-use Rattle.word_rows.specs.Machine.{was, can_clear}
+use Rattle.word_rows.specs.Machine.{can_clear}
+use Rattle.word_rows.specs.declared.replies.Reply.TheVariants.{Cleared}
 use Rattle.word_rule.specs.Standing.{offered_until}
 use Rattle.word_rule.specs.History.{ClearHappened}
 use Rattle.word_rule.proofs.Rows.{next, one_told}
@@ -40,8 +41,8 @@ loop-at-preserved c = let v = c.args.pass.now.view in let first = c.args.pass.no
       view = c.offer_entry.ensures.seat.view ∙ ap (λ (x : View). cleared_next x entries) inv.view ∙ ap (cleared_next (offered_until v row at)) same ∙ more;
       held = c.offer_entry.ensures.seat.held ∙ inv.held;
       happened = one_told (λ (x : View). ClearHappened w a first x row then) v u row at inv.view
-          (λ k l. let o = inv.happened k l in (o.0, happened_after w a first before then _ (λ seat. clear seat row) (was o.0) c.offer_entry.ensures.seat.grows o.1))
-          (told.0, happened_before w a first before then _ (λ seat. clear seat row) (was told.0) inv.grows told.1);
+          (λ k l. let o = inv.happened k l in (o.0, happened_after w a first before then _ (λ seat. clear seat row) (Cleared o.0) c.offer_entry.ensures.seat.grows o.1))
+          (told.0, happened_before w a first before then _ (λ seat. clear seat row) (Cleared told.0) inv.grows told.1);
       grows = λ history begins. inv.grows history (c.offer_entry.ensures.seat.grows history begins);
       one = λ _. c.offer_entry.ensures.seat.one;
     }

@@ -1,9 +1,10 @@
 -- The form of a row, entry by entry.
 use Rattle.std.proofs.Common.{◌≡◌, ℕ, ◌+◌, ◌<◌, ◌≤◌, Bool, true, false, not, ◌&&◌, ◌==◌, nat_lt, List, [], ◌∷◌, length, map, sym, refl, ap, ◌∙◌, arith}
-use Rattle.std.proofs.lemmas.Bool.{false≢true, lt-ltb, le-ltb, ltb-true, ltb-false, and_parts, and_from, not_from_false, not-true}
+use Rattle.std.proofs.lemmas.Bool.{false≢true, eq-eqb, eqb-true, lt-ltb, le-ltb, ltb-true, ltb-false, and_parts, and_from, not_from_false, not-true}
 use Rattle.std.specs.List.{list_all}
 use Rattle.word_rows.specs.declared.entries.Entry.{Entry}
-use Rattle.word_rows.specs.Rows.{is_rising, is_ascending, is_row}
+use Rattle.word_rows.specs.Rows.{is_rising, is_ascending, is_row, same_entry, same_row}
+use Rattle.word_rows.specs.Meeting.{SameRowIsOne, RowIsSame}
 
 -- a row has an entry
 pub row_long : (row : List Entry) → is_row row ≡ true → 0 < length row
@@ -69,3 +70,17 @@ all_from_none (e ∷ es) = and_from _ _ (not_from_false _ (le-ltb e.word 0 (omeg
 -- from the first entry on
 pub goes_on_all : (row : List Entry) → goes_on 0 row ≡ is_ascending row
 goes_on_all row = goes_on_is 0 row ∙ ap (λ (t : Bool). t && is_rising (map word_of row) && masked row) (all_from_none row)
+
+-- ---- equality by entries
+pub same_row_is_one : SameRowIsOne
+same_row_is_one [] [] t = refl
+same_row_is_one [] (y ∷ ys) t = absurd (false≢true t)
+same_row_is_one (x ∷ xs) [] t = absurd (false≢true t)
+same_row_is_one (x ∷ xs) (y ∷ ys) t =
+    let p = and_parts (same_entry x y) (same_row xs ys) t in let q = and_parts (x.word == y.word) (x.mask == y.mask) p.0 in
+    let w : x.word ≡ y.word = eqb-true _ _ q.0 in let m : x.mask ≡ y.mask = eqb-true _ _ q.1 in
+    λ j. record { word = w j; mask = m j } ∷ same_row_is_one xs ys p.1 j
+
+pub row_is_same : RowIsSame
+row_is_same [] = refl
+row_is_same (e ∷ es) = and_from _ _ (and_from _ _ (eq-eqb e.word e.word refl) (eq-eqb e.mask e.mask refl)) (row_is_same es)

@@ -11,7 +11,7 @@ use Rattle.word_rows.specs.Words.{bit_of}
 use Rattle.word_rows.specs.Accounts.{Each, AreZero, views_clear, lacks, readings_below}
 use Rattle.word_rows.specs.Changes.{with_reading}
 use Rattle.word_rows.specs.Sound.{IsSound, IsBelow}
-use Rattle.word_rows.proofs.ViewLists.{each_set, total_set, set_clears, or_false, lacks-append}
+use Rattle.word_rows.proofs.ViewLemmas.{each_set, total_set, set_clears, or_false, lacks_append}
 
 pub readings_below-append : (n : ℕ) (xs ys : List Reading) → readings_below n xs ≡ true → readings_below n ys ≡ true → readings_below n (xs ++ ys) ≡ true
 readings_below-append n xs ys h t = list_all-append _ xs ys ∙ and_from _ _ h t
@@ -34,7 +34,7 @@ module _ (words : List ℕ) (all : ℕ) (views : List View) (s : IsSound words a
       (λ (o : lacks v.readings i b ≡ true). s.kept id v at i b h l o)
       (λ (o : lacks (last ∷ []) i b ≡ true). let p = and_parts (word == i) (bit_at value b == 0) (sym (or_false _) ∙ o) in
       ap (λ (k : ℕ). bit_of words k b) (sym (eqb-true word i p.0)) ∙ eqb-true (bit_at value b) 0 p.1)
-      (or_cases _ _ (sym (lacks-append v.readings (last ∷ []) i b) ∙ t))
+      (or_cases _ _ (sym (lacks_append v.readings (last ∷ []) i b) ∙ t))
 
   kept' : Each (λ u. AreZero words (lacks u.readings)) vs
   kept' = each_set _ views id w mine s.kept

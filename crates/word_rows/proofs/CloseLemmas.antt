@@ -14,9 +14,9 @@ use Rattle.word_rows.specs.Accounts.{view_clears, views_clear, lacks, readings_b
 use Rattle.word_rows.specs.Changes.{IsIdle}
 use Rattle.word_rows.specs.Sound.{IsSound}
 use Rattle.word_rows.specs.Keeping.{WholeShareKnowsAll}
-use Rattle.word_rows.proofs.ViewLists.{share_of, no_share, some_clears}
-use Rattle.word_rows.proofs.Sharing.{done_only}
-use Rattle.word_rows.proofs.Opening.{full_bit, full_length}
+use Rattle.word_rows.proofs.ViewLemmas.{share_of, no_share, some_clears}
+use Rattle.word_rows.proofs.ShareLemmas.{done_only}
+use Rattle.word_rows.proofs.OpeningLemmas.{full_bit, full_length}
 
 take_nil : (k : ℕ) → ◌≡◌ {A = List Entry} (take k []) []
 take_nil zero = refl

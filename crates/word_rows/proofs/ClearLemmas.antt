@@ -12,8 +12,8 @@ use Rattle.word_rows.specs.Words.{bit_of, without_entry}
 use Rattle.word_rows.specs.Accounts.{Each, AreZero, view_clears, views_clear, lacks}
 use Rattle.word_rows.specs.Changes.{finished, part_way, cleared_next}
 use Rattle.word_rows.specs.Sound.{IsSound, IsPartWay, IsBelow}
-use Rattle.word_rows.proofs.Bits.{bit_lost, bit_stays, bit_goes}
-use Rattle.word_rows.proofs.ViewLists.{each_set, total_set, set_clears, put_here, one_clears, or_assoc, or_false, clears-append, rows_clear-append}
+use Rattle.word_rows.proofs.BitLemmas.{bit_lost, bit_stays, bit_goes}
+use Rattle.word_rows.proofs.ViewLemmas.{each_set, total_set, set_clears, put_here, one_clears, or_assoc, or_false, clears_append, rows_clear_append}
 
 -- what a view is after one more entry was cleared by it
 pub record Clears (width : ℕ) (v : View) (e : Entry) (w : View) : Type 0 where
@@ -90,12 +90,12 @@ module _ (width : ℕ) (v : View) (row : List Entry) (e : Entry) (on : GoesOn v 
   taken = take_more row k e on.0 ∙ ap (λ (x : Entry). take k row ++ x ∷ []) is ∙ ap (λ (l : List Entry). l ++ e ∷ []) (sym on.1)
 
   row_more : (i b : ℕ) → clears (take (k + 1) row) i b ≡ (clears (take k v.row) i b || entry_clears e i b)
-  row_more i b = ap (λ (l : List Entry). clears l i b) taken ∙ clears-append (take k v.row) (e ∷ []) i b ∙ ap (λ (y : Bool). clears (take k v.row) i b || y) (or_false (entry_clears e i b))
+  row_more i b = ap (λ (l : List Entry). clears l i b) taken ∙ clears_append (take k v.row) (e ∷ []) i b ∙ ap (λ (y : Bool). clears (take k v.row) i b || y) (or_false (entry_clears e i b))
 
   ends : k + 1 ≡ length row → Clears width v e (finished v row)
   ends last = record {
     more = λ i b. let whole : clears row i b ≡ (clears (take k v.row) i b || entry_clears e i b) = ap (λ (l : List Entry). clears l i b) (sym (take_all (k + 1) row (omega arith))) ∙ row_more i b in
-        or_false _ ∙ rows_clear-append v.done (row ∷ []) i b ∙ ap (λ (y : Bool). rows_clear v.done i b || y) (or_false (clears row i b) ∙ whole) ∙ sym (or_assoc (rows_clear v.done i b) (clears (take k v.row) i b) (entry_clears e i b));
+        or_false _ ∙ rows_clear_append v.done (row ∷ []) i b ∙ ap (λ (y : Bool). rows_clear v.done i b || y) (or_false (clears row i b) ∙ whole) ∙ sym (or_assoc (rows_clear v.done i b) (clears (take k v.row) i b) (entry_clears e i b));
     shares = refl;
     some_share = some_share;
     seen = refl;

@@ -7,31 +7,22 @@ use mathlib.Core.Option.{some}
 use lib.ListN.{get_elem?}
 use Rattle.word_rows.specs.declared.entries.Entry.{Entry}
 use Rattle.word_rows.specs.declared.views.View.{View}
-use Rattle.word_rows.specs.Rows.{is_row, below}
+use Rattle.word_rows.specs.Rows.{is_row, below, same_row}
 use Rattle.word_rows.specs.Changes.{IsIdle, cleared_next, left_by, new_of, joined, empty_view}
 use Rattle.word_rows.specs.Sound.{IsPartWay}
-use Rattle.word_rows.specs.Machine.{StepState, Event, Fault, clear, load, split, join, close, opened, step, steps, fault_of, next_state, settled, HasRow, HaveRows, IsSoundState, is_live, view_at, is_idle, can_clear, same_entry, same_row, entry_at, no_seat, row_open, bad_share, bad_word}
+use Rattle.word_rows.specs.Machine.{StepState, StepEvent, Fault, clear, load, split, join, close, opened, step, steps, fault_of, next_state, settled, HasRow, HaveRows, IsSoundState, is_live, view_at, is_idle, can_clear, entry_at, no_seat, row_open, bad_share, bad_word}
 use Rattle.word_rows.specs.Keeping.{OpeningIsSound, StepKeepsSound, EventsKeepSound}
-use Rattle.word_rows.proofs.Forms.{row_long}
-use Rattle.word_rows.proofs.ViewLists.{set_else, at_index}
-use Rattle.word_rows.proofs.Clearing.{GoesOn, clear_keeps, next_clears}
-use Rattle.word_rows.proofs.Loading.{load_keeps}
-use Rattle.word_rows.proofs.Sharing.{split_keeps, join_keeps}
-use Rattle.word_rows.proofs.Opening.{opening_sound}
+use Rattle.word_rows.proofs.RowLemmas.{row_long, same_row_is_one}
+use Rattle.word_rows.proofs.ViewLemmas.{set_else, at_index}
+use Rattle.word_rows.proofs.ClearLemmas.{GoesOn, clear_keeps, next_clears}
+use Rattle.word_rows.proofs.LoadLemmas.{load_keeps}
+use Rattle.word_rows.proofs.ShareLemmas.{split_keeps, join_keeps}
+use Rattle.word_rows.proofs.OpeningLemmas.{opening_sound}
 
 live_inside : (l : List Bool) (i : ℕ) → get_or l i false ≡ true → i < length l
 live_inside [] i t = absurd (false≢true t)
 live_inside (b ∷ bs) zero t = omega arith
 live_inside (b ∷ bs) (suc i) t = let h = live_inside bs i t in omega arith
-
-same_row-true : (xs ys : List Entry) → same_row xs ys ≡ true → xs ≡ ys
-same_row-true [] [] t = refl
-same_row-true [] (y ∷ ys) t = absurd (false≢true t)
-same_row-true (x ∷ xs) [] t = absurd (false≢true t)
-same_row-true (x ∷ xs) (y ∷ ys) t =
-    let p = and_parts (same_entry x y) (same_row xs ys) t in let q = and_parts (x.word == y.word) (x.mask == y.mask) p.0 in
-    let w : x.word ≡ y.word = eqb-true _ _ q.0 in let m : x.mask ≡ y.mask = eqb-true _ _ q.1 in
-    λ j. record { word = w j; mask = m j } ∷ same_row-true xs ys p.1 j
 
 pos : (n : ℕ) → (n ≡ 0 → ⊥) → 0 < n
 pos zero h = absurd (h refl)
@@ -46,7 +37,7 @@ goes_from : (v : View) (row : List Entry) → IsPartWay v → is_row row ≡ tru
 goes_from v row p r o = let long = row_long row r in
     let begins : v.cleared ≡ 0 → GoesOn v row = λ z. ((omega arith), (λ j. take (z j) v.row) ∙ (λ j. take (sym z j) row)) in ⊎_elim
     (λ (i : is_idle v ≡ true). begins (eqb-true _ _ i))
-    (λ (i : same_row v.row row ≡ true). let same : v.row ≡ row = same_row-true v.row row i in ⊎_elim
+    (λ (i : same_row v.row row ≡ true). let same : v.row ≡ row = same_row_is_one v.row row i in ⊎_elim
     (λ (idle : IsIdle v). begins idle.1)
     (λ (h : (0 < v.cleared) × (v.cleared < length v.row)). let g : GoesOn v row = (subst (λ (l : List Entry). v.cleared < length l) same h.1, ap (λ (l : List Entry). take v.cleared l) same) in g)
     p)
@@ -115,14 +106,14 @@ module _ (s : StepState) (f : IsSoundState s) where
         seats = length-set s.live other false ∙ f.seats ∙ sym (length-set (set s.views seat (joined v w)) other empty_view ∙ length-set s.views seat (joined v w));
       }
 
-  next_sound : (e : Event) → HasRow e → fault_of s e ≡ None → IsSoundState (next_state s e)
+  next_sound : (e : StepEvent) → HasRow e → fault_of s e ≡ None → IsSoundState (next_state s e)
   next_sound (clear seat row) r none = clear_sound seat row r none
   next_sound (load seat word) r none = load_sound seat word none
   next_sound (split seat n) r none = split_sound seat n none
   next_sound (join seat other) r none = join_sound seat other none
   next_sound (close seat) r none = record { sound = f.sound; seats = length-map s.live (λ (_ : Bool). false) ∙ f.seats }
 
-  settled_sound : (e : Event) (fault : Option Fault) → HasRow e → fault_of s e ≡ fault → IsSoundState (settled s e fault).0
+  settled_sound : (e : StepEvent) (fault : Option Fault) → HasRow e → fault_of s e ≡ fault → IsSoundState (settled s e fault).0
   settled_sound e None r is = next_sound e r is
   settled_sound e (Some fault) r is = f
 
@@ -132,7 +123,7 @@ opening_is_sound width all = record { sound = opening_sound width all; seats = r
 pub step_keeps_sound : StepKeepsSound
 step_keeps_sound s e f r = settled_sound s f e (fault_of s e) r refl
 
-steps_keep_sound : (s : StepState) (events : List Event) → IsSoundState s → HaveRows events → IsSoundState (steps s events).0
+steps_keep_sound : (s : StepState) (events : List StepEvent) → IsSoundState s → HaveRows events → IsSoundState (steps s events).0
 steps_keep_sound s [] f r = f
 steps_keep_sound s (e ∷ es) f r = steps_keep_sound (step s e).0 es (step_keeps_sound s e f r.0) r.1
 

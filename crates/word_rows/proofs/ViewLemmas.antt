@@ -11,6 +11,7 @@ use Rattle.word_rows.specs.declared.views.Reading.{Reading}
 use Rattle.word_rows.specs.declared.views.View.{View}
 use Rattle.word_rows.specs.Rows.{entry_clears, clears, rows_clear}
 use Rattle.word_rows.specs.Accounts.{Each, view_clears, views_clear, lacks, total_shares}
+use Rattle.word_rows.specs.Meeting.{ClearsAppend, RowsClearAppend, LacksAppend}
 
 module _ {A : Type 0} where
   pub at_set : (l : List A) (i j : ℕ) (a b : A) → get_elem? (set l i a) j ≡ some b → ((j ≡ i) × (a ≡ b)) ⊎ ((j ≢ i) × (get_elem? l j ≡ some b))
@@ -97,14 +98,14 @@ pub or_false : (a : Bool) → (a || false) ≡ a
 or_false true = refl
 or_false false = refl
 
-pub clears-append : (xs ys : List Entry) (i b : ℕ) → clears (xs ++ ys) i b ≡ (clears xs i b || clears ys i b)
-clears-append xs ys i b = list_any-append (λ (e : Entry). entry_clears e i b) xs ys
+pub clears_append : ClearsAppend
+clears_append xs ys i b = list_any-append (λ (e : Entry). entry_clears e i b) xs ys
 
-pub rows_clear-append : (xs ys : List (List Entry)) (i b : ℕ) → rows_clear (xs ++ ys) i b ≡ (rows_clear xs i b || rows_clear ys i b)
-rows_clear-append xs ys i b = list_any-append (λ (row : List Entry). clears row i b) xs ys
+pub rows_clear_append : RowsClearAppend
+rows_clear_append xs ys i b = list_any-append (λ (row : List Entry). clears row i b) xs ys
 
-pub lacks-append : (xs ys : List Reading) (i b : ℕ) → lacks (xs ++ ys) i b ≡ (lacks xs i b || lacks ys i b)
-lacks-append xs ys i b = list_any-append (λ (r : Reading). (r.word == i) && (bit_at r.value b == 0)) xs ys
+pub lacks_append : LacksAppend
+lacks_append xs ys i b = list_any-append (λ (r : Reading). (r.word == i) && (bit_at r.value b == 0)) xs ys
 
 -- a bit that one view clears is cleared
 pub one_clears : (views : List View) (id : ℕ) (v : View) (i b : ℕ) → get_elem? views id ≡ some v → view_clears v i b ≡ true → views_clear views i b ≡ true

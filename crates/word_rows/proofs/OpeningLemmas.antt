@@ -7,7 +7,7 @@ use Rattle.std.specs.Int.{bit_at}
 use Rattle.word_rows.specs.Words.{bit_of, full}
 use Rattle.word_rows.specs.Changes.{first_view}
 use Rattle.word_rows.specs.Sound.{IsSound, IsBelow}
-use Rattle.word_rows.proofs.ViewLists.{each_one}
+use Rattle.word_rows.proofs.ViewLemmas.{each_one}
 
 pub full_bit : (width i b : ℕ) → i < width → b < 64 → bit_of (full width) i b ≡ 1
 full_bit width i b h l = ap (λ (n : ℕ). bit_at n b) (get_or-replicate width i 18446744073709551615 0 h) ∙ bit_at_ones 64 b l

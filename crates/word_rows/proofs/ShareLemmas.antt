@@ -10,8 +10,8 @@ use Rattle.word_rows.specs.Rows.{clears, rows_clear, below, rows_below}
 use Rattle.word_rows.specs.Accounts.{Each, AreZero, view_clears, views_clear, lacks}
 use Rattle.word_rows.specs.Changes.{IsIdle, left_by, new_of, joined, empty_view}
 use Rattle.word_rows.specs.Sound.{IsSound, IsBelow}
-use Rattle.word_rows.proofs.ViewLists.{at_set, put_here, set_else, each_set, each_snoc, total_set, total_snoc, set_clears, snoc_clears, one_clears, no_less, or_false, rows_clear-append, lacks-append}
-use Rattle.word_rows.proofs.Loading.{readings_below-append}
+use Rattle.word_rows.proofs.ViewLemmas.{at_set, put_here, set_else, each_set, each_snoc, total_set, total_snoc, set_clears, snoc_clears, one_clears, no_less, or_false, rows_clear_append, lacks_append}
+use Rattle.word_rows.proofs.LoadLemmas.{readings_below-append}
 
 pub rows_below-append : (n : ℕ) (xs ys : List (List Entry)) → rows_below n xs ≡ true → rows_below n ys ≡ true → rows_below n (xs ++ ys) ≡ true
 rows_below-append n xs ys h t = list_all-append (below n) xs ys ∙ and_from _ _ h t
@@ -42,7 +42,7 @@ module _ (words : List ℕ) (all : ℕ) (views : List View) (s : IsSound words a
 
   -- what was seen or done by the view is cleared
   known : AreZero words (rows_clear new.seen)
-  known = both_zero words (rows_clear new.seen) (rows_clear v.seen) (rows_clear v.done) (rows_clear-append v.seen v.done) (s.seen id v at)
+  known = both_zero words (rows_clear new.seen) (rows_clear v.seen) (rows_clear v.done) (rows_clear_append v.seen v.done) (s.seen id v at)
       (λ i b h l t. s.cleared id v at i b h l (or_left _ _ t))
 
   nothing : (test : ℕ → ℕ → Bool) → ((i b : ℕ) → test i b ≡ false) → AreZero words test
@@ -84,7 +84,7 @@ module _ (words : List ℕ) (all : ℕ) (views : List View) (s : IsSound words a
   at' = ⊎_elim (λ t. absurd (apart t.0)) (λ t. t.1) (at_set views id other both w there)
 
   both_clear : (i b : ℕ) → view_clears both i b ≡ (view_clears v i b || view_clears w i b)
-  both_clear i b = done_only both rests i b ∙ rows_clear-append v.done w.done i b ∙ λ j. sym (done_only v rests i b) j || sym (done_only w rests' i b) j
+  both_clear i b = done_only both rests i b ∙ rows_clear_append v.done w.done i b ∙ λ j. sym (done_only v rests i b) j || sym (done_only w rests' i b) j
 
   here : get_elem? merged id ≡ some both
   here = set_else middle other id empty_view (λ h. apart (sym h)) ∙ put_here views id v both at
@@ -104,7 +104,7 @@ module _ (words : List ℕ) (all : ℕ) (views : List View) (s : IsSound words a
 
   kept'' : Each (λ u. AreZero words (lacks u.readings)) merged
   kept'' = each_set _ middle other empty_view (nothing' (lacks []) (λ i b. refl))
-      (each_set _ views id both (both_zero words (lacks both.readings) (lacks v.readings) (lacks w.readings) (lacks-append v.readings w.readings) (s.kept id v at) (s.kept other w at')) s.kept)
+      (each_set _ views id both (both_zero words (lacks both.readings) (lacks v.readings) (lacks w.readings) (lacks_append v.readings w.readings) (s.kept id v at) (s.kept other w at')) s.kept)
 
   none_done : both.shares ≡ 0 → (both.done ≡ []) × (both.row ≡ [])
   none_done z = let a = s.idle id v at (omega arith) in let b = s.idle other w at' (omega arith) in ((λ j. a.0 j ++ b.0 j), rests.0)
@@ -122,7 +122,7 @@ module _ (words : List ℕ) (all : ℕ) (views : List View) (s : IsSound words a
     kept = kept'';
     found = λ j u o i b h l t. merged_clear i b (s.accounted i b h l (kept'' j u o i b h l t));
     seen = each_set _ middle other empty_view (nothing' (rows_clear []) (λ i b. refl))
-        (each_set _ views id both (both_zero words (rows_clear both.seen) (rows_clear v.seen) (rows_clear w.seen) (rows_clear-append v.seen w.seen) (s.seen id v at) (s.seen other w at')) s.seen);
+        (each_set _ views id both (both_zero words (rows_clear both.seen) (rows_clear v.seen) (rows_clear w.seen) (rows_clear_append v.seen w.seen) (s.seen id v at) (s.seen other w at')) s.seen);
     progress = each_set _ middle other empty_view (inl (refl, refl)) (each_set _ views id both (inl rests) s.progress);
     named = each_set (IsBelow (length words)) middle other empty_view (record { done = refl; row = refl; seen = refl; readings = refl }) (each_set (IsBelow (length words)) views id both (named_both (s.named id v at) (s.named other w at')) s.named);
   }

@@ -9,7 +9,7 @@ use Rattle.std.specs.Int.{bit_at}
 use Rattle.word_rows.specs.declared.entries.Entry.{Entry}
 use Rattle.word_rows.specs.Rows.{entry_clears, clears, rows_clear, below, rows_below}
 use Rattle.word_rows.specs.Words.{bit_of, full, IsCommon}
-use Rattle.word_rows.specs.Meeting.{BelowWider, ClearsBelow, OrderIsFree, MeetIsUnique, MeetBegins, MeetsFollow, CommonIsMeet, WidenedMeet}
+use Rattle.word_rows.specs.Meeting.{BelowWider, ClearsBelow, OrderIsFree, MeetIsUnique, MeetBegins, MeetsFollow, CommonIsMeet, WidenedMeet, MeetByBits, CommonByAnd}
 
 cond_at : (c d : Bool) (x : ℕ) → c ≡ d → cond c 0 x ≡ cond d 0 x
 cond_at c d x e = ap (λ (t : Bool). cond t 0 x) e
@@ -92,8 +92,14 @@ widened_meet words met rows more named m = record {
 }
 
 -- words that are met word by word
-pub common_from : (old other new : List ℕ) → length new ≡ length old → ((k : ℕ) → k < length old → slice_index new k ≡ bit_and (slice_index old k) (slice_index other k)) → IsCommon old other new
-common_from old other new long met = record {
+pub common_by_and : CommonByAnd
+common_by_and old other new long met = record {
   width = long;
   bits = λ i b h l. ap (λ (n : ℕ). bit_at n b) (met i h) ∙ bit_at_and (slice_index old i) (slice_index other i) b;
+}
+
+pub meet_by_bits : MeetByBits
+meet_by_bits words met rows others same m = record {
+  width = m.width;
+  bits = λ i b h l. m.bits i b h l ∙ cond_at (rows_clear rows i b) (rows_clear others i b) (bit_of words i b) (same i b h l);
 }

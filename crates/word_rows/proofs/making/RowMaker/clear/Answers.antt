@@ -1,0 +1,48 @@
+use Rattle.std.proofs.Common.{◌≡◌, ℕ, ◌+◌, ◌*◌, ◌%◌, ◌^◌, bit_or, true, ◌⊎◌, inl, inr, ◌++◌, List, subst, sym}
+use Rattle.word_rows.specs.declared.entries.Entry.{Entry}
+use Rattle.word_rows.specs.Rows.{below, AddsBit}
+use Rattle.word_rows.specs.inner.Making.{IsMaking}
+use Rattle.word_rows.proofs.MakerLemmas.{last, same_makes, same_clears, same_reaches, new_makes, new_clears, new_reaches}
+use Rattle.word_rows.proofs.making.RowMaker.clear.Goals as goal
+use Rattle.word_rows.proofs.making.RowMaker.clear.Goals.{then-self-eq0-via-then-self-eq0, then-self-eq0-via-else-self-eq0+then-self-word}
+
+-- the row so far, as the maker keeps it, has no later word
+so_far : (word w m : ℕ) (finished old : List Entry) → finished ++ last w m ≡ old → below (word + 1) old ≡ true → below (word + 1) (finished ++ last w m) ≡ true
+so_far word w m finished old is t = subst (λ (l : List Entry). below (word + 1) l ≡ true) (sym is) t
+
+pub invariant_of-self : goal.invariant_of-self
+invariant_of-self c = let s = c.self.inside in
+    let same : (s.mask ≡ 0) ⊎ (s.word ≡ c.args.word) = elim c.then-self-eq0.branch [
+      | then-self-eq0-via-then-self-eq0 w ↦ inl w.if-self-eq0.true
+      | then-self-eq0-via-else-self-eq0+then-self-word w ↦ inr w.if-self-word.true
+    ] in
+    same_makes c.args.bit c.requires.bit s.finished.items s.word s.mask c.args.word c.self.invariant (so_far c.args.word s.word s.mask s.finished.items c.args.self.now c.self.view_is c.requires.no_later) same
+
+pub returns-then-self-eq0-clause-clears : goal.returns-then-self-eq0-clause-clears
+returns-then-self-eq0-clause-clears c = let s = c.self.inside in
+    let same : (s.mask ≡ 0) ⊎ (s.word ≡ c.args.word) = elim c.then-self-eq0.branch [
+      | then-self-eq0-via-then-self-eq0 w ↦ inl w.if-self-eq0.true
+      | then-self-eq0-via-else-self-eq0+then-self-word w ↦ inr w.if-self-word.true
+    ] in
+    subst (λ (l : List Entry). AddsBit l c.args.word c.args.bit (s.finished.items ++ last c.args.word (bit_or s.mask (1 * 2 ^ c.args.bit % 2 ^ 64)))) c.self.view_is
+    (same_clears c.args.bit c.requires.bit s.finished.items s.word s.mask c.args.word c.self.invariant (so_far c.args.word s.word s.mask s.finished.items c.args.self.now c.self.view_is c.requires.no_later) same)
+
+pub returns-then-self-eq0-clause-no_later : goal.returns-then-self-eq0-clause-no_later
+returns-then-self-eq0-clause-no_later c = let s = c.self.inside in
+    same_reaches c.args.bit c.requires.bit s.finished.items s.word s.mask c.args.word c.self.invariant (so_far c.args.word s.word s.mask s.finished.items c.args.self.now c.self.view_is c.requires.no_later)
+
+pub invariant_of-self-2 : goal.invariant_of-self-2
+invariant_of-self-2 c = let s = c.self.inside in
+    subst (λ (l : List Entry). IsMaking l c.args.word (1 * 2 ^ c.args.bit % 2 ^ 64)) (sym c.in_ok-push.ensures.items)
+    (new_makes c.args.bit c.requires.bit s.finished.items s.word s.mask c.args.word c.self.invariant (so_far c.args.word s.word s.mask s.finished.items c.args.self.now c.self.view_is c.requires.no_later) c.if-self-eq0.false c.if-self-word.false)
+
+pub returns-clause-clears : goal.returns-clause-clears
+returns-clause-clears c = let s = c.self.inside in let one : ℕ = 1 * 2 ^ c.args.bit % 2 ^ 64 in
+    subst (λ (l : List Entry). AddsBit l c.args.word c.args.bit (c.push.new.self.items ++ last c.args.word one)) c.self.view_is
+    (subst (λ (l : List Entry). AddsBit (s.finished.items ++ last s.word s.mask) c.args.word c.args.bit (l ++ last c.args.word one)) (sym c.in_ok-push.ensures.items)
+    (new_clears c.args.bit c.requires.bit s.finished.items s.word s.mask c.args.word c.self.invariant (so_far c.args.word s.word s.mask s.finished.items c.args.self.now c.self.view_is c.requires.no_later) c.if-self-eq0.false c.if-self-word.false))
+
+pub returns-clause-no_later : goal.returns-clause-no_later
+returns-clause-no_later c = let s = c.self.inside in
+    subst (λ (l : List Entry). below (c.args.word + 1) (l ++ last c.args.word (1 * 2 ^ c.args.bit % 2 ^ 64)) ≡ true) (sym c.in_ok-push.ensures.items)
+    (new_reaches c.args.bit c.requires.bit s.finished.items s.word s.mask c.args.word c.self.invariant (so_far c.args.word s.word s.mask s.finished.items c.args.self.now c.self.view_is c.requires.no_later) c.if-self-eq0.false c.if-self-word.false)
