@@ -1,5 +1,5 @@
 -- Bits of a word that lost those of a mask.
-use Rattle.std.proofs.Common.{◌≡◌, ℕ, zero, suc, ◌+◌, ◌-◌, ◌^◌, ◌<◌, ◌%◌, min, true, false, ◌&&◌, ◌||◌, ◌==◌, Bool, cond, List, length, bit_and, slice_index, slice_set, sym, refl, ap, ◌∙◌, subst, ⊎_elim, ◌⊎◌, inl, inr, arith, get_or-set_same, get_or-set_other}
+use Rattle.std.proofs.Common.{◌≡◌, ℕ, zero, suc, ◌+◌, ◌-◌, ◌^◌, ◌<◌, ◌%◌, min, true, false, ◌&&◌, ◌||◌, ◌==◌, Bool, cond, List, length, bit_and, slice_index, slice_set, sym, refl, ap, ◌∙◌, subst, ⊎_elim, ◌⊎◌, inl, inr, arith, get_or-set_same, get_or-set_other, length-set}
 use Rattle.std.proofs.lemmas.Bool.{cases_eq, cases_Bool, and_parts, and_from, and_left, eqb-true, eqb-false, eq-eqb, ne_eqb, cond-true, cond-false}
 use Rattle.std.proofs.lemmas.Nat.Bits.{bit_at_and, bit_at_xor, bit_at_not, bit_at-lt, same_from_bits_below}
 use Rattle.std.proofs.lemmas.Nat.{and_le_l, xor_lt}
@@ -7,7 +7,7 @@ use Rattle.std.specs.Int.{bit_at, bit_not, w64}
 use Rattle.word_rows.specs.declared.entries.Entry.{Entry}
 use Rattle.word_rows.specs.Rows.{entry_clears}
 use Rattle.word_rows.specs.Meeting.{ComplementClears}
-use Rattle.word_rows.specs.Words.{bit_of, without, without_entry}
+use Rattle.word_rows.specs.Words.{AreWords, bit_of, without, without_entry}
 
 bit_without : (n m b : ℕ) → bit_at (without n m) b ≡ (bit_at n b + min (bit_at n b) (bit_at m b)) % 2
 bit_without n m b = bit_at_xor n (bit_and n m) b ∙ ap (λ (k : ℕ). (bit_at n b + k) % 2) (bit_at_and n m b)
@@ -28,6 +28,10 @@ low_same (suc x) (suc y) hx hy = omega arith
 pub complement_clears : ComplementClears
 complement_clears n m hn hm = same_from_bits_below 64 _ _ (let l = and_le_l n (bit_not w64 m) in omega arith) (xor_lt 64 n (bit_and n m) hn (let l = and_le_l n m in omega arith))
     (λ i h. bit_at_and n (bit_not w64 m) i ∙ ap (λ (k : ℕ). min (bit_at n i) k) (bit_at_not w64 m i hm h) ∙ low_same (bit_at n i) (bit_at m i) (bit_at-lt n i) (bit_at-lt m i) ∙ sym (bit_without n m i))
+
+-- a word without the bits of a mask has no more bits
+without_less : (n mask : ℕ) → n < 2 ^ 64 → without n mask < 2 ^ 64
+without_less n mask h = xor_lt 64 n (bit_and n mask) h (let l = and_le_l n mask in omega arith)
 
 module _ (words : List ℕ) (e : Entry) (i b : ℕ) (inside : i < length words) where
   abbrev was : ℕ
@@ -60,6 +64,14 @@ module _ (words : List ℕ) (e : Entry) (i b : ℕ) (inside : i < length words) 
   -- a bit that the entry clears is 0
   pub bit_goes : entry_clears e i b ≡ true → bit_at now b ≡ 0
   bit_goes t = let p = and_parts (e.word == i) (bit_at e.mask b == 1) t in here (eqb-true e.word i p.0) (inr (eqb-true (bit_at e.mask b) 1 p.1))
+
+-- an entry leaves words of 64 bits
+pub entry_bound : (words : List ℕ) (e : Entry) → AreWords words → AreWords (without_entry words e)
+entry_bound words e small i h =
+    let inside : i < length words = subst (λ (n : ℕ). i < n) (length-set words e.word _) h in ⊎_elim
+    (λ (is : e.word ≡ i). subst (λ (n : ℕ). n < 2 ^ 64) (sym (same_word words e i 0 inside is)) (without_less (slice_index words i) e.mask (small i inside)))
+    (λ (is : e.word ≡ i → ⊥). subst (λ (n : ℕ). n < 2 ^ 64) (sym (other_word words e i 0 inside is)) (small i inside))
+    (cases_eq e.word i)
 
 -- ---- one write with the complement of a mask
 kept_bit : (n m b : ℕ) → m < 2 ^ 64 → b < 64 → bit_at (bit_and n (bit_not w64 m)) b ≡ cond (bit_at m b == 1) 0 (bit_at n b)

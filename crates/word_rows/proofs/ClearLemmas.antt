@@ -10,7 +10,7 @@ use Rattle.word_rows.specs.declared.views.View.{View}
 use Rattle.word_rows.specs.Rows.{entry_clears, clears, rows_clear, below, rows_below}
 use Rattle.word_rows.specs.Words.{bit_of, without_entry}
 use Rattle.word_rows.specs.Accounts.{Each, AreZero, view_clears, views_clear, lacks}
-use Rattle.word_rows.specs.Changes.{finished, part_way, cleared_next}
+use Rattle.word_rows.specs.Changes.{finished_view, midway_view, next_view}
 use Rattle.word_rows.specs.Sound.{IsSound, IsPartWay, IsBelow}
 use Rattle.word_rows.proofs.BitLemmas.{bit_lost, bit_stays, bit_goes}
 use Rattle.word_rows.proofs.ViewLemmas.{each_set, total_set, set_clears, put_here, one_clears, or_assoc, or_false, clears_append, rows_clear_append}
@@ -92,7 +92,7 @@ module _ (width : ℕ) (v : View) (row : List Entry) (e : Entry) (on : GoesOn v 
   row_more : (i b : ℕ) → clears (take (k + 1) row) i b ≡ (clears (take k v.row) i b || entry_clears e i b)
   row_more i b = ap (λ (l : List Entry). clears l i b) taken ∙ clears_append (take k v.row) (e ∷ []) i b ∙ ap (λ (y : Bool). clears (take k v.row) i b || y) (or_false (entry_clears e i b))
 
-  ends : k + 1 ≡ length row → Clears width v e (finished v row)
+  ends : k + 1 ≡ length row → Clears width v e (finished_view v row)
   ends last = record {
     more = λ i b. let whole : clears row i b ≡ (clears (take k v.row) i b || entry_clears e i b) = ap (λ (l : List Entry). clears l i b) (sym (take_all (k + 1) row (omega arith))) ∙ row_more i b in
         or_false _ ∙ rows_clear_append v.done (row ∷ []) i b ∙ ap (λ (y : Bool). rows_clear v.done i b || y) (or_false (clears row i b) ∙ whole) ∙ sym (or_assoc (rows_clear v.done i b) (clears (take k v.row) i b) (entry_clears e i b));
@@ -100,11 +100,11 @@ module _ (width : ℕ) (v : View) (row : List Entry) (e : Entry) (on : GoesOn v 
     some_share = some_share;
     seen = refl;
     readings = refl;
-    progress = inl (refl, refl);
+    progress = inl refl;
     named = λ n. record { done = rows_below-push width v.done row n.done named; row = refl; seen = n.seen; readings = n.readings };
   }
 
-  goes : k + 1 ≢ length row → Clears width v e (part_way v row (k + 1))
+  goes : k + 1 ≢ length row → Clears width v e (midway_view v row (k + 1))
   goes more = record {
     more = λ i b. ap (λ (y : Bool). rows_clear v.done i b || y) (row_more i b) ∙ sym (or_assoc (rows_clear v.done i b) (clears (take k v.row) i b) (entry_clears e i b));
     shares = refl;
@@ -115,8 +115,8 @@ module _ (width : ℕ) (v : View) (row : List Entry) (e : Entry) (on : GoesOn v 
     named = λ n. record { done = n.done; row = named; seen = n.seen; readings = n.readings };
   }
 
-  pub next_clears : Clears width v e (cleared_next v row)
+  pub next_clears : Clears width v e (next_view v row)
   next_clears = ⊎_elim
-      (λ (t : (k + 1 == length row) ≡ true). subst (Clears width v e) (sym (cond-true _ (finished v row) (part_way v row (k + 1)) t)) (ends (eqb-true _ _ t)))
-      (λ (f : (k + 1 == length row) ≡ false). subst (Clears width v e) (sym (cond-false _ (finished v row) (part_way v row (k + 1)) f)) (goes (eqb-false _ _ f)))
+      (λ (t : (k + 1 == length row) ≡ true). subst (Clears width v e) (sym (cond-true _ (finished_view v row) (midway_view v row (k + 1)) t)) (ends (eqb-true _ _ t)))
+      (λ (f : (k + 1 == length row) ≡ false). subst (Clears width v e) (sym (cond-false _ (finished_view v row) (midway_view v row (k + 1)) f)) (goes (eqb-false _ _ f)))
       (cases_Bool (k + 1 == length row))

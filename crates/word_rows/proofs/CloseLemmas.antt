@@ -1,5 +1,5 @@
 -- What the view that has all shares knows.
-use Rattle.std.proofs.Common.{◌≡◌, ℕ, zero, suc, ◌<◌, ◌≤◌, true, false, ◌&&◌, ◌||◌, ◌==◌, nat_lt, cond, List, [], ◌∷◌, length, take, sym, refl, ap, ◌∙◌, subst, ⊎_elim, arith}
+use Rattle.std.proofs.Common.{◌≡◌, ℕ, zero, suc, ◌<◌, ◌≤◌, true, false, ◌&&◌, ◌||◌, ◌==◌, nat_lt, cond, List, [], ◌∷◌, length, take, sym, refl, ap, ◌∙◌, subst, ⊎_elim, arith, IsTrue}
 use Rattle.std.proofs.lemmas.Bool.{false≢true, cases_eq, cases_Bool, cond-true, cond-false, or_cases, and_parts, eqb-true, ltb-true}
 use Rattle.std.proofs.lemmas.Nat.Bits.{bit_at-lt}
 use Rattle.std.specs.Int.{bit_at}
@@ -9,9 +9,9 @@ use Rattle.word_rows.specs.declared.entries.Entry.{Entry}
 use Rattle.word_rows.specs.declared.views.Reading.{Reading}
 use Rattle.word_rows.specs.declared.views.View.{View}
 use Rattle.word_rows.specs.Rows.{clears, rows_clear}
-use Rattle.word_rows.specs.Words.{bit_of, full, IsMeet}
+use Rattle.word_rows.specs.Words.{bit_of, full_words, IsMeet}
 use Rattle.word_rows.specs.Accounts.{view_clears, views_clear, lacks, readings_below, total_shares, LackOnly}
-use Rattle.word_rows.specs.Changes.{IsIdle}
+use Rattle.word_rows.specs.Changes.{is_idle}
 use Rattle.word_rows.specs.Sound.{IsSound}
 use Rattle.word_rows.specs.Keeping.{WholeShareKnowsAll}
 use Rattle.word_rows.proofs.ViewLemmas.{share_of, no_share, some_clears}
@@ -37,7 +37,7 @@ lacks_below n (r ∷ rs) i b t c = let p = and_parts (nat_lt r.word n) (readings
 one_bit : (x : ℕ) → x < 2 → (x ≡ 0 → ⊥) → x ≡ 1
 one_bit x h n = omega arith
 
-module _ (words : List ℕ) (all : ℕ) (views : List View) (id : ℕ) (v : View) (s : IsSound words all views) (at : get_elem? views id ≡ some v) (rests : IsIdle v) (whole : all ≤ v.shares) where
+module _ (words : List ℕ) (all : ℕ) (views : List View) (id : ℕ) (v : View) (s : IsSound words all views) (at : get_elem? views id ≡ some v) (rests : IsTrue (is_idle v)) (whole : all ≤ v.shares) where
   most : total_shares views ≤ v.shares
   most = let q = s.shared_out in omega arith
 
@@ -54,7 +54,7 @@ module _ (words : List ℕ) (all : ℕ) (views : List View) (id : ℕ) (v : View
       (λ (f : rows_clear v.done i b ≡ false). one_bit _ (bit_at-lt _ b) (λ z. false≢true (sym f ∙ only_its i b (s.accounted i b h l z))) ∙ sym (cond-false _ 0 1 f))
       (cases_Bool (rows_clear v.done i b))
 
-  met' : IsMeet (full (length words)) v.done words
+  met' : IsMeet (full_words (length words)) v.done words
   met' = record {
     width = sym (full_length (length words));
     bits = λ i b h l. let h' : i < length words = subst (λ (n : ℕ). i < n) (full_length (length words)) h in

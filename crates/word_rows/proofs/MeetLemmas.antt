@@ -8,7 +8,7 @@ use Rattle.std.proofs.lemmas.Nat.Bits.{same_from_bits_below, bit_at_and}
 use Rattle.std.specs.Int.{bit_at}
 use Rattle.word_rows.specs.declared.entries.Entry.{Entry}
 use Rattle.word_rows.specs.Rows.{entry_clears, clears, rows_clear, below, rows_below}
-use Rattle.word_rows.specs.Words.{bit_of, full, IsCommon}
+use Rattle.word_rows.specs.Words.{bit_of, full_words, IsCommon}
 use Rattle.word_rows.specs.Meeting.{BelowWider, ClearsBelow, OrderIsFree, MeetIsUnique, MeetBegins, MeetsFollow, CommonIsMeet, WidenedMeet, MeetByBits, CommonByAnd}
 
 cond_at : (c d : Bool) (x : ℕ) → c ≡ d → cond c 0 x ≡ cond d 0 x
@@ -79,14 +79,14 @@ rows_clear_below n (row ∷ rows) i b t c = let p = and_parts (below n row) (row
 
 pub widened_meet : WidenedMeet
 widened_meet words met rows more named m = record {
-  width = length-append met (full more) ∙ ap (λ (k : ℕ). k + length (full more)) m.width ∙ sym (length-append words (full more));
+  width = length-append met (full_words more) ∙ ap (λ (k : ℕ). k + length (full_words more)) m.width ∙ sym (length-append words (full_words more));
   bits = λ i b h l. ⊎_elim
       (λ (low : i < length words).
-      ap (λ (k : ℕ). bit_at k b) (get_or_append_left met (full more) 0 i (subst (λ (k : ℕ). i < k) (sym m.width) low)) ∙ m.bits i b low l
-      ∙ ap (λ (k : ℕ). cond (rows_clear rows i b) 0 (bit_at k b)) (sym (get_or_append_left words (full more) 0 i low)))
+      ap (λ (k : ℕ). bit_at k b) (get_or_append_left met (full_words more) 0 i (subst (λ (k : ℕ). i < k) (sym m.width) low)) ∙ m.bits i b low l
+      ∙ ap (λ (k : ℕ). cond (rows_clear rows i b) 0 (bit_at k b)) (sym (get_or_append_left words (full_words more) 0 i low)))
       (λ (high : length words ≤ i).
       let none : rows_clear rows i b ≡ false = false_from_ne_true _ (λ t. let low = rows_clear_below (length words) rows i b named t in absurd (omega arith)) in
-      ap (λ (k : ℕ). bit_at k b) (get_or-append_right met (full more) (length words) i 0 m.width high ∙ sym (get_or-append_right words (full more) (length words) i 0 refl high))
+      ap (λ (k : ℕ). bit_at k b) (get_or-append_right met (full_words more) (length words) i 0 m.width high ∙ sym (get_or-append_right words (full_words more) (length words) i 0 refl high))
       ∙ sym (cond-false _ 0 _ none))
       (cases_lt i (length words));
 }

@@ -1,5 +1,5 @@
 -- Split and Join keep the state sound.
-use Rattle.std.proofs.Common.{◌≡◌, ◌≢◌, ℕ, ◌<◌, Bool, true, false, ◌||◌, List, [], ◌∷◌, ◌++◌, length, set, take, sym, refl, ap, ◌∙◌, ⊎_elim, inl, arith}
+use Rattle.std.proofs.Common.{◌≡◌, ◌≢◌, ℕ, ◌<◌, Bool, true, false, ◌||◌, List, [], ◌∷◌, ◌++◌, length, set, take, sym, refl, ap, ◌∙◌, ⊎_elim, inl, arith, IsTrue}
 use Rattle.std.proofs.lemmas.Bool.{false≢true, cases_eq, or_cases, or_left, or_right, and_from}
 use Rattle.std.proofs.lemmas.List.Folds.{list_all-append}
 use mathlib.Core.Option.{some, some-injective}
@@ -8,17 +8,17 @@ use Rattle.word_rows.specs.declared.entries.Entry.{Entry}
 use Rattle.word_rows.specs.declared.views.View.{View}
 use Rattle.word_rows.specs.Rows.{clears, rows_clear, below, rows_below}
 use Rattle.word_rows.specs.Accounts.{Each, AreZero, view_clears, views_clear, lacks}
-use Rattle.word_rows.specs.Changes.{IsIdle, left_by, new_of, joined, empty_view}
+use Rattle.word_rows.specs.Changes.{is_idle, left_view, new_view, joined_view, empty_view}
 use Rattle.word_rows.specs.Sound.{IsSound, IsBelow}
-use Rattle.word_rows.proofs.ViewLemmas.{at_set, put_here, set_else, each_set, each_snoc, total_set, total_snoc, set_clears, snoc_clears, one_clears, no_less, or_false, rows_clear_append, lacks_append}
+use Rattle.word_rows.proofs.ViewLemmas.{idle_row, idle_cleared, at_set, put_here, set_else, each_set, each_snoc, total_set, total_snoc, set_clears, snoc_clears, one_clears, no_less, or_false, rows_clear_append, lacks_append}
 use Rattle.word_rows.proofs.LoadLemmas.{readings_below-append}
 
 pub rows_below-append : (n : ℕ) (xs ys : List (List Entry)) → rows_below n xs ≡ true → rows_below n ys ≡ true → rows_below n (xs ++ ys) ≡ true
 rows_below-append n xs ys h t = list_all-append (below n) xs ys ∙ and_from _ _ h t
 
 -- a view with no row in progress clears what its done rows clear
-pub done_only : (u : View) → IsIdle u → (i b : ℕ) → view_clears u i b ≡ rows_clear u.done i b
-done_only u r i b = ap (λ (k : ℕ). rows_clear u.done i b || clears (take k u.row) i b) r.1 ∙ or_false _
+pub done_only : (u : View) → IsTrue (is_idle u) → (i b : ℕ) → view_clears u i b ≡ rows_clear u.done i b
+done_only u r i b = ap (λ (k : ℕ). rows_clear u.done i b || clears (take k u.row) i b) (idle_cleared u r) ∙ or_false _
 
 -- what two lists clear is 0 where what each clears is 0
 pub both_zero : (words : List ℕ) (test one other : ℕ → ℕ → Bool) → ((i b : ℕ) → test i b ≡ (one i b || other i b)) → AreZero words one → AreZero words other → AreZero words test
@@ -26,10 +26,10 @@ both_zero words test one other is x y i b h l t = ⊎_elim (λ (o : one i b ≡ 
 
 module _ (words : List ℕ) (all : ℕ) (views : List View) (s : IsSound words all views) (id : ℕ) (v : View) (at : get_elem? views id ≡ some v) (n : ℕ) (less : n < v.shares) where
   abbrev left : View
-  left = left_by n v
+  left = left_view n v
 
   abbrev new : View
-  new = new_of n v
+  new = new_view n v
 
   abbrev mid : List View
   mid = set views id left
@@ -66,13 +66,13 @@ module _ (words : List ℕ) (all : ℕ) (views : List View) (s : IsSound words a
     kept = kept';
     found = λ j u o i b h l t. all_clear i b (s.accounted i b h l (kept' j u o i b h l t));
     seen = each_snoc _ mid new (each_set _ views id left (s.seen id v at) s.seen) known;
-    progress = each_snoc _ mid new (each_set _ views id left (s.progress id v at) s.progress) (inl (refl, refl));
+    progress = each_snoc _ mid new (each_set _ views id left (s.progress id v at) s.progress) (inl refl);
     named = each_snoc (IsBelow (length words)) mid new (each_set (IsBelow (length words)) views id left (named_left (s.named id v at)) s.named) (named' (s.named id v at));
   }
 
-module _ (words : List ℕ) (all : ℕ) (views : List View) (s : IsSound words all views) (id : ℕ) (v : View) (at : get_elem? views id ≡ some v) (other : ℕ) (w : View) (apart : other ≢ id) (there : get_elem? (set views id (joined v w)) other ≡ some w) (rests : IsIdle v) (rests' : IsIdle w) where
+module _ (words : List ℕ) (all : ℕ) (views : List View) (s : IsSound words all views) (id : ℕ) (v : View) (at : get_elem? views id ≡ some v) (other : ℕ) (w : View) (apart : other ≢ id) (there : get_elem? (set views id (joined_view v w)) other ≡ some w) (rests : IsTrue (is_idle v)) (rests' : IsTrue (is_idle w)) where
   abbrev both : View
-  both = joined v w
+  both = joined_view v w
 
   abbrev middle : List View
   middle = set views id both
@@ -107,7 +107,7 @@ module _ (words : List ℕ) (all : ℕ) (views : List View) (s : IsSound words a
       (each_set _ views id both (both_zero words (lacks both.readings) (lacks v.readings) (lacks w.readings) (lacks_append v.readings w.readings) (s.kept id v at) (s.kept other w at')) s.kept)
 
   none_done : both.shares ≡ 0 → (both.done ≡ []) × (both.row ≡ [])
-  none_done z = let a = s.idle id v at (omega arith) in let b = s.idle other w at' (omega arith) in ((λ j. a.0 j ++ b.0 j), rests.0)
+  none_done z = let a = s.idle id v at (omega arith) in let b = s.idle other w at' (omega arith) in ((λ j. a.0 j ++ b.0 j), idle_row v rests)
 
   named_both : IsBelow (length words) v → IsBelow (length words) w → IsBelow (length words) both
   named_both m n = record { done = rows_below-append (length words) v.done w.done m.done n.done; row = m.row; seen = rows_below-append (length words) v.seen w.seen m.seen n.seen; readings = readings_below-append (length words) v.readings w.readings m.readings n.readings }
@@ -123,6 +123,6 @@ module _ (words : List ℕ) (all : ℕ) (views : List View) (s : IsSound words a
     found = λ j u o i b h l t. merged_clear i b (s.accounted i b h l (kept'' j u o i b h l t));
     seen = each_set _ middle other empty_view (nothing' (rows_clear []) (λ i b. refl))
         (each_set _ views id both (both_zero words (rows_clear both.seen) (rows_clear v.seen) (rows_clear w.seen) (rows_clear_append v.seen w.seen) (s.seen id v at) (s.seen other w at')) s.seen);
-    progress = each_set _ middle other empty_view (inl (refl, refl)) (each_set _ views id both (inl rests) s.progress);
+    progress = each_set _ middle other empty_view (inl refl) (each_set _ views id both (inl rests) s.progress);
     named = each_set (IsBelow (length words)) middle other empty_view (record { done = refl; row = refl; seen = refl; readings = refl }) (each_set (IsBelow (length words)) views id both (named_both (s.named id v at) (s.named other w at')) s.named);
   }

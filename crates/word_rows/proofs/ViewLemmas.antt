@@ -1,6 +1,6 @@
 -- Lists of views: what a change of one view, or a new one, does to them.
 use Rattle.std.proofs.Common.{◌≡◌, ◌≢◌, ℕ, zero, suc, ◌+◌, ◌<◌, ◌≤◌, Bool, true, false, ◌||◌, ◌&&◌, ◌==◌, List, [], ◌∷◌, ◌++◌, length, get_or, set, sym, refl, ap, ◌∙◌, subst, ⊎_elim, ◌⊎◌, inl, inr, arith}
-use Rattle.std.proofs.lemmas.Bool.{false≢true, or_cases, or_left, or_right}
+use Rattle.std.proofs.lemmas.Bool.{false≢true, eqb-true, and_parts, or_cases, or_left, or_right}
 use Rattle.std.proofs.lemmas.List.Folds.{list_any-append}
 use Rattle.std.proofs.lemmas.List.Sums.{sum_by-cons, sum_by_push}
 use Rattle.std.specs.Int.{bit_at}
@@ -11,6 +11,7 @@ use Rattle.word_rows.specs.declared.views.Reading.{Reading}
 use Rattle.word_rows.specs.declared.views.View.{View}
 use Rattle.word_rows.specs.Rows.{entry_clears, clears, rows_clear}
 use Rattle.word_rows.specs.Accounts.{Each, view_clears, views_clear, lacks, total_shares}
+use Rattle.word_rows.specs.Changes.{is_idle}
 use Rattle.word_rows.specs.Meeting.{ClearsAppend, RowsClearAppend, LacksAppend}
 
 module _ {A : Type 0} where
@@ -48,6 +49,17 @@ module _ {A : Type 0} where
   at_index [] i d h = absurd (omega arith)
   at_index (x ∷ xs) zero d h = refl
   at_index (x ∷ xs) (suc i) d h = at_index xs i d (omega arith)
+
+-- ---- a view with no row in progress
+no_entry : (row : List Entry) → (length row == 0) ≡ true → row ≡ []
+no_entry [] t = refl
+no_entry (e ∷ es) t = let z = eqb-true (length (e ∷ es)) 0 t in absurd (omega arith)
+
+pub idle_row : (v : View) → is_idle v ≡ true → v.row ≡ []
+idle_row v t = no_entry v.row (and_parts (length v.row == 0) (v.cleared == 0) t).0
+
+pub idle_cleared : (v : View) → is_idle v ≡ true → v.cleared ≡ 0
+idle_cleared v t = eqb-true v.cleared 0 (and_parts (length v.row == 0) (v.cleared == 0) t).1
 
 -- ---- a fact of each view
 pub each_one : (F : View → Type 0) (u : View) → F u → Each F (u ∷ [])

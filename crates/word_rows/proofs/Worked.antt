@@ -2,7 +2,7 @@
 use Rattle.std.specs.Prelude.{◌≡◌, ℕ, true, false, Ok, Err, [], ◌∷◌, refl}
 use Rattle.word_rows.specs.declared.entries.Entry.{Entry}
 use Rattle.word_rows.specs.Rows.{is_row}
-use Rattle.word_rows.specs.Words.{bit_of, full, without_entry}
+use Rattle.word_rows.specs.Words.{bit_of, full_words, without_entry}
 use Rattle.word_rows.specs.Machine.{after, clear, load, split, join, close, Cleared, Loaded, Split, Joined, Closed, no_seat, row_open, bad_share, bad_word, shares_out}
 
 abbrev entry : ℕ → ℕ → Entry
@@ -65,6 +65,6 @@ forms : is_row (entry 0 0 ∷ []) ∷ is_row (entry 0 1 ∷ entry 3 8 ∷ []) �
 forms = refl
 
 -- bits 1 and 3 of the first word are cleared, and bit 0 stays
-cleared_bits : bit_of (without_entry (full 2) (entry 0 10)) 0 0 ∷ bit_of (without_entry (full 2) (entry 0 10)) 0 1 ∷ bit_of (without_entry (full 2) (entry 0 10)) 0 3 ∷ bit_of (without_entry (full 2) (entry 0 10)) 1 1 ∷ []
+cleared_bits : bit_of (without_entry (full_words 2) (entry 0 10)) 0 0 ∷ bit_of (without_entry (full_words 2) (entry 0 10)) 0 1 ∷ bit_of (without_entry (full_words 2) (entry 0 10)) 0 3 ∷ bit_of (without_entry (full_words 2) (entry 0 10)) 1 1 ∷ []
     ≡ 1 ∷ 0 ∷ 0 ∷ 1 ∷ []
 cleared_bits = refl

@@ -1,17 +1,17 @@
 -- What is promised of the step machine, over the definitions alone.
-use Rattle.std.specs.Prelude.{◌≡◌, ℕ, ◌≤◌, List, length}
+use Rattle.std.specs.Prelude.{◌≡◌, ℕ, ◌≤◌, List, length, IsTrue}
 use mathlib.Core.Option.{some}
 use lib.ListN.{get_elem?}
 use Rattle.word_rows.specs.declared.views.View.{View}
-use Rattle.word_rows.specs.Words.{IsMeet, full}
+use Rattle.word_rows.specs.Words.{IsMeet, full_words}
 use Rattle.word_rows.specs.Accounts.{LackOnly}
-use Rattle.word_rows.specs.Changes.{IsIdle}
+use Rattle.word_rows.specs.Changes.{is_idle}
 use Rattle.word_rows.specs.Sound.{IsSound}
-use Rattle.word_rows.specs.Machine.{StepState, StepEvent, IsSoundState, HasRow, HaveRows, opened, step, after}
+use Rattle.word_rows.specs.Machine.{StepState, StepEvent, IsSoundState, HasRow, HaveRows, opening_state, step, after}
 
 -- the state at opening is sound
 abbrev pub OpeningIsSound : Type 0
-OpeningIsSound = (width all : ℕ) → IsSoundState (opened width all)
+OpeningIsSound = (width all : ℕ) → IsSoundState (opening_state width all)
 
 -- an event, refused or not, keeps a state sound
 abbrev pub StepKeepsSound : Type 0
@@ -24,9 +24,9 @@ EventsKeepSound = (width all : ℕ) (events : List StepEvent) → HaveRows event
 -- what the one view that has all shares knows of the words
 pub record KnowsAll (words : List ℕ) (all : ℕ) (v : View) : Type 0 where
   pub shares : v.shares ≡ all
-  pub met : IsMeet (full (length words)) v.done words
+  pub met : IsMeet (full_words (length words)) v.done words
   pub readings : LackOnly v.readings v.done
 
 -- where a view with no row in progress has all shares, the words are the full ones met by exactly its done rows, and its readings lack only their bits
 abbrev pub WholeShareKnowsAll : Type 0
-WholeShareKnowsAll = (words : List ℕ) (all : ℕ) (views : List View) (id : ℕ) (v : View) → IsSound words all views → get_elem? views id ≡ some v → IsIdle v → all ≤ v.shares → KnowsAll words all v
+WholeShareKnowsAll = (words : List ℕ) (all : ℕ) (views : List View) (id : ℕ) (v : View) → IsSound words all views → get_elem? views id ≡ some v → IsTrue (is_idle v) → all ≤ v.shares → KnowsAll words all v

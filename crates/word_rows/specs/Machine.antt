@@ -7,8 +7,8 @@ pub use Rattle.word_rows.specs.declared.events.StepEvent.TheVariants.{Clear as c
 pub use Rattle.word_rows.specs.declared.replies.Reply.{Reply}
 pub use Rattle.word_rows.specs.declared.replies.Reply.TheVariants.{Cleared, Loaded, Split, Joined, Closed}
 use Rattle.word_rows.specs.Rows.{is_row, below, same_row}
-use Rattle.word_rows.specs.Words.{full, without_entry}
-use Rattle.word_rows.specs.Changes.{first_view, empty_view, cleared_next, with_reading, left_by, new_of, joined}
+use Rattle.word_rows.specs.Words.{AreWords, full_words, without_entry}
+use Rattle.word_rows.specs.Changes.{first_view, empty_view, is_idle, next_view, with_reading, left_view, new_view, joined_view}
 use Rattle.word_rows.specs.Sound.{IsSound}
 
 -- seats are numbered from 0 in the order in which they are made, and so are their views; a seat is live until it is joined away or a close succeeds
@@ -27,8 +27,8 @@ pub data Fault : Type 0 where
   shares_out : ℕ → ℕ → Fault
 
 -- all bits are 1, and seat 0 has all shares
-abbrev pub opened : ℕ → ℕ → StepState
-opened width all = record { words = full width; all = all; views = first_view all ∷ []; live = true ∷ [] }
+abbrev pub opening_state : ℕ → ℕ → StepState
+opening_state width all = record { words = full_words width; all = all; views = first_view all ∷ []; live = true ∷ [] }
 
 abbrev pub is_live : StepState → ℕ → Bool
 is_live s seat = slice_index_or s.live seat false
@@ -39,10 +39,6 @@ view_at s seat = slice_index_or s.views seat empty_view
 -- the entry at this place of the row
 abbrev pub entry_at : List Entry → ℕ → Entry
 entry_at row k = slice_index_or row k (record { word = 0; mask = 0 })
-
--- no row is in progress
-abbrev pub is_idle : View → Bool
-is_idle v = v.cleared == 0
 
 -- no row is in progress, or this one is
 abbrev pub can_clear : View → List Entry → Bool
@@ -80,10 +76,10 @@ fault_of s (close seat) =
 
 -- the state after an event that has no fault
 abbrev pub next_state : StepState → StepEvent → StepState
-next_state s (clear seat row) = record s { words = without_entry s.words (entry_at row (view_at s seat).cleared); views = slice_set s.views seat (cleared_next (view_at s seat) row) }
+next_state s (clear seat row) = record s { words = without_entry s.words (entry_at row (view_at s seat).cleared); views = slice_set s.views seat (next_view (view_at s seat) row) }
 next_state s (load seat word) = record s { views = slice_set s.views seat (with_reading (view_at s seat) word (slice_index s.words word)) }
-next_state s (split seat shares) = record s { views = slice_set s.views seat (left_by shares (view_at s seat)) ++ new_of shares (view_at s seat) ∷ []; live = s.live ++ true ∷ [] }
-next_state s (join seat other) = record s { views = slice_set (slice_set s.views seat (joined (view_at s seat) (view_at s other))) other empty_view; live = slice_set s.live other false }
+next_state s (split seat shares) = record s { views = slice_set s.views seat (left_view shares (view_at s seat)) ++ new_view shares (view_at s seat) ∷ []; live = s.live ++ true ∷ [] }
+next_state s (join seat other) = record s { views = slice_set (slice_set s.views seat (joined_view (view_at s seat) (view_at s other))) other empty_view; live = slice_set s.live other false }
 next_state s (close seat) = record s { live = map (λ _. false) s.live }
 
 -- the reply to an event that has no fault
@@ -95,13 +91,13 @@ reply_of s (join seat other) = Joined
 reply_of s (close seat) = Closed s.words
 
 -- a fault is the reply, and changes nothing
-abbrev pub settled : StepState → StepEvent → Option Fault → StepState × Result Reply Fault
-settled s e None = (next_state s e, Ok (reply_of s e))
-settled s e (Some fault) = (s, Err fault)
+abbrev pub outcome : StepState → StepEvent → Option Fault → StepState × Result Reply Fault
+outcome s e None = (next_state s e, Ok (reply_of s e))
+outcome s e (Some fault) = (s, Err fault)
 
 -- the state after one event, and its reply
 abbrev pub step : StepState → StepEvent → StepState × Result Reply Fault
-step s e = settled s e (fault_of s e)
+step s e = outcome s e (fault_of s e)
 
 -- the state after a list of events, and one reply for each
 abbrev pub steps : StepState → List StepEvent → StepState × List (Result Reply Fault)
@@ -110,7 +106,7 @@ steps s (e ∷ es) = let first = step s e in let rest = steps first.0 es in (res
 
 -- the state and the replies after an opening with this width and number of shares and then a list of events
 abbrev pub after : ℕ → ℕ → List StepEvent → StepState × List (Result Reply Fault)
-after width all events = steps (opened width all) events
+after width all events = steps (opening_state width all) events
 
 -- a row that is to be cleared has the form of a row
 abbrev pub HasRow : StepEvent → Type 0
@@ -121,7 +117,8 @@ abbrev pub HaveRows : List StepEvent → Type 0
 HaveRows [] = Unit {0}
 HaveRows (e ∷ es) = HasRow e × HaveRows es
 
--- the words and views are sound, and each seat has a view
+-- the words and views are sound, each word has 64 bits, and each seat has a view
 pub record IsSoundState (s : StepState) : Type 0 where
   pub sound : IsSound s.words s.all s.views
+  pub bound : AreWords s.words
   pub seats : length s.live ≡ length s.views

@@ -4,7 +4,7 @@ use Rattle.std.specs.Int.{bit_not, w64}
 use Rattle.word_rows.specs.declared.entries.Entry.{Entry}
 use Rattle.word_rows.specs.declared.views.Reading.{Reading}
 use Rattle.word_rows.specs.Rows.{clears, rows_clear, below, rows_below, same_row}
-use Rattle.word_rows.specs.Words.{AreWords, IsMeet, IsCommon, bit_of, widened, without}
+use Rattle.word_rows.specs.Words.{AreWords, IsMeet, IsCommon, bit_of, widened_words, without}
 use Rattle.word_rows.specs.Accounts.{lacks}
 use Rattle.word_rows.specs.Changes.{readings_from}
 
@@ -38,7 +38,7 @@ CommonIsMeet = (words met other common : List ℕ) (rows others : List (List Ent
 
 -- the meet of widened words with rows of the narrower width is the widened meet
 abbrev pub WidenedMeet : Type 0
-WidenedMeet = (words met : List ℕ) (rows : List (List Entry)) (more : ℕ) → rows_below (length words) rows ≡ true → IsMeet words rows met → IsMeet (widened words more) rows (widened met more)
+WidenedMeet = (words met : List ℕ) (rows : List (List Entry)) (more : ℕ) → rows_below (length words) rows ≡ true → IsMeet words rows met → IsMeet (widened_words words more) rows (widened_words met more)
 
 -- a word and the complement of a mask have in common the word without the mask's bits
 abbrev pub ComplementClears : Type 0

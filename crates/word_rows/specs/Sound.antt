@@ -1,14 +1,14 @@
 -- What holds of the words and of every view, live or not, between any two steps.
-use Rattle.std.specs.Prelude.{◌≡◌, ℕ, ◌<◌, ◌⊎◌, true, List, [], length}
+use Rattle.std.specs.Prelude.{◌≡◌, ℕ, ◌<◌, ◌⊎◌, true, List, [], length, IsTrue}
 use Rattle.word_rows.specs.declared.views.View.{View}
 use Rattle.word_rows.specs.Rows.{rows_clear, below, rows_below}
 use Rattle.word_rows.specs.Words.{bit_of}
 use Rattle.word_rows.specs.Accounts.{Each, view_clears, views_clear, lacks, readings_below, total_shares, AreZero}
-use Rattle.word_rows.specs.Changes.{IsIdle}
+use Rattle.word_rows.specs.Changes.{is_idle}
 
 -- no row is in progress, or one of which at least one entry is cleared and at least one is not
 abbrev pub IsPartWay : View → Type 0
-IsPartWay v = IsIdle v ⊎ ((0 < v.cleared) × (v.cleared < length v.row))
+IsPartWay v = IsTrue (is_idle v) ⊎ ((0 < v.cleared) × (v.cleared < length v.row))
 
 -- all words that the view's rows and readings name are below the width
 pub record IsBelow (width : ℕ) (v : View) : Type 0 where

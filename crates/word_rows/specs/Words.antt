@@ -13,12 +13,12 @@ abbrev pub AreWords : List ℕ → Type 0
 AreWords words = (i : ℕ) → i < length words → slice_index words i < 2 ^ 64
 
 -- as many words as the width, with all 64 bits 1
-abbrev pub full : ℕ → List ℕ
-full width = replicate width 18446744073709551615
+abbrev pub full_words : ℕ → List ℕ
+full_words width = replicate width 18446744073709551615
 
 -- the words with so many full words at their end
-abbrev pub widened : List ℕ → ℕ → List ℕ
-widened words more = words ++ full more
+abbrev pub widened_words : List ℕ → ℕ → List ℕ
+widened_words words more = words ++ full_words more
 
 -- the number without the bits of a mask
 abbrev pub without : ℕ → ℕ → ℕ

@@ -1,6 +1,6 @@
 ghost use Rattle.std.specs.Prelude.{◌≡◌, ◌<◌, ◌↔◌, [], ◌∷◌, length, IfOk, IsTrue, OnErr, OnOk};
 ghost use Rattle.word_rows.specs.Rows.{below};
-ghost use Rattle.word_rows.specs.Words.{AreWords, IsCommon, IsMeet, bit_of, full, widened};
+ghost use Rattle.word_rows.specs.Words.{AreWords, IsCommon, IsMeet, bit_of, full_words, widened_words};
 
 use crate::{Entry, Row};
 use std::alloc::{AllocError, Global};
@@ -51,7 +51,7 @@ fn lent(words: &[u64]) -> &[u64]
 impl Sheet {
     /// As many words as the width, with all bits 1.
     pub fn full(alloc: Global, width: u32) -> Result<Sheet, AllocError>
-        ensures { IfOk result (λ s. s ≡ full width) }
+        ensures { IfOk result (λ s. s ≡ full_words width) }
     {
         Ok(Sheet {
             words: Vec::from_elem(alloc, u64::MAX, width as usize)?,
@@ -92,14 +92,14 @@ impl Sheet {
 
     /// Sets all bits to 1 again.
     pub fn fill(&mut self)
-        ensures { self.new ≡ full (length self.old) }
+        ensures { self.new ≡ full_words (length self.old) }
     {
         self.words.as_mut_slice().fill(u64::MAX);
     }
 
     /// Appends so many words with all bits 1. The only error is that memory ran out.
     pub fn widen(&mut self, more: u32) -> Result<(), AllocError>
-        ensures ok { OnOk result (self.new ≡ widened self.old more) }
+        ensures ok { OnOk result (self.new ≡ widened_words self.old more) }
         ensures err { OnErr result (self.new ≡ self.old) }
     {
         let width = self.words.len() + more as usize;

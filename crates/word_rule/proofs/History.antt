@@ -13,9 +13,9 @@ use Rattle.word_rows.specs.declared.entries.Entry.{Entry}
 use Rattle.word_rows.specs.declared.views.View.{View}
 use Rattle.word_rows.specs.Rows.{is_row, below}
 use Rattle.word_rows.specs.Accounts.{Each}
-use Rattle.word_rows.specs.Words.{full}
-use Rattle.word_rows.specs.Changes.{IsIdle, first_view, empty_view, cleared_next, left_by, new_of, joined, with_reading}
-use Rattle.word_rows.specs.Machine.{StepState, Fault, HasRow, can_clear, opened, entry_at, after, step as machine_step}
+use Rattle.word_rows.specs.Words.{full_words}
+use Rattle.word_rows.specs.Changes.{is_idle, first_view, empty_view, next_view, left_view, new_view, joined_view, with_reading}
+use Rattle.word_rows.specs.Machine.{StepState, Fault, HasRow, can_clear, opening_state, entry_at, after, step as machine_step}
 use Rattle.word_rows.specs.declared.replies.Reply.{Reply}
 use Rattle.word_rows.specs.declared.replies.Reply.TheVariants.{Cleared, Loaded, Split, Joined, Closed}
 use Rattle.word_rows.specs.declared.events.StepEvent.{StepEvent}
@@ -163,7 +163,7 @@ module _ (plan : Plan) (s : State (Unit {0}) Knower) (h : IsHistory plan s) wher
   seat_one e has = (past ++ e ∷ [], rows_snoc past e h.ruled.reached.rows has, refl)
 
 module _ (sound : EventsKeepSound) (plan : Plan) where
-  pub history_load_allowed : (slots id : ℕ) (me : Me (Unit {0}) Knower) (word : ℕ) → 0 < me.0.view.shares → IsIdle me.0.view → word < plan.width → Allows (IsHistory plan) slots id me word (λ n. n) (HistoryLoads plan (step slots word 0 0 none) me)
+  pub history_load_allowed : (slots id : ℕ) (me : Me (Unit {0}) Knower) (word : ℕ) → 0 < me.0.view.shares → IsTrue (is_idle me.0.view) → word < plan.width → Allows (IsHistory plan) slots id me word (λ n. n) (HistoryLoads plan (step slots word 0 0 none) me)
   history_load_allowed slots id me word share idle inside s h homes at small =
       let value : ℕ = slice_index s.words word in let w : View = with_reading me.0.view word value in
       let here = view_here s.views id me.0 at in
@@ -181,7 +181,7 @@ module _ (sound : EventsKeepSound) (plan : Plan) where
       → is_row row ≡ true → can_clear me.0.view row ≡ true → 0 < me.0.view.shares → below plan.width row ≡ true
       → Allows (IsHistory plan) slots id me e.word (λ n. bit_and n (bit_not w64 e.mask)) (HistoryClears plan row (step slots e.word (bit_not w64 e.mask) 0 none) me)
   history_clear_allowed complement slots id me row e is fits form can share named s h homes at small =
-      let value : ℕ = slice_index s.words e.word in let w : View = cleared_next me.0.view row in
+      let value : ℕ = slice_index s.words e.word in let w : View = next_view me.0.view row in
       let here = view_here s.views id me.0 at in
       let held : Me (Unit {0}) View = (me.0.view, me.1) in
       let is_step = clear_step complement plan (map is_seated (map view_of s.views)) (plain s) id held row e w (stands sound plan (plain s) id me.0.view h.ruled here share) can named is small fits refl in (
@@ -204,7 +204,7 @@ module _ (sound : EventsKeepSound) (plan : Plan) where
       by_test : (b : Bool) → (bit_and value (entry_at row me.0.view.cleared).mask == 0) ≡ b
           → (k : Knower) × (a : Act (Unit {0})) × Valid s.homes me.1 a × IsHistory plan (stepped s e.word value id me.1 k a) × HistorySkips plan row (step slots e.word 0 0 none) me value (k, carried_after me.1 a)
       by_test true t =
-          let w : View = cleared_next me.0.view row in
+          let w : View = next_view me.0.view row in
           let here = view_here s.views id me.0 at in
           let held : Me (Unit {0}) View = (me.0.view, me.1) in
           let free : bit_and value e.mask ≡ 0 = ap (λ (x : Entry). bit_and value x.mask) (sym is) ∙ eqb-true _ _ t in
@@ -236,25 +236,25 @@ module _ (sound : EventsKeepSound) (plan : Plan) where
         (refl, mine.1, let all = mine.0 in let fits = h.ruled.fits in omega arith),
       )
 
-  pub history_split_allowed : (id : ℕ) (k : Knower) (n : ℕ) → n < k.view.shares → IsIdle k.view → Splits (IsHistory plan) id k (left_knows n k) (new_knows n k)
+  pub history_split_allowed : (id : ℕ) (k : Knower) (n : ℕ) → n < k.view.shares → IsTrue (is_idle k.view) → Splits (IsHistory plan) id k (left_knows n k) (new_knows n k)
   history_split_allowed id k n less idle s h at =
       let v : View = k.view in let here = view_here s.views id k at in
       let share : 0 < v.shares = omega arith in let mine = carries sound plan (plain s) id v h.ruled here share in
       let views : List View = map view_of s.views in
       let is_step = split_is_step plan (map is_seated views) (plain s) id n v (stands sound plan (plain s) id v h.ruled here share) idle less in
       let ks : List Knower = set s.views id (left_knows n k) ++ new_knows n k ∷ [] in
-      let alone : set views id (left_by n v) ++ new_of n v ∷ [] ≡ map view_of ks =
-      sym (map-append view_of (set s.views id (left_knows n k)) (new_knows n k ∷ []) ∙ ap (λ (l : List View). l ++ new_of n v ∷ []) (map-set view_of s.views id (left_knows n k))) in
-      let new_seated : is_seated (new_of n v) ≡ true = seated (new_of n v) (let l = mine.1 in omega arith) in
+      let alone : set views id (left_view n v) ++ new_view n v ∷ [] ≡ map view_of ks =
+      sym (map-append view_of (set s.views id (left_knows n k)) (new_knows n k ∷ []) ∙ ap (λ (l : List View). l ++ new_view n v ∷ []) (map-set view_of s.views id (left_knows n k))) in
+      let new_seated : is_seated (new_view n v) ≡ true = seated (new_view n v) (let l = mine.1 in omega arith) in
       let live : map is_seated views ++ true ∷ [] ≡ map is_seated (map view_of ks) =
-      sym (map-append is_seated (set views id (left_by n v)) (new_of n v ∷ []) ∙ λ j. seated_set views id v (left_by n v) here refl j ++ new_seated j ∷ []) ∙ ap (map is_seated) alone in
+      sym (map-append is_seated (set views id (left_view n v)) (new_view n v ∷ []) ∙ λ j. seated_set views id v (left_view n v) here refl j ++ new_seated j ∷ []) ∙ ap (map is_seated) alone in
       let past : List StepEvent = h.ruled.reached.events in let e : StepEvent = split id n in record {
         ruled = record {
           width = h.ruled.width;
           reached = reached_next plan (plain s) (plain (record { words = s.words; homes = s.homes; views = ks })) e _ h.ruled.reached tt
               (is_step ∙ λ j. (record { words = s.words; all = plan.all; views = alone j; live = live j }, Ok (Split (length views))));
           fits = h.ruled.fits;
-          carried = subst (Each _) alone (each_snoc _ (set views id (left_by n v)) (new_of n v) (each_set _ views id (left_by n v) (inl mine.0) h.ruled.carried) (inl mine.0));
+          carried = subst (Each _) alone (each_snoc _ (set views id (left_view n v)) (new_view n v) (each_set _ views id (left_view n v) (inl mine.0) h.ruled.carried) (inl mine.0));
         };
         begun = λ j u o. ⊎_elim
             (λ (t : get_elem? (set s.views id (left_knows n k)) j ≡ some u). ⊎_elim
@@ -265,7 +265,7 @@ module _ (sound : EventsKeepSound) (plan : Plan) where
             (at_snoc (set s.views id (left_knows n k)) (new_knows n k) u j o);
       }
 
-  pub history_join_allowed : (id : ℕ) (k : Knower) (other : ℕ) (l : Knower) → 0 < k.view.shares → IsIdle k.view → IsIdle l.view → l.view.all ≡ plan.all → Joins (IsHistory plan) id k other l (both_know k l) knows_nothing
+  pub history_join_allowed : (id : ℕ) (k : Knower) (other : ℕ) (l : Knower) → 0 < k.view.shares → IsTrue (is_idle k.view) → IsTrue (is_idle l.view) → l.view.all ≡ plan.all → Joins (IsHistory plan) id k other l (both_know k l) knows_nothing
   history_join_allowed id k other l share idle idle' carried s h at apart there =
       let at' : get_elem? s.views other ≡ some l = ⊎_elim (λ (t : (other ≡ id) × (both_know k l ≡ l)). absurd (apart t.0)) (λ (t : (other ≢ id) × (get_elem? s.views other ≡ some l)). t.1) (at_set s.views id other (both_know k l) l there) in
       let v : View = k.view in let w : View = l.view in let here = view_here s.views id k at in let here' = view_here s.views other l at' in
@@ -274,17 +274,17 @@ module _ (sound : EventsKeepSound) (plan : Plan) where
       let lives : get_or (map is_seated views) other false ≡ true = seated_at views other w here' ∙ seated w (let a = mine.0 in let m = mine.1 in omega arith) in
       let is_step = join_is_step plan (map is_seated views) (plain s) id other v w (stands sound plan (plain s) id v h.ruled here share) here' lives apart idle idle' in
       let ks : List Knower = set (set s.views id (both_know k l)) other knows_nothing in
-      let alone : set (set views id (joined v w)) other empty_view ≡ map view_of ks =
+      let alone : set (set views id (joined_view v w)) other empty_view ≡ map view_of ks =
       sym (map-set view_of (set s.views id (both_know k l)) other knows_nothing ∙ ap (λ (m : List View). set m other empty_view) (map-set view_of s.views id (both_know k l))) in
       let live : set (map is_seated views) other false ≡ map is_seated (map view_of ks) =
-      sym (map-set is_seated (set views id (joined v w)) other empty_view ∙ ap (λ (m : List Bool). set m other false) (seated_set views id v (joined v w) here refl)) ∙ ap (map is_seated) alone in
+      sym (map-set is_seated (set views id (joined_view v w)) other empty_view ∙ ap (λ (m : List Bool). set m other false) (seated_set views id v (joined_view v w) here refl)) ∙ ap (map is_seated) alone in
       let past : List StepEvent = h.ruled.reached.events in let e : StepEvent = join id other in record {
         ruled = record {
           width = h.ruled.width;
           reached = reached_next plan (plain s) (plain (record { words = s.words; homes = s.homes; views = ks })) e _ h.ruled.reached tt
               (is_step ∙ λ j. (record { words = s.words; all = plan.all; views = alone j; live = live j }, Ok Joined));
           fits = h.ruled.fits;
-          carried = subst (Each _) alone (each_set _ (set views id (joined v w)) other empty_view (inr refl) (each_set _ views id (joined v w) (inl mine.0) h.ruled.carried));
+          carried = subst (Each _) alone (each_set _ (set views id (joined_view v w)) other empty_view (inr refl) (each_set _ views id (joined_view v w) (inl mine.0) h.ruled.carried));
         };
         begun = λ j u o. ⊎_elim
             (λ (t : (j ≡ other) × (knows_nothing ≡ u)). subst (λ (x : Knower). AllBegin x.pasts (past ++ e ∷ [])) t.1 tt)
@@ -295,7 +295,7 @@ module _ (sound : EventsKeepSound) (plan : Plan) where
             (at_set (set s.views id (both_know k l)) other j knows_nothing u o);
       }
 
-  pub history_closes : WholeShareKnowsAll → (id : ℕ) (k : Knower) (words : List ℕ) (slots : List (Unit {0})) → Final (Seen (IsHistory plan) id k) words slots → 0 < k.view.shares → IsIdle k.view → plan.all ≤ k.view.shares
+  pub history_closes : WholeShareKnowsAll → (id : ℕ) (k : Knower) (words : List ℕ) (slots : List (Unit {0})) → Final (Seen (IsHistory plan) id k) words slots → 0 < k.view.shares → IsTrue (is_idle k.view) → plan.all ≤ k.view.shares
       → IsKnown plan k.view words × EndsWith plan.width plan.all k.pasts k.view words
   history_closes knows id k words slots f share rests whole =
       let s = f.0 in let h = f.1.0 in let at = f.1.1 in let here = view_here s.views id k at in
@@ -314,7 +314,7 @@ only_none : (k u : Knower) (j : ℕ) → k.pasts ≡ [] → get_elem? (k ∷ [])
 only_none k u zero z e = subst (λ (x : Knower). AllBegin x.pasts []) (some-injective k u e) (subst (λ (ps : List (List StepEvent)). AllBegin ps []) (sym z) tt)
 only_none k u (suc j) z e = absurd (some-ne-none u (sym e))
 
-pub history_opens : (plan : Plan) → 0 < plan.all → plan.all < 2 ^ 32 → IsHistory plan (opening (full plan.width) [] (record { view = first_view plan.all; pasts = [] }))
+pub history_opens : (plan : Plan) → 0 < plan.all → plan.all < 2 ^ 32 → IsHistory plan (opening (full_words plan.width) [] (record { view = first_view plan.all; pasts = [] }))
 history_opens plan share fits = record {
   ruled = opens plan share fits;
   begun = λ j u o. only_none (record { view = first_view plan.all; pasts = [] }) u j refl o;

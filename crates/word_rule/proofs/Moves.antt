@@ -12,9 +12,9 @@ use Rattle.atomic_table.specs.Table.{State, Me, Act, Valid, carried_after, step,
 use Rattle.word_rows.specs.declared.entries.Entry.{Entry}
 use Rattle.word_rows.specs.declared.views.View.{View}
 use Rattle.word_rows.specs.Rows.{is_row, below, clears, rows_clear}
-use Rattle.word_rows.specs.Words.{IsMeet, full}
+use Rattle.word_rows.specs.Words.{IsMeet, full_words}
 use Rattle.word_rows.specs.Accounts.{lacks}
-use Rattle.word_rows.specs.Changes.{IsIdle, empty_view, first_view, finished, part_way, cleared_next, left_by, new_of, joined, with_reading}
+use Rattle.word_rows.specs.Changes.{is_idle, empty_view, first_view, finished_view, midway_view, next_view, left_view, new_view, joined_view, with_reading}
 use Rattle.word_rows.specs.Sound.{IsSound}
 use Rattle.word_rows.specs.Machine.{entry_at, can_clear}
 use Rattle.word_rows.specs.declared.replies.Reply.TheVariants.{Cleared, Loaded, Split, Joined, Closed}
@@ -34,8 +34,8 @@ abbrev shares_of : View → ℕ
 shares_of v = v.shares
 
 -- an entry more does not change the number of all shares
-pub next_all : (v : View) (row : List Entry) → (cleared_next v row).all ≡ v.all
-next_all v row = cond_both (v.cleared + 1 == length row) (finished v row) (part_way v row (v.cleared + 1)) (λ (u : View). u.all ≡ v.all) (λ _. refl) (λ _. refl)
+pub next_all : (v : View) (row : List Entry) → (next_view v row).all ≡ v.all
+next_all v row = cond_both (v.cleared + 1 == length row) (finished_view v row) (midway_view v row (v.cleared + 1)) (λ (u : View). u.all ≡ v.all) (λ _. refl) (λ _. refl)
 
 -- a load that leaves the view leaves the table
 unchanged : (s : State (Unit {0}) View) (word id : ℕ) (v : View) → get_elem? s.views id ≡ some v → record { words = set s.words word (slice_index s.words word); homes = s.homes; views = set s.views id v } ≡ s
@@ -61,7 +61,7 @@ module _ (sound : EventsKeepSound) where
       → is_row row ≡ true → can_clear me.0 row ≡ true → 0 < me.0.shares → below plan.width row ≡ true
       → Allows (IsRuled plan) slots id me e.word (λ n. bit_and n (bit_not w64 e.mask)) (Clears plan row (step slots e.word (bit_not w64 e.mask) 0 none) me)
   clear_allowed complement plan slots id me row e is fits form can share named s r homes at small =
-      let w : View = cleared_next me.0 row in
+      let w : View = next_view me.0 row in
       let a : IsAt plan (map is_seated s.views) s id me.0 = stands plan s id me.0 r at share in
       let is_step = clear_step complement plan (map is_seated s.views) s id me row e w a can named is small fits refl in
       let next : State (Unit {0}) View = stepped s e.word (bit_and (slice_index s.words e.word) (bit_not w64 e.mask)) id me.1 w keeps in
@@ -90,7 +90,7 @@ module _ (sound : EventsKeepSound) where
       by_test : (b : Bool) → (bit_and value (entry_at row me.0.cleared).mask == 0) ≡ b
           → (w : View) × (a : Act (Unit {0})) × Valid s.homes me.1 a × IsRuled plan (stepped s e.word value id me.1 w a) × Skips plan row (step slots e.word 0 0 none) me value (w, carried_after me.1 a)
       by_test true t =
-          let w : View = cleared_next me.0 row in
+          let w : View = next_view me.0 row in
           let free : bit_and value e.mask ≡ 0 = ap (λ (x : Entry). bit_and value x.mask) (sym is) ∙ eqb-true _ _ t in
           let is_step = skip_step plan (map is_seated s.views) s id me row e w (stands plan s id me.0 r at share) can named is free refl in
           let next : State (Unit {0}) View = stepped s e.word value id me.1 w keeps in
@@ -127,7 +127,7 @@ module _ (sound : EventsKeepSound) where
       (λ (o : lacks v.readings word b ≡ true). is_sound.kept id v at word b inside' l o)
       (or_cases _ _ t)
 
-  pub load_allowed : (plan : Plan) (slots id : ℕ) (me : Me (Unit {0}) View) (word : ℕ) → 0 < me.0.shares → IsIdle me.0 → word < plan.width → Allows (IsRuled plan) slots id me word (λ n. n) (Loads plan (step slots word 0 0 none) me)
+  pub load_allowed : (plan : Plan) (slots id : ℕ) (me : Me (Unit {0}) View) (word : ℕ) → 0 < me.0.shares → IsTrue (is_idle me.0) → word < plan.width → Allows (IsRuled plan) slots id me word (λ n. n) (Loads plan (step slots word 0 0 none) me)
   load_allowed plan slots id me word share idle inside s r homes at small =
       let value : ℕ = slice_index s.words word in let w : View = with_reading me.0 word value in
       let knows : (b : ℕ) → b < 64 → shows me.0 word b ≡ true → bit_at value b ≡ 0 = shown_zero plan s id me.0 word r at inside in
@@ -146,35 +146,35 @@ module _ (sound : EventsKeepSound) where
         (refl, knows, reached_replies plan s id me.0 (λ seat. load seat word) _ (Loaded value) r.reached at is_step),
       )
 
-  pub split_allowed : (plan : Plan) (id : ℕ) (v : View) (n : ℕ) → n < v.shares → IsIdle v → Splits (IsRuled plan) id v (left_by n v) (new_of n v)
+  pub split_allowed : (plan : Plan) (id : ℕ) (v : View) (n : ℕ) → n < v.shares → IsTrue (is_idle v) → Splits (IsRuled plan) id v (left_view n v) (new_view n v)
   split_allowed plan id v n less idle s r at =
       let share : 0 < v.shares = omega arith in let mine = carries plan s id v r at share in
       let is_step = split_is_step plan (map is_seated s.views) s id n v (stands plan s id v r at share) idle less in
-      let next : State (Unit {0}) View = with_views s (set s.views id (left_by n v) ++ new_of n v ∷ []) in
-      let new_seated : is_seated (new_of n v) ≡ true = seated (new_of n v) (let l = mine.1 in omega arith) in
-      let same : map is_seated (set s.views id (left_by n v) ++ new_of n v ∷ []) ≡ map is_seated s.views ++ true ∷ [] =
-      map-append is_seated (set s.views id (left_by n v)) (new_of n v ∷ []) ∙ λ j. seated_set s.views id v (left_by n v) at refl j ++ new_seated j ∷ [] in
+      let next : State (Unit {0}) View = with_views s (set s.views id (left_view n v) ++ new_view n v ∷ []) in
+      let new_seated : is_seated (new_view n v) ≡ true = seated (new_view n v) (let l = mine.1 in omega arith) in
+      let same : map is_seated (set s.views id (left_view n v) ++ new_view n v ∷ []) ≡ map is_seated s.views ++ true ∷ [] =
+      map-append is_seated (set s.views id (left_view n v)) (new_view n v ∷ []) ∙ λ j. seated_set s.views id v (left_view n v) at refl j ++ new_seated j ∷ [] in
       record {
         width = r.width;
         reached = reached_next plan s next (split id n) _ r.reached tt (is_step ∙ λ j. (machine_of plan (sym same j) next, Ok (Split (length s.views))));
         fits = r.fits;
-        carried = each_snoc _ (set s.views id (left_by n v)) (new_of n v) (each_set _ s.views id (left_by n v) (inl mine.0) r.carried) (inl mine.0);
+        carried = each_snoc _ (set s.views id (left_view n v)) (new_view n v) (each_set _ s.views id (left_view n v) (inl mine.0) r.carried) (inl mine.0);
       }
 
-  pub join_allowed : (plan : Plan) (id : ℕ) (v : View) (other : ℕ) (w : View) → 0 < v.shares → IsIdle v → IsIdle w → w.all ≡ plan.all → Joins (IsRuled plan) id v other w (joined v w) empty_view
+  pub join_allowed : (plan : Plan) (id : ℕ) (v : View) (other : ℕ) (w : View) → 0 < v.shares → IsTrue (is_idle v) → IsTrue (is_idle w) → w.all ≡ plan.all → Joins (IsRuled plan) id v other w (joined_view v w) empty_view
   join_allowed plan id v other w share idle idle' carried s r at apart there =
-      let at' : get_elem? s.views other ≡ some w = ⊎_elim (λ (t : (other ≡ id) × (joined v w ≡ w)). absurd (apart t.0)) (λ (t : (other ≢ id) × (get_elem? s.views other ≡ some w)). t.1) (at_set s.views id other (joined v w) w there) in
+      let at' : get_elem? s.views other ≡ some w = ⊎_elim (λ (t : (other ≡ id) × (joined_view v w ≡ w)). absurd (apart t.0)) (λ (t : (other ≢ id) × (get_elem? s.views other ≡ some w)). t.1) (at_set s.views id other (joined_view v w) w there) in
       let mine = carries plan s id v r at share in
       let lives : get_or (map is_seated s.views) other false ≡ true = seated_at s.views other w at' ∙ seated w (let a = mine.0 in let l = mine.1 in omega arith) in
       let is_step = join_is_step plan (map is_seated s.views) s id other v w (stands plan s id v r at share) at' lives apart idle idle' in
-      let next : State (Unit {0}) View = with_views s (set (set s.views id (joined v w)) other empty_view) in
-      let same : map is_seated (set (set s.views id (joined v w)) other empty_view) ≡ set (map is_seated s.views) other false =
-      map-set is_seated (set s.views id (joined v w)) other empty_view ∙ ap (λ (l : List Bool). set l other false) (seated_set s.views id v (joined v w) at refl) in
+      let next : State (Unit {0}) View = with_views s (set (set s.views id (joined_view v w)) other empty_view) in
+      let same : map is_seated (set (set s.views id (joined_view v w)) other empty_view) ≡ set (map is_seated s.views) other false =
+      map-set is_seated (set s.views id (joined_view v w)) other empty_view ∙ ap (λ (l : List Bool). set l other false) (seated_set s.views id v (joined_view v w) at refl) in
       record {
         width = r.width;
         reached = reached_next plan s next (join id other) _ r.reached tt (is_step ∙ λ j. (machine_of plan (sym same j) next, Ok Joined));
         fits = r.fits;
-        carried = each_set _ (set s.views id (joined v w)) other empty_view (inr refl) (each_set _ s.views id (joined v w) (inl mine.0) r.carried);
+        carried = each_set _ (set s.views id (joined_view v w)) other empty_view (inr refl) (each_set _ s.views id (joined_view v w) (inl mine.0) r.carried);
       }
 
   -- a load that leaves all as it is tells that the seat has at most all shares
@@ -189,7 +189,7 @@ module _ (sound : EventsKeepSound) where
       )
 
   -- the pass that has all shares knows the words that are left
-  pub closes : WholeShareKnowsAll → (plan : Plan) (id : ℕ) (v : View) (words : List ℕ) (slots : List (Unit {0})) → Final (Seen (IsRuled plan) id v) words slots → 0 < v.shares → IsIdle v → plan.all ≤ v.shares
+  pub closes : WholeShareKnowsAll → (plan : Plan) (id : ℕ) (v : View) (words : List ℕ) (slots : List (Unit {0})) → Final (Seen (IsRuled plan) id v) words slots → 0 < v.shares → IsTrue (is_idle v) → plan.all ≤ v.shares
       → IsKnown plan v words
   closes knows plan id v words slots f share rests whole =
       let s = f.0 in let r = f.1.0 in let same : s.words ≡ words = f.2 in
@@ -197,7 +197,7 @@ module _ (sound : EventsKeepSound) where
       let is_step = close_is_step plan (map is_seated s.views) s id v (stands plan s id v r f.1.1 share) rests whole in
       let k : KnowsAll s.words plan.all v = knows s.words plan.all s.views id v is_sound f.1.1 rests whole in record {
         shares = k.shares;
-        met = subst (IsMeet (full plan.width) v.done) same (subst (λ (n : ℕ). IsMeet (full n) v.done s.words) r.width k.met);
+        met = subst (IsMeet (full_words plan.width) v.done) same (subst (λ (n : ℕ). IsMeet (full_words n) v.done s.words) r.width k.met);
         readings = k.readings;
         stood = record { views = s.views; seat = id; has = f.1.1; sound = subst (λ (ws : List ℕ). IsSound ws plan.all s.views) same is_sound };
         reply = subst (λ (ws : List ℕ). RepliesClosed plan.width plan.all v ws) same (reached_replies plan s id v close _ (Closed s.words) r.reached f.1.1 is_step);
@@ -208,10 +208,10 @@ only_one u v zero e = sym (some-injective u v e)
 only_one u v (suc j) e = absurd (some-ne-none v (sym e))
 
 -- the table as it opens
-abbrev pub opens : (plan : Plan) → 0 < plan.all → plan.all < 2 ^ 32 → IsRuled plan (opening (full plan.width) [] (first_view plan.all))
+abbrev pub opens : (plan : Plan) → 0 < plan.all → plan.all < 2 ^ 32 → IsRuled plan (opening (full_words plan.width) [] (first_view plan.all))
 opens plan share fits = record {
   width = length-replicate plan.width 18446744073709551615;
-  reached = record { events = []; rows = tt; stands = λ j. record { words = full plan.width; all = plan.all; views = first_view plan.all ∷ []; live = sym (seated (first_view plan.all) share) j ∷ [] } };
+  reached = record { events = []; rows = tt; stands = λ j. record { words = full_words plan.width; all = plan.all; views = first_view plan.all ∷ []; live = sym (seated (first_view plan.all) share) j ∷ [] } };
   fits = fits;
   carried = λ j v e. inl (ap (λ (u : View). u.all) (only_one (first_view plan.all) v j e));
 }

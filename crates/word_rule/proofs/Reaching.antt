@@ -8,7 +8,7 @@ use lib.ListN.{get_elem?}
 use Rattle.atomic_table.specs.Table.{State}
 use Rattle.word_rows.specs.declared.views.View.{View}
 use Rattle.word_rows.specs.Sound.{IsSound}
-use Rattle.word_rows.specs.Machine.{StepState, Fault, IsSoundState, HasRow, HaveRows, no_seat, row_open, bad_word, opened, after, step as machine_step, steps, settled, fault_of, is_live, is_idle, view_at}
+use Rattle.word_rows.specs.Machine.{StepState, Fault, IsSoundState, HasRow, HaveRows, no_seat, row_open, bad_word, opening_state, after, step as machine_step, steps, outcome, fault_of, is_live, is_idle, view_at}
 use Rattle.word_rows.specs.declared.replies.Reply.{Reply}
 use Rattle.word_rows.specs.declared.replies.Reply.TheVariants.{Loaded}
 use Rattle.word_rows.specs.declared.events.StepEvent.{StepEvent}
@@ -30,7 +30,7 @@ abbrev pub reached_next : (plan : Plan) (s t : State (Unit {0}) View) (e : StepE
 reached_next plan s t e reply r has is = record {
   events = r.events ++ e ∷ [];
   rows = rows_snoc r.events e r.rows has;
-  stands = steps_snoc (opened plan.width plan.all) r.events e ∙ ap (λ (m : StepState). (machine_step m e).0) r.stands ∙ ap (λ (p : StepState × Result Reply Fault). p.0) is;
+  stands = steps_snoc (opening_state plan.width plan.all) r.events e ∙ ap (λ (m : StepState). (machine_step m e).0) r.stands ∙ ap (λ (p : StepState × Result Reply Fault). p.0) is;
 }
 
 -- what is reached is sound
@@ -73,7 +73,7 @@ abbrev pub value_of : Result Reply Fault → ℕ
 value_of (Ok (Loaded n)) = n
 value_of r = 0
 
-pub loaded_by : (s : StepState) (seat word value : ℕ) (fault : Option Fault) → fault_of s (load seat word) ≡ fault → (settled s (load seat word) fault).1 ≡ Ok (Loaded value) → (word < length s.words) × (slice_index s.words word ≡ value)
+pub loaded_by : (s : StepState) (seat word value : ℕ) (fault : Option Fault) → fault_of s (load seat word) ≡ fault → (outcome s (load seat word) fault).1 ≡ Ok (Loaded value) → (word < length s.words) × (slice_index s.words word ≡ value)
 loaded_by s seat word value None none is =
     let a = passed (not (is_live s seat)) (no_seat seat) _ none in
     let b = passed (not (is_idle (view_at s seat))) (row_open seat) _ a.1 in

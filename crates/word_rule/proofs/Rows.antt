@@ -3,7 +3,7 @@ use Rattle.std.proofs.Common.{◌≡◌, ℕ, ◌+◌, ◌<◌, true, ◌==◌, 
 use Rattle.std.proofs.lemmas.Bool.{cases_eq, and_from, eq-eqb, ne_eqb, or_left, or_right, cond-true, cond-false}
 use Rattle.word_rows.specs.declared.entries.Entry.{Entry}
 use Rattle.word_rows.specs.declared.views.View.{View}
-use Rattle.word_rows.specs.Changes.{IsIdle, finished, part_way, cleared_next}
+use Rattle.word_rows.specs.Changes.{is_idle, finished_view, midway_view, next_view}
 use Rattle.word_rows.specs.Machine.{can_clear}
 use Rattle.word_rows.specs.Rows.{same_row}
 use Rattle.word_rule.specs.Standing.{offered_until}
@@ -12,23 +12,23 @@ same_row-refl : (row : List Entry) → same_row row row ≡ true
 same_row-refl [] = refl
 same_row-refl (e ∷ es) = and_from _ _ (and_from _ _ (eq-eqb e.word e.word refl) (eq-eqb e.mask e.mask refl)) (same_row-refl es)
 
-module _ (v : View) (row : List Entry) (rests : IsIdle v) where
+module _ (v : View) (row : List Entry) (rests : IsTrue (is_idle v)) where
   begins : (k : ℕ) → k ≡ 0 → offered_until v row k ≡ v
   begins k z = cond-true _ v _ (eq-eqb k 0 z)
 
-  midway : (k : ℕ) → (k ≡ 0 → ⊥) → k < length row → offered_until v row k ≡ part_way v row k
-  midway k n h = cond-false _ v _ (ne_eqb k 0 n) ∙ cond-false _ (finished v row) _ (ne_eqb k (length row) (λ e. omega arith))
+  midway : (k : ℕ) → (k ≡ 0 → ⊥) → k < length row → offered_until v row k ≡ midway_view v row k
+  midway k n h = cond-false _ v _ (ne_eqb k 0 n) ∙ cond-false _ (finished_view v row) _ (ne_eqb k (length row) (λ e. omega arith))
 
   -- what the step of the next entry asks, and what it leaves
   pub record Next (k : ℕ) : Type 0 where
     pub cleared : k ≡ (offered_until v row k).cleared
     pub can : can_clear (offered_until v row k) row ≡ true
     pub shares : (offered_until v row k).shares ≡ v.shares
-    pub more : cleared_next (offered_until v row k) row ≡ offered_until v row (k + 1)
+    pub more : next_view (offered_until v row k) row ≡ offered_until v row (k + 1)
 
   -- the state after one entry more, by the number of entries
   abbrev after_one : ℕ → View
-  after_one k = cond (k + 1 == length row) (finished v row) (part_way v row (k + 1))
+  after_one k = cond (k + 1 == length row) (finished_view v row) (midway_view v row (k + 1))
 
   one_more : (k : ℕ) → after_one k ≡ offered_until v row (k + 1)
   one_more k = sym (cond-false _ v _ (ne_eqb (k + 1) 0 (λ e. omega arith)))
@@ -38,15 +38,15 @@ module _ (v : View) (row : List Entry) (rests : IsIdle v) where
     cleared = sym same ∙ ap (λ (u : View). u.cleared) (sym here);
     can = or_left _ _ (eq-eqb _ 0 (ap (λ (u : View). u.cleared) here ∙ rests.1));
     shares = ap (λ (u : View). u.shares) here;
-    more = ap (λ (u : View). cleared_next u row) here ∙ ap (λ (n : ℕ). cond (n + 1 == length row) (finished v row) (part_way v row (n + 1))) same ∙ one_more k;
+    more = ap (λ (u : View). next_view u row) here ∙ ap (λ (n : ℕ). cond (n + 1 == length row) (finished_view v row) (midway_view v row (n + 1))) same ∙ one_more k;
   }
 
   next_midway : (k : ℕ) → (k ≡ 0 → ⊥) → k < length row → Next k
-  next_midway k n h = let here : offered_until v row k ≡ part_way v row k = midway k n h in record {
+  next_midway k n h = let here : offered_until v row k ≡ midway_view v row k = midway k n h in record {
     cleared = ap (λ (u : View). u.cleared) (sym here);
     can = ap (λ (u : View). can_clear u row) here ∙ or_right (k == 0) _ (same_row-refl row);
     shares = ap (λ (u : View). u.shares) here;
-    more = ap (λ (u : View). cleared_next u row) here ∙ one_more k;
+    more = ap (λ (u : View). next_view u row) here ∙ one_more k;
   }
 
   pub next : (k : ℕ) → k < length row → Next k
@@ -54,7 +54,7 @@ module _ (v : View) (row : List Entry) (rests : IsIdle v) where
 
   -- the view after the whole row
   pub ends : (k : ℕ) → 0 < length row → k ≡ length row → ◌≡◌ {A = View} (offered_until v row k) (record v { done = v.done ++ row ∷ [] })
-  ends k long e = cond-false _ v _ (ne_eqb k 0 (λ z. omega arith)) ∙ cond-true _ (finished v row) _ (eq-eqb k (length row) e)
+  ends k long e = cond-false _ v _ (ne_eqb k 0 (λ z. omega arith)) ∙ cond-true _ (finished_view v row) _ (eq-eqb k (length row) e)
       ∙ λ j. record { all = v.all; shares = v.shares; done = v.done ++ row ∷ []; row = sym rests.0 j; cleared = sym rests.1 j; seen = v.seen; readings = v.readings }
 
 -- what was told of the entries before, and of one more

@@ -8,7 +8,7 @@ use Rattle.atomic_table.specs.Table.{State, Me, Step}
 use Rattle.word_rows.specs.declared.entries.Entry.{Entry}
 use Rattle.word_rows.specs.declared.views.View.{View}
 use Rattle.word_rows.specs.Accounts.{views_clear}
-use Rattle.word_rows.specs.Changes.{cleared_next, with_reading, left_by, new_of, joined, empty_view}
+use Rattle.word_rows.specs.Changes.{next_view, with_reading, left_view, new_view, joined_view, empty_view}
 use Rattle.word_rows.specs.Machine.{HaveRows, after, entry_at, step}
 use Rattle.word_rows.specs.declared.replies.Reply.{Reply}
 use Rattle.word_rows.specs.declared.replies.Reply.TheVariants.{Cleared, Loaded, Closed}
@@ -103,7 +103,7 @@ HistoryLoads plan s before found then =
 
 -- one entry more of the row is cleared, as the step machine replied
 pub record ClearTells (width all : ℕ) (row : List Entry) (before then : Me (Unit {0}) Knower) : Type 0 where
-  pub view : then.0.view ≡ cleared_next before.0.view row
+  pub view : then.0.view ≡ next_view before.0.view row
   pub held : then.1 ≡ before.1
   pub happened : ClearHappened width all before.0.pasts before.0.view row then.0.pasts
   pub grows : Grows before.0.pasts then.0.pasts
@@ -122,14 +122,14 @@ HistoryTells s before found then = (then ≡ before) × (before.0.view.shares �
 
 -- split: both know the same of the history
 abbrev pub left_knows : ℕ → Knower → Knower
-left_knows shares k = record { view = left_by shares k.view; pasts = k.pasts }
+left_knows shares k = record { view = left_view shares k.view; pasts = k.pasts }
 
 abbrev pub new_knows : ℕ → Knower → Knower
-new_knows shares k = record { view = new_of shares k.view; pasts = k.pasts }
+new_knows shares k = record { view = new_view shares k.view; pasts = k.pasts }
 
 -- join: what both knew
 abbrev pub both_know : Knower → Knower → Knower
-both_know k l = record { view = joined k.view l.view; pasts = k.pasts ++ l.pasts }
+both_know k l = record { view = joined_view k.view l.view; pasts = k.pasts ++ l.pasts }
 
 abbrev pub knows_nothing : Knower
 knows_nothing = record { view = empty_view; pasts = [] }

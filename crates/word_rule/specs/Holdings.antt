@@ -3,7 +3,7 @@ use Rattle.std.specs.Prelude.{◌≡◌, ℕ, ◌<◌, List, [], ◌++◌}
 use Rattle.atomic_table.specs.Seated.{TableId}
 use Rattle.atomic_table.specs.Table.{Me}
 use Rattle.word_rows.specs.declared.views.View.{View}
-use Rattle.word_rows.specs.Changes.{IsIdle, joined}
+use Rattle.word_rows.specs.Changes.{is_idle, joined_view}
 use Rattle.word_rows.specs.declared.events.StepEvent.{StepEvent}
 use Rattle.word_rule.specs.declared.rule.Knower.{Knower}
 use Rattle.word_rule.specs.declared.rule.Plan.{Plan}
@@ -20,7 +20,7 @@ with_view holding view = record { table_id = holding.table_id; view = view; past
 
 -- two passes, or a pass and a note, as one
 abbrev pub together : Holding → Holding → Holding
-together pass other = record { table_id = pass.table_id; view = joined pass.view other.view; pasts = pass.pasts ++ other.pasts }
+together pass other = record { table_id = pass.table_id; view = joined_view pass.view other.view; pasts = pass.pasts ++ other.pasts }
 
 -- a table: which it is, the number of its words and the number of all shares
 pub record Opened : Type 0 where
@@ -37,13 +37,13 @@ pub record IsOf (table : Opened) (holding : Holding) : Type 0 where
 pub record IsPass (shares : ℕ) (me : Me (Unit {0}) Knower) : Type 0 where
   pub counted : shares ≡ me.0.view.shares
   pub some_share : 0 < shares
-  pub rests : IsIdle me.0.view
+  pub rests : IsTrue (is_idle me.0.view)
   pub no_slot : me.1 ≡ []
 
 -- what a note keeps: it has no share, no row is in progress and its seat holds no slot
 pub record IsNote (me : Me (Unit {0}) Knower) : Type 0 where
   pub no_share : me.0.view.shares ≡ 0
-  pub rests : IsIdle me.0.view
+  pub rests : IsTrue (is_idle me.0.view)
   pub no_slot : me.1 ≡ []
 
 -- what the shared part of a table keeps: it has as many words as were planned, at least one, and no slot

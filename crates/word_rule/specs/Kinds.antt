@@ -7,7 +7,7 @@ use Rattle.atomic_table.specs.Table.{State, Me, step as base_step, keeps, steppe
 use Rattle.word_rows.specs.declared.entries.Entry.{Entry}
 use Rattle.word_rows.specs.declared.views.View.{View}
 use Rattle.word_rows.specs.Rows.{below}
-use Rattle.word_rows.specs.Changes.{IsIdle, left_by, new_of, joined, empty_view}
+use Rattle.word_rows.specs.Changes.{is_idle, left_view, new_view, joined_view, empty_view}
 use Rattle.word_rows.specs.Sound.{IsSound}
 use Rattle.word_rows.specs.Machine.{step, can_clear, entry_at}
 use Rattle.word_rows.specs.declared.replies.Reply.TheVariants.{Cleared, Loaded, Split, Joined, Closed}
@@ -50,24 +50,24 @@ SkipIsStep = (plan : Plan) (live : List Bool) (s : State (Unit {0}) View) (slots
 -- `load`, which writes back what it found: the step machine loads the word, and its reply is what was found
 abbrev pub LoadIsStep : Type 0
 LoadIsStep = (plan : Plan) (live : List Bool) (s : State (Unit {0}) View) (slots id word : ℕ) (before after : Me (Unit {0}) View)
-    → IsAt plan live s id before.0 → IsIdle before.0 → word < plan.width
+    → IsAt plan live s id before.0 → IsTrue (is_idle before.0) → word < plan.width
     → Loads plan (base_step slots word 0 0 none) before (slice_index s.words word) after
     → step (machine_of plan live s) (load id word) ≡ (machine_of plan live (stepped s word (slice_index s.words word) id before.1 after.0 keeps), Ok (Loaded (slice_index s.words word)))
 
 -- `split_seat`: the step machine splits off the shares, and the new seat is the next one
 abbrev pub SplitIsStep : Type 0
 SplitIsStep = (plan : Plan) (live : List Bool) (s : State (Unit {0}) View) (id shares : ℕ) (v : View)
-    → IsAt plan live s id v → IsIdle v → shares < v.shares
-    → step (machine_of plan live s) (split id shares) ≡ (machine_of plan (live ++ true ∷ []) (with_views s (slice_set s.views id (left_by shares v) ++ new_of shares v ∷ [])), Ok (Split (length s.views)))
+    → IsAt plan live s id v → IsTrue (is_idle v) → shares < v.shares
+    → step (machine_of plan live s) (split id shares) ≡ (machine_of plan (live ++ true ∷ []) (with_views s (slice_set s.views id (left_view shares v) ++ new_view shares v ∷ [])), Ok (Split (length s.views)))
 
 -- `join_seat`: the step machine joins the other seat, which is live no more
 abbrev pub JoinIsStep : Type 0
 JoinIsStep = (plan : Plan) (live : List Bool) (s : State (Unit {0}) View) (id other : ℕ) (v w : View)
-    → IsAt plan live s id v → get_elem? s.views other ≡ some w → slice_index_or live other false ≡ true → other ≢ id → IsIdle v → IsIdle w
-    → step (machine_of plan live s) (join id other) ≡ (machine_of plan (slice_set live other false) (with_views s (slice_set (slice_set s.views id (joined v w)) other empty_view)), Ok Joined)
+    → IsAt plan live s id v → get_elem? s.views other ≡ some w → slice_index_or live other false ≡ true → other ≢ id → IsTrue (is_idle v) → IsTrue (is_idle w)
+    → step (machine_of plan live s) (join id other) ≡ (machine_of plan (slice_set live other false) (with_views s (slice_set (slice_set s.views id (joined_view v w)) other empty_view)), Ok Joined)
 
 -- `close_with`: the step machine closes, and its reply is the words
 abbrev pub CloseIsStep : Type 0
 CloseIsStep = (plan : Plan) (live : List Bool) (s : State (Unit {0}) View) (id : ℕ) (v : View)
-    → IsAt plan live s id v → IsIdle v → plan.all ≤ v.shares
+    → IsAt plan live s id v → IsTrue (is_idle v) → plan.all ≤ v.shares
     → step (machine_of plan live s) (close id) ≡ (machine_of plan (map (λ _. false) live) s, Ok (Closed s.words))

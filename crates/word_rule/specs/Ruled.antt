@@ -4,9 +4,9 @@ use Rattle.std.specs.Int.{bit_at}
 use Rattle.atomic_table.specs.Table.{State, Me, Step}
 use Rattle.word_rows.specs.declared.entries.Entry.{Entry}
 use Rattle.word_rows.specs.declared.views.View.{View}
-use Rattle.word_rows.specs.Words.{IsMeet, full}
+use Rattle.word_rows.specs.Words.{IsMeet, full_words}
 use Rattle.word_rows.specs.Accounts.{Each, LackOnly}
-use Rattle.word_rows.specs.Changes.{empty_view, cleared_next, with_reading}
+use Rattle.word_rows.specs.Changes.{empty_view, next_view, with_reading}
 use Rattle.word_rows.specs.Machine.{entry_at}
 use Rattle.word_rule.specs.declared.rule.Plan.{Plan}
 use Rattle.word_rule.specs.Shown.{shows}
@@ -21,7 +21,7 @@ pub record IsRuled (plan : Plan) (s : State (Unit {0}) View) : Type 0 where
 
 -- clear: one entry more of the row is cleared, as the step machine does it
 abbrev pub Clears : Plan → List Entry → Step (Unit {0}) → Me (Unit {0}) View → ℕ → Me (Unit {0}) View → Type 0
-Clears plan row s before found after = (after ≡ (cleared_next before.0 row, before.1)) × RepliesCleared plan.width plan.all before.0 row
+Clears plan row s before found after = (after ≡ (next_view before.0 row, before.1)) × RepliesCleared plan.width plan.all before.0 row
 
 -- a load before a clear: where the word has none of the bits of the next entry of the row, the entry counts as cleared, and else the seat is as it was
 abbrev pub Skips : Plan → List Entry → Step (Unit {0}) → Me (Unit {0}) View → ℕ → Me (Unit {0}) View → Type 0
@@ -41,7 +41,7 @@ Tells s before found after = (after ≡ before) × (before.0.shares ≤ before.0
 -- what a seat that has all shares knows of the words that are left: they are the full ones met by exactly its done rows, and its readings lack only their bits
 pub record IsKnown (plan : Plan) (v : View) (words : List ℕ) : Type 0 where
   pub shares : v.shares ≡ plan.all
-  pub met : IsMeet (full plan.width) v.done words
+  pub met : IsMeet (full_words plan.width) v.done words
   pub readings : LackOnly v.readings v.done
   pub stood : Stood words plan.all v
   pub reply : RepliesClosed plan.width plan.all v words

@@ -6,7 +6,7 @@ use Rattle.atomic_table.specs.Table.{State}
 use Rattle.word_rows.specs.declared.entries.Entry.{Entry}
 use Rattle.word_rows.specs.declared.views.View.{View}
 use Rattle.word_rows.specs.Accounts.{views_clear}
-use Rattle.word_rows.specs.Changes.{finished, part_way, readings_from, with_readings}
+use Rattle.word_rows.specs.Changes.{finished_view, midway_view, readings_from, with_readings}
 use Rattle.word_rows.specs.Sound.{IsSound}
 use Rattle.word_rows.specs.Machine.{StepState, HaveRows, after, step}
 use Rattle.word_rows.specs.declared.replies.Reply.{Reply}
@@ -70,7 +70,7 @@ pub record Stood (words : List ℕ) (all : ℕ) (v : View) : Type 0 where
 
 -- the view when so many entries of this row were cleared
 abbrev pub offered_until : View → List Entry → ℕ → View
-offered_until v row k = if k == 0 then v else (if k == length row then finished v row else part_way v row k)
+offered_until v row k = if k == 0 then v else (if k == length row then finished_view v row else midway_view v row k)
 
 -- the view when so many of these words were read
 abbrev pub read_until : View → List ℕ → ℕ → View

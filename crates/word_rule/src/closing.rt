@@ -1,8 +1,8 @@
 ghost use Rattle.std.specs.Prelude.{◌≡◌, ◌<◌, ◌≤◌, [], vec_capacity, IfOk, IfErr};
 ghost use Rattle.std.specs.Mem.Slots.{slots_items, slots_len, IsFull};
-ghost use Rattle.word_rows.specs.Words.{IsMeet, full};
+ghost use Rattle.word_rows.specs.Words.{IsMeet, full_words};
 ghost use Rattle.word_rows.specs.Accounts.{LackOnly};
-ghost use Rattle.word_rows.specs.Changes.{IsIdle};
+ghost use Rattle.word_rows.specs.Changes.{is_idle};
 ghost use Rattle.word_rule.specs.Holdings.{IsOf};
 ghost use Rattle.word_rule.specs.Ruled.{IsKnown};
 ghost use Rattle.word_rule.specs.Standing.{Stood};
@@ -56,9 +56,9 @@ fn copy_words(from: &Ended<(), Global>, into: &mut Vec<u64>)
 fn end(table: Table<(), Knower, Plan, Keeps, Global>, seat: Seat<(), Knower>) -> Ended<(), Global>
     requires table { seat.table_id ≡ table.shared.table_id }
     requires share { 0 < seat.me.0.view.shares }
-    requires seat { IsIdle seat.me.0.view × (table.shared.key.all ≤ seat.me.0.view.shares) }
+    requires seat { IsTrue (is_idle seat.me.0.view) × (table.shared.key.all ≤ seat.me.0.view.shares) }
     ensures counts { (slots_len result.words ≡ table.shared.table_id.words) × (slots_len result.slots ≡ table.shared.table_id.slots) }
-    ensures full { IsFull result.words × IsFull result.slots }
+    ensures full_words { IsFull result.words × IsFull result.slots }
     ensures ends { EndsWith table.shared.key.width table.shared.key.all seat.me.0.pasts seat.me.0.view (slots_items result.words) }
     ensures known { IsKnown table.shared.key seat.me.0.view (slots_items result.words) }
 {
@@ -72,7 +72,7 @@ impl MeetTable {
     pub fn close(self, alloc: Global, pass: Pass) -> Result<Closed, CloseFault>
         requires { IsOf self pass }
         ensures whole { IfOk result (λ _. pass.view.shares ≡ self.all) }
-        ensures words { IfOk result (λ c. IsMeet (full self.width) pass.view.done c.words) }
+        ensures words { IfOk result (λ c. IsMeet (full_words self.width) pass.view.done c.words) }
         ensures readings { IfOk result (λ _. LackOnly pass.view.readings pass.view.done) }
         ensures stood { IfOk result (λ c. Stood c.words self.all pass.view) }
         ensures ends { IfOk result (λ c. EndsWith self.width self.all pass.pasts pass.view c.words) }

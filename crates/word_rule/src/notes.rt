@@ -1,5 +1,5 @@
 ghost use Rattle.std.specs.Prelude.{◌≡◌};
-ghost use Rattle.word_rows.specs.Changes.{new_of};
+ghost use Rattle.word_rows.specs.Changes.{new_view};
 ghost use Rattle.word_rule.specs.Holdings.{IsOf, together, with_view};
 
 use crate::passes::Pass;
@@ -30,7 +30,7 @@ impl MeetTable {
     pub fn note(&self, pass: &mut Pass) -> Note
         requires { IsOf self.now pass.old }
         ensures same { pass.new ≡ pass.old }
-        ensures note { result ≡ with_view pass.old (new_of 0 pass.old.view) }
+        ensures note { result ≡ with_view pass.old (new_view 0 pass.old.view) }
     {
         let seat = split_shares::<Brand>(&self.table.shared, &mut pass.seat, 0);
         Note { seat }

@@ -1,6 +1,6 @@
 ghost use Rattle.std.specs.Prelude.{◌≡◌, ℕ, ◌<◌, List, length, slice_index};
 ghost use Rattle.word_rows.specs.Accounts.{AreZero};
-ghost use Rattle.word_rows.specs.Changes.{IsIdle, readings_from, with_readings};
+ghost use Rattle.word_rows.specs.Changes.{is_idle, readings_from, with_readings};
 ghost use Rattle.word_rule.specs.Holdings.{IsOf, IsSeated};
 ghost use Rattle.word_rule.specs.Shown.{shows};
 ghost use Rattle.word_rule.specs.Standing.{read_until};
@@ -24,7 +24,7 @@ fn load_words(
 )
     requires table { IsSeated seat.old.table_id shared.now.table_id shared.now.key }
     requires width { length into.old ≡ shared.now.key.width }
-    requires seat { (0 < seat.old.me.0.view.shares) × IsIdle seat.old.me.0.view }
+    requires seat { (0 < seat.old.me.0.view.shares) × IsTrue (is_idle seat.old.me.0.view) }
     ensures table { seat.new.table_id ≡ seat.old.table_id }
     ensures seat { (seat.new.me.0.view ≡ with_readings seat.old.me.0.view (readings_from 0 into.new)) × (seat.new.me.1 ≡ seat.old.me.1) }
     ensures shown { AreZero into.new (shows seat.old.me.0.view) }

@@ -1,5 +1,5 @@
 ghost use Rattle.std.specs.Prelude.{◌≡◌, ◌<◌};
-ghost use Rattle.word_rows.specs.Changes.{left_by, new_of};
+ghost use Rattle.word_rows.specs.Changes.{left_view, new_view};
 ghost use Rattle.word_rule.specs.Holdings.{IsOf, together, with_view};
 
 use crate::passes::Pass;
@@ -13,8 +13,8 @@ impl MeetTable {
         requires table { IsOf self.now pass.old }
         requires some { 0 < shares }
         requires fewer { shares < pass.old.view.shares }
-        ensures old { pass.new ≡ with_view pass.old (left_by shares pass.old.view) }
-        ensures new { result ≡ with_view pass.old (new_of shares pass.old.view) }
+        ensures old { pass.new ≡ with_view pass.old (left_view shares pass.old.view) }
+        ensures new { result ≡ with_view pass.old (new_view shares pass.old.view) }
     {
         let seat = split_shares::<Brand>(&self.table.shared, &mut pass.seat, shares);
         pass.shares -= shares;

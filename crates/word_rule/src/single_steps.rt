@@ -2,7 +2,7 @@
 ghost use Rattle.std.specs.Prelude.{◌≡◌, ℕ, ◌^◌, ◌<◌, ◌≤◌, true, [], length, MatchBool};
 ghost use Rattle.std.specs.Int.{bit_at, bit_not, w64};
 ghost use Rattle.word_rows.specs.Rows.{below, is_row};
-ghost use Rattle.word_rows.specs.Changes.{IsIdle, with_reading};
+ghost use Rattle.word_rows.specs.Changes.{is_idle, with_reading};
 ghost use Rattle.word_rows.specs.Machine.{can_clear};
 ghost use Rattle.word_rule.specs.Holdings.{IsSeated};
 ghost use Rattle.word_rule.specs.Shown.{shows};
@@ -104,7 +104,7 @@ pub(crate) fn load_word<P: Planned>(
     requires table { IsSeated seat.old.table_id shared.now.table_id shared.now.key }
     requires plan { P.plan ≡ shared.now.key }
     requires word { word < shared.now.key.width }
-    requires seat { (0 < seat.old.me.0.view.shares) × IsIdle seat.old.me.0.view }
+    requires seat { (0 < seat.old.me.0.view.shares) × IsTrue (is_idle seat.old.me.0.view) }
     ensures table { seat.new.table_id ≡ seat.old.table_id }
     ensures seat { (seat.new.me.0.view ≡ with_reading seat.old.me.0.view word result) × (seat.new.me.1 ≡ seat.old.me.1) }
     ensures knows { (b : ℕ) → b < 64 → shows seat.old.me.0.view word b ≡ true → bit_at result b ≡ 0 }
@@ -124,7 +124,7 @@ pub(crate) fn split_shares<N: Counted>(
 ) -> Seat<(), Knower>
     requires table { IsSeated seat.old.table_id shared.now.table_id shared.now.key }
     requires count { (N.count ≡ count) × (count < seat.old.me.0.view.shares) }
-    requires seat { IsIdle seat.old.me.0.view }
+    requires seat { IsTrue (is_idle seat.old.me.0.view) }
     ensures old { (seat.new.table_id ≡ seat.old.table_id) × (seat.new.me ≡ (left_knows count seat.old.me.0, seat.old.me.1)) }
     ensures new { (result.table_id ≡ seat.old.table_id) × (result.me ≡ (new_knows count seat.old.me.0, [])) }
 {
@@ -140,8 +140,8 @@ pub(crate) fn join_seats(
 )
     requires table { IsSeated seat.old.table_id shared.now.table_id shared.now.key }
     requires same_table { other.table_id ≡ shared.now.table_id }
-    requires seat { (0 < seat.old.me.0.view.shares) × IsIdle seat.old.me.0.view }
-    requires other { IsIdle other.me.0.view × (other.me.1 ≡ []) }
+    requires seat { (0 < seat.old.me.0.view.shares) × IsTrue (is_idle seat.old.me.0.view) }
+    requires other { IsTrue (is_idle other.me.0.view) × (other.me.1 ≡ []) }
     requires carried { other.me.0.view.all ≡ shared.now.key.all }
     ensures table { seat.new.table_id ≡ seat.old.table_id }
     ensures seat { seat.new.me ≡ (both_know seat.old.me.0 other.me.0, seat.old.me.1) }
