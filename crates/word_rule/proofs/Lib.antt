@@ -1,7 +1,8 @@
-pub mod Lists
-pub mod StepKinds
-pub mod Reaching
-pub mod Moves
-pub mod History
-pub mod Rows
-pub mod Blocks
+pub mod ListLemmas
+pub mod StepLemmas
+pub mod PastLemmas
+pub mod RuleLemmas
+pub mod KindLemmas
+pub mod OfferLemmas
+pub mod ReadLemmas
+pub mod UseLemmas

@@ -1,73 +1,89 @@
--- The four kinds of atomic step that change a word or a view, and the end of the table, each a step of the step machine. The load at the end of a join is of none of them: it keeps every word and every view.
-use Rattle.std.specs.Prelude.{◌≡◌, ◌≢◌, ℕ, ◌^◌, ◌<◌, ◌≤◌, Bool, true, false, Ok, List, [], ◌∷◌, ◌++◌, length, map, bit_and, slice_index, slice_index_or, slice_set}
+-- Each kind of atomic step that changes a word or a view, and the end of the table, is a step of the step machine; the other loads change nothing.
+use Rattle.std.specs.Prelude.{◌≡◌, ◌≢◌, ℕ, ◌^◌, ◌<◌, ◌≤◌, true, false, IsTrue, Ok, List, [], ◌∷◌, ◌++◌, length, map, bit_and, slice_index, slice_set}
 use Rattle.std.specs.Int.{bit_not, w64}
 use mathlib.Core.Option.{none, some}
 use lib.ListN.{get_elem?}
 use Rattle.atomic_table.specs.Table.{State, Me, step as base_step, keeps, stepped}
 use Rattle.word_rows.specs.declared.entries.Entry.{Entry}
-use Rattle.word_rows.specs.declared.views.View.{View}
+use Rattle.word_rows.specs.declared.events.StepEvent.TheVariants.{Clear as clear, Load as load, Split as split, Join as join, Close as close}
+use Rattle.word_rows.specs.declared.replies.Reply.TheVariants.{Cleared, Loaded, Split, Joined, Closed}
 use Rattle.word_rows.specs.Rows.{below}
-use Rattle.word_rows.specs.Changes.{is_idle, left_view, new_view, joined_view, empty_view}
+use Rattle.word_rows.specs.Changes.{is_idle}
 use Rattle.word_rows.specs.Sound.{IsSound}
 use Rattle.word_rows.specs.Machine.{step, can_clear, entry_at}
-use Rattle.word_rows.specs.declared.replies.Reply.TheVariants.{Cleared, Loaded, Split, Joined, Closed}
-use Rattle.word_rows.specs.declared.events.StepEvent.TheVariants.{Clear as clear, Load as load, Split as split, Join as join, Close as close}
 use Rattle.word_rule.specs.declared.rule.Plan.{Plan}
-use Rattle.word_rule.specs.Standing.{machine_of}
-use Rattle.word_rule.specs.Ruled.{IsRuled, Clears, Skips, Loads}
+use Rattle.word_rule.specs.declared.rule.Knowledge.{Knowledge}
+use Rattle.word_rule.specs.Rule.{HasHistory, is_seated, machine_state, view_of}
+use Rattle.word_rule.specs.Plays.{ClearPlay, SkipPlay, LoadPlay, TellPlay, left_knowledge, new_knowledge, joined_knowledge, no_knowledge}
 
--- the table with other views
-abbrev pub with_views : State (Unit {0}) View → List View → State (Unit {0}) View
-with_views s views = record { words = s.words; homes = s.homes; views = views }
+-- the table with other seats
+abbrev pub with_seats : State (Unit {0}) Knowledge → List Knowledge → State (Unit {0}) Knowledge
+with_seats s seats = record { words = s.words; homes = s.homes; views = seats }
 
--- the table meets the rule, and this live seat has this view and a share
-pub record IsAt (plan : Plan) (live : List Bool) (s : State (Unit {0}) View) (id : ℕ) (v : View) : Type 0 where
-  pub ruled : IsRuled plan s
-  pub has : get_elem? s.views id ≡ some v
-  pub is_live : slice_index_or live id false ≡ true
-  pub share : 0 < v.shares
+-- the table meets the rule, and this seat knows this and has a share
+pub record IsAt (plan : Plan) (s : State (Unit {0}) Knowledge) (id : ℕ) (k : Knowledge) : Type 0 where
+  pub history : HasHistory plan s
+  pub has : get_elem? s.views id ≡ some k
+  pub share : 0 < k.view.shares
 
--- the rule gives the sound state
+-- this seat may clear this entry of the row next
+pub record MayClear (plan : Plan) (k : Knowledge) (row : List Entry) (e : Entry) : Type 0 where
+  pub can : can_clear k.view row ≡ true
+  pub below_width : below plan.width row ≡ true
+  pub next : entry_at row k.view.cleared ≡ e
+
+-- between any two atomic steps the words and all views are sound
 abbrev pub RuleIsSound : Type 0
-RuleIsSound = (plan : Plan) (s : State (Unit {0}) View) → IsRuled plan s → IsSound s.words plan.all s.views
+RuleIsSound = (plan : Plan) (s : State (Unit {0}) Knowledge) → HasHistory plan s → IsSound s.words plan.all (map view_of s.views)
 
--- `fetch_and` with the complement of the entry's mask: the step machine clears the entry, and its reply is what was found
+-- `fetch_and` with the complement of the entry's mask: the machine clears the entry, and replies with what was found
 abbrev pub ClearIsStep : Type 0
-ClearIsStep = (plan : Plan) (live : List Bool) (s : State (Unit {0}) View) (slots id : ℕ) (before after : Me (Unit {0}) View) (row : List Entry) (e : Entry)
-    → IsAt plan live s id before.0 → can_clear before.0 row ≡ true → below plan.width row ≡ true → entry_at row before.0.cleared ≡ e
-    → slice_index s.words e.word < 2 ^ 64 → e.mask < 2 ^ 64
-    → Clears plan row (base_step slots e.word (bit_not w64 e.mask) 0 none) before (slice_index s.words e.word) after
-    → step (machine_of plan live s) (clear id row) ≡ (machine_of plan live (stepped s e.word (bit_and (slice_index s.words e.word) (bit_not w64 e.mask)) id before.1 after.0 keeps), Ok (Cleared (slice_index s.words e.word)))
+ClearIsStep = (plan : Plan) (s : State (Unit {0}) Knowledge) (slots id : ℕ) (before after : Me (Unit {0}) Knowledge) (row : List Entry) (e : Entry)
+    → IsAt plan s id before.0 → MayClear plan before.0 row e → e.mask < 2 ^ 64
+    → ClearPlay plan row (base_step slots e.word (bit_not w64 e.mask) 0 none) before (slice_index s.words e.word) after
+    → step (machine_state plan s) (clear id row) ≡ (machine_state plan (stepped s e.word (bit_and (slice_index s.words e.word) (bit_not w64 e.mask)) id before.1 after.0 keeps), Ok (Cleared (slice_index s.words e.word)))
 
--- `load`, which writes back what it found, where that has none of the entry's bits: the step machine clears the entry, and its reply is what was found
+-- `load`, which writes back what it found, where that lacks all of the entry's bits: the machine clears the entry, and replies with what was found
 abbrev pub SkipIsStep : Type 0
-SkipIsStep = (plan : Plan) (live : List Bool) (s : State (Unit {0}) View) (slots id : ℕ) (before after : Me (Unit {0}) View) (row : List Entry) (e : Entry)
-    → IsAt plan live s id before.0 → can_clear before.0 row ≡ true → below plan.width row ≡ true → entry_at row before.0.cleared ≡ e
-    → bit_and (slice_index s.words e.word) e.mask ≡ 0
-    → Skips plan row (base_step slots e.word 0 0 none) before (slice_index s.words e.word) after
-    → step (machine_of plan live s) (clear id row) ≡ (machine_of plan live (stepped s e.word (slice_index s.words e.word) id before.1 after.0 keeps), Ok (Cleared (slice_index s.words e.word)))
+SkipIsStep = (plan : Plan) (s : State (Unit {0}) Knowledge) (slots id : ℕ) (before after : Me (Unit {0}) Knowledge) (row : List Entry) (e : Entry)
+    → IsAt plan s id before.0 → MayClear plan before.0 row e → bit_and (slice_index s.words e.word) e.mask ≡ 0
+    → SkipPlay plan row (base_step slots e.word 0 0 none) before (slice_index s.words e.word) after
+    → step (machine_state plan s) (clear id row) ≡ (machine_state plan (stepped s e.word (slice_index s.words e.word) id before.1 after.0 keeps), Ok (Cleared (slice_index s.words e.word)))
 
--- `load`, which writes back what it found: the step machine loads the word, and its reply is what was found
+-- the same load where the word has a bit of the entry: nothing changes, and there is no event
+abbrev pub LookIsNoStep : Type 0
+LookIsNoStep = (plan : Plan) (s : State (Unit {0}) Knowledge) (slots id : ℕ) (before after : Me (Unit {0}) Knowledge) (row : List Entry) (e : Entry)
+    → IsAt plan s id before.0 → MayClear plan before.0 row e → bit_and (slice_index s.words e.word) e.mask ≢ 0
+    → SkipPlay plan row (base_step slots e.word 0 0 none) before (slice_index s.words e.word) after
+    → stepped s e.word (slice_index s.words e.word) id before.1 after.0 keeps ≡ s
+
+-- `load`, which writes back what it found: the machine loads the word, and replies with what was found
 abbrev pub LoadIsStep : Type 0
-LoadIsStep = (plan : Plan) (live : List Bool) (s : State (Unit {0}) View) (slots id word : ℕ) (before after : Me (Unit {0}) View)
-    → IsAt plan live s id before.0 → IsTrue (is_idle before.0) → word < plan.width
-    → Loads plan (base_step slots word 0 0 none) before (slice_index s.words word) after
-    → step (machine_of plan live s) (load id word) ≡ (machine_of plan live (stepped s word (slice_index s.words word) id before.1 after.0 keeps), Ok (Loaded (slice_index s.words word)))
+LoadIsStep = (plan : Plan) (s : State (Unit {0}) Knowledge) (slots id word : ℕ) (before after : Me (Unit {0}) Knowledge)
+    → IsAt plan s id before.0 → IsTrue (is_idle before.0.view) → word < plan.width
+    → LoadPlay plan (base_step slots word 0 0 none) before (slice_index s.words word) after
+    → step (machine_state plan s) (load id word) ≡ (machine_state plan (stepped s word (slice_index s.words word) id before.1 after.0 keeps), Ok (Loaded (slice_index s.words word)))
 
--- `split_seat`: the step machine splits off the shares, and the new seat is the next one
+-- the load by which a seat learns that it has at most all shares: nothing changes, and there is no event
+abbrev pub TellIsNoStep : Type 0
+TellIsNoStep = (plan : Plan) (s : State (Unit {0}) Knowledge) (slots id word : ℕ) (before after : Me (Unit {0}) Knowledge)
+    → IsAt plan s id before.0 → TellPlay (base_step slots word 0 0 none) before (slice_index s.words word) after
+    → stepped s word (slice_index s.words word) id before.1 after.0 keeps ≡ s
+
+-- `split_seat`: the machine splits off the shares, and the new seat is the next one
 abbrev pub SplitIsStep : Type 0
-SplitIsStep = (plan : Plan) (live : List Bool) (s : State (Unit {0}) View) (id shares : ℕ) (v : View)
-    → IsAt plan live s id v → IsTrue (is_idle v) → shares < v.shares
-    → step (machine_of plan live s) (split id shares) ≡ (machine_of plan (live ++ true ∷ []) (with_views s (slice_set s.views id (left_view shares v) ++ new_view shares v ∷ [])), Ok (Split (length s.views)))
+SplitIsStep = (plan : Plan) (s : State (Unit {0}) Knowledge) (id shares : ℕ) (k : Knowledge)
+    → IsAt plan s id k → IsTrue (is_idle k.view) → shares < k.view.shares
+    → step (machine_state plan s) (split id shares) ≡ (machine_state plan (with_seats s (slice_set s.views id (left_knowledge shares k) ++ new_knowledge shares k ∷ [])), Ok (Split (length s.views)))
 
--- `join_seat`: the step machine joins the other seat, which is live no more
+-- `join_seat`: the machine joins the other seat, which is live no more
 abbrev pub JoinIsStep : Type 0
-JoinIsStep = (plan : Plan) (live : List Bool) (s : State (Unit {0}) View) (id other : ℕ) (v w : View)
-    → IsAt plan live s id v → get_elem? s.views other ≡ some w → slice_index_or live other false ≡ true → other ≢ id → IsTrue (is_idle v) → IsTrue (is_idle w)
-    → step (machine_of plan live s) (join id other) ≡ (machine_of plan (slice_set live other false) (with_views s (slice_set (slice_set s.views id (joined_view v w)) other empty_view)), Ok Joined)
+JoinIsStep = (plan : Plan) (s : State (Unit {0}) Knowledge) (id other : ℕ) (k l : Knowledge)
+    → IsAt plan s id k → get_elem? s.views other ≡ some l → l.view.all ≡ plan.all → other ≢ id → IsTrue (is_idle k.view) → IsTrue (is_idle l.view)
+    → step (machine_state plan s) (join id other) ≡ (machine_state plan (with_seats s (slice_set (slice_set s.views id (joined_knowledge k l)) other no_knowledge)), Ok Joined)
 
--- `close_with`: the step machine closes, and its reply is the words
+-- `close_with`: the machine closes, and replies with the words
 abbrev pub CloseIsStep : Type 0
-CloseIsStep = (plan : Plan) (live : List Bool) (s : State (Unit {0}) View) (id : ℕ) (v : View)
-    → IsAt plan live s id v → IsTrue (is_idle v) → plan.all ≤ v.shares
-    → step (machine_of plan live s) (close id) ≡ (machine_of plan (map (λ _. false) live) s, Ok (Closed s.words))
+CloseIsStep = (plan : Plan) (s : State (Unit {0}) Knowledge) (id : ℕ) (k : Knowledge)
+    → IsAt plan s id k → IsTrue (is_idle k.view) → plan.all ≤ k.view.shares
+    → step (machine_state plan s) (close id) ≡ (record (machine_state plan s) { live = map (λ _. false) (map is_seated (map view_of s.views)) }, Ok (Closed s.words))

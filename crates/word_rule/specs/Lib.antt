@@ -1,7 +1,9 @@
 pub mod Holdings
 pub mod Shown
-pub mod Standing
-pub mod Ruled
+pub mod Histories
+pub mod Rule
+pub mod Plays
 pub mod Kinds
 pub mod Faults
-pub mod History
+pub mod Uses
+pub mod inner

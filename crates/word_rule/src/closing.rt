@@ -1,16 +1,15 @@
-ghost use Rattle.std.specs.Prelude.{◌≡◌, ◌<◌, ◌≤◌, [], vec_capacity, IfOk, IfErr};
+ghost use Rattle.std.specs.Prelude.{◌≡◌, ◌<◌, ◌≤◌, [], vec_capacity, IfOk, IfErr, IsTrue};
 ghost use Rattle.std.specs.Mem.Slots.{slots_items, slots_len, IsFull};
 ghost use Rattle.word_rows.specs.Words.{IsMeet, full_words};
 ghost use Rattle.word_rows.specs.Accounts.{LackOnly};
 ghost use Rattle.word_rows.specs.Changes.{is_idle};
+ghost use Rattle.word_rows.specs.Keeping.{KnowsAll};
 ghost use Rattle.word_rule.specs.Holdings.{IsOf};
-ghost use Rattle.word_rule.specs.Ruled.{IsKnown};
-ghost use Rattle.word_rule.specs.Standing.{Stood};
-ghost use Rattle.word_rule.specs.History.{EndsWith};
+ghost use Rattle.word_rule.specs.Histories.{EndsWith};
 ghost use Rattle.word_rule.specs.Faults.{IsFault};
 
 use crate::passes::Pass;
-use crate::rule::{Keeps, Knower, Plan};
+use crate::rule::{Knowledge, OneHistory, Plan};
 use crate::tables::MeetTable;
 use atomic_table::{Closed as Ended, Seat, Table};
 use std::alloc::Global;
@@ -26,7 +25,7 @@ pub struct Closed {
 /// Why a table was not closed. The table and the pass are unchanged.
 #[derive(Drop)]
 pub enum CloseFault {
-    /// There was no memory for the words.
+    /// Memory for the words ran out.
     Memory {
         table: MeetTable,
         pass: Pass,
@@ -40,8 +39,8 @@ pub enum CloseFault {
     },
 }
 
-// Copies the words, for which there is room.
-#[tactic(auto, using(crate::proofs::Lists::take_at))]
+/// Copies the words, for which there is room.
+#[tactic(auto, using(crate::proofs::ListLemmas::take_at))]
 fn copy_words(from: &Ended<(), Global>, into: &mut Vec<u64>)
     requires from { IsFull from.now.words }
     requires room { (into.old.items ≡ []) × (slots_len from.now.words ≤ vec_capacity into.old) }
@@ -52,15 +51,17 @@ fn copy_words(from: &Ended<(), Global>, into: &mut Vec<u64>)
     }
 }
 
-// Ends the table. The seat that has all shares knows its words.
-fn end(table: Table<(), Knower, Plan, Keeps, Global>, seat: Seat<(), Knower>) -> Ended<(), Global>
+/// Ends the table. The seat that has all shares knows its words.
+fn end(table: Table<(), Knowledge, Plan, OneHistory, Global>, seat: Seat<(), Knowledge>) -> Ended<(), Global>
     requires table { seat.table_id ≡ table.shared.table_id }
     requires share { 0 < seat.me.0.view.shares }
-    requires seat { IsTrue (is_idle seat.me.0.view) × (table.shared.key.all ≤ seat.me.0.view.shares) }
+    requires rests { IsTrue (is_idle seat.me.0.view) }
+    requires whole { table.shared.key.all ≤ seat.me.0.view.shares }
     ensures counts { (slots_len result.words ≡ table.shared.table_id.words) × (slots_len result.slots ≡ table.shared.table_id.slots) }
-    ensures full_words { IsFull result.words × IsFull result.slots }
+    ensures full { IsFull result.words × IsFull result.slots }
+    ensures met { IsMeet (full_words table.shared.key.width) seat.me.0.view.done (slots_items result.words) }
+    ensures known { KnowsAll (slots_items result.words) table.shared.key.all seat.me.0.view }
     ensures ends { EndsWith table.shared.key.width table.shared.key.all seat.me.0.pasts seat.me.0.view (slots_items result.words) }
-    ensures known { IsKnown table.shared.key seat.me.0.view (slots_items result.words) }
 {
     events_keep_sound();
     whole_share_knows_all();
@@ -74,7 +75,8 @@ impl MeetTable {
         ensures whole { IfOk result (λ _. pass.view.shares ≡ self.all) }
         ensures words { IfOk result (λ c. IsMeet (full_words self.width) pass.view.done c.words) }
         ensures readings { IfOk result (λ _. LackOnly pass.view.readings pass.view.done) }
-        ensures stood { IfOk result (λ c. Stood c.words self.all pass.view) }
+
+        // One history goes on from all that the pass knows, ends with these words, and is sound.
         ensures ends { IfOk result (λ c. EndsWith self.width self.all pass.pasts pass.view c.words) }
         ensures fault { IfErr result (IsFault self pass) }
     {

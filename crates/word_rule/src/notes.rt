@@ -3,20 +3,21 @@ ghost use Rattle.word_rows.specs.Changes.{new_view};
 ghost use Rattle.word_rule.specs.Holdings.{IsOf, together, with_view};
 
 use crate::passes::Pass;
-use crate::rule::Knower;
+use crate::rule::Knowledge;
 use crate::single_steps::{join_seats, split_shares};
 use crate::tables::MeetTable;
 use atomic_table::Seat;
 use std::marker::{Brand, Model};
 
-/// A seat with no shares, which tells another pass what a pass has done and seen. Contracts see its table and its view.
+/// A seat with no shares, which tells another pass what a pass has done and seen. Contracts see its table, its view and the pasts that it knows.
 #[derive(Drop)]
 pub struct Note {
-    pub(crate) seat: Seat<(), Knower>,
+    pub(crate) seat: Seat<(), Knowledge>,
 }
 
 impl Model for Note {
-    ghost use Rattle.word_rule.specs.Holdings.{Holding, IsNote};
+    ghost use Rattle.word_rule.specs.Holdings.{Holding};
+    ghost use Rattle.word_rule.specs.inner.Keeping.{IsNote};
 
     ghost Value = { Holding };
 
@@ -26,7 +27,7 @@ impl Model for Note {
 }
 
 impl MeetTable {
-    /// A note that has seen what the pass has done and seen.
+    /// Makes a note that has seen what the pass has done and seen.
     pub fn note(&self, pass: &mut Pass) -> Note
         requires { IsOf self.now pass.old }
         ensures same { pass.new ≡ pass.old }
@@ -36,11 +37,12 @@ impl MeetTable {
         Note { seat }
     }
 
-    /// The pass has then seen what the note has.
+    /// Takes in a note, which has no share: the pass has then seen what the note has.
     pub fn meet(&self, pass: &mut Pass, note: Note)
         requires pass { IsOf self.now pass.old }
         requires note { IsOf self.now note }
-        ensures { pass.new ≡ together pass.old note }
+        ensures together { pass.new ≡ together pass.old note }
+        ensures no_share { note.view.shares ≡ 0 }
     {
         let Note { seat } = note;
         join_seats(&self.table.shared, &mut pass.seat, seat);

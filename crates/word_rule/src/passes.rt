@@ -1,16 +1,17 @@
-use crate::rule::Knower;
+use crate::rule::Knowledge;
 use atomic_table::Seat;
 use std::marker::Model;
 
-/// A seat at a table with at least one share, which may offer rows and read. Contracts see its table and its view. A pass that is dropped keeps its shares out.
+/// A seat at a table with at least one share, which may offer rows and read. Contracts see its table, its view and the pasts that it knows. Dropping a pass does not return its shares, so the table can then not be closed.
 #[derive(Drop)]
 pub struct Pass {
-    pub(crate) seat: Seat<(), Knower>,
+    pub(crate) seat: Seat<(), Knowledge>,
     pub(crate) shares: u32,
 }
 
 impl Model for Pass {
-    ghost use Rattle.word_rule.specs.Holdings.{Holding, IsPass};
+    ghost use Rattle.word_rule.specs.Holdings.{Holding};
+    ghost use Rattle.word_rule.specs.inner.Keeping.{IsPass};
 
     ghost Value = { Holding };
 
@@ -20,12 +21,14 @@ impl Model for Pass {
 }
 
 impl Pass {
-    ghost use Rattle.std.specs.Prelude.{◌≡◌, ◌<◌};
+    ghost use Rattle.std.specs.Prelude.{◌≡◌, ◌<◌, IsTrue};
+    ghost use Rattle.word_rows.specs.Changes.{is_idle};
 
-    /// The shares of this pass.
+    /// Tells the shares of this pass.
     pub fn shares(&self) -> u32
         ensures shares { result ≡ self.now.view.shares }
         ensures some { 0 < result }
+        ensures rests { IsTrue (is_idle self.now.view) }
     {
         self.shares
     }

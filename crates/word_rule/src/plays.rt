@@ -1,12 +1,21 @@
-//! The kinds of atomic step: what each makes of the view of the seat that makes it.
+//! The kinds of atomic step: what each makes of the seat that makes it.
 ghost use Rattle.std.specs.Prelude.{ℕ, List, []};
 ghost use Rattle.word_rows.specs.declared.entries.Entry.{Entry};
 ghost use Rattle.word_rule.specs.declared.rule.Plan.{Plan};
-ghost use Rattle.word_rule.specs.History.{HistoryClears, HistoryLoads, HistorySkips, HistoryTells, both_know, knows_nothing, left_knows, new_knows};
+ghost use Rattle.word_rule.specs.Plays.{ClearPlay, LoadPlay, SkipPlay, TellPlay, joined_knowledge, left_knowledge, new_knowledge, no_knowledge};
 
-use crate::rule::Knower;
+use crate::rule::Knowledge;
 use atomic_table::{Join, Play, Split};
 use std::marker::{Brand, PhantomData};
+
+/// What was fixed when the table was opened. Each call picks it.
+pub trait Planned {
+    ghost plan: { Plan };
+}
+
+impl Planned for Brand {
+    ghost plan = { record { width = 0; all = 0 } };
+}
 
 /// Which row is offered, and what was fixed when the table was opened. Each call picks it.
 pub trait Offered {
@@ -26,26 +35,17 @@ pub struct Clear<L> {
     of: PhantomData<L>,
 }
 
-impl<L: Offered> Play<(), Knower> for Clear<L> {
-    ghost then = { HistoryClears L.plan L.entries };
+impl<L: Offered> Play<(), Knowledge> for Clear<L> {
+    ghost then = { ClearPlay L.plan L.entries };
 }
 
-/// The next entry of the row counts as cleared, if the word has none of its bits.
+/// The next entry of the row counts as cleared where its word lacks all its bits already.
 pub struct Skip<L> {
     of: PhantomData<L>,
 }
 
-impl<L: Offered> Play<(), Knower> for Skip<L> {
-    ghost then = { HistorySkips L.plan L.entries };
-}
-
-/// What was fixed when the table was opened. Each call picks it.
-pub trait Planned {
-    ghost plan: { Plan };
-}
-
-impl Planned for Brand {
-    ghost plan = { record { width = 0; all = 0 } };
+impl<L: Offered> Play<(), Knowledge> for Skip<L> {
+    ghost then = { SkipPlay L.plan L.entries };
 }
 
 /// One word is read, and the pair of it and its value is the last reading.
@@ -53,15 +53,15 @@ pub struct Load<P> {
     of: PhantomData<P>,
 }
 
-impl<P: Planned> Play<(), Knower> for Load<P> {
-    ghost then = { HistoryLoads P.plan };
+impl<P: Planned> Play<(), Knowledge> for Load<P> {
+    ghost then = { LoadPlay P.plan };
 }
 
-/// One word is read, no view changes, and the seat learns that it has at most all shares.
+/// One word is read, the seat stays as it is, and learns that it has at most all shares.
 pub struct Tell;
 
-impl Play<(), Knower> for Tell {
-    ghost then = { HistoryTells };
+impl Play<(), Knowledge> for Tell {
+    ghost then = { TellPlay };
 }
 
 /// How many shares are split off. Each call picks it.
@@ -74,21 +74,21 @@ impl Counted for Brand {
 }
 
 /// So many shares go to a new seat, which has seen what the old one has done and seen.
-pub struct Cut<N> {
+pub struct SplitOff<N> {
     of: PhantomData<N>,
 }
 
-impl<N: Counted> Split<Knower> for Cut<N> {
-    ghost left = { left_knows N.count };
+impl<N: Counted> Split<Knowledge> for SplitOff<N> {
+    ghost left = { left_knowledge N.count };
 
-    ghost right = { new_knows N.count };
+    ghost right = { new_knowledge N.count };
 }
 
 /// Two seats become one.
-pub struct Together;
+pub struct JoinUp;
 
-impl Join<Knower> for Together {
-    ghost both = { both_know };
+impl Join<Knowledge> for JoinUp {
+    ghost both = { joined_knowledge };
 
-    ghost spent = { knows_nothing };
+    ghost spent = { no_knowledge };
 }

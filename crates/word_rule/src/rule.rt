@@ -11,21 +11,21 @@ pub struct Plan {
     pub all: u32,
 }
 
-/// What a seat did and knows, and beginnings of the history that it knows: the events up to its last step, or after a join those of both. No value of it is made.
-pub struct Knower {
+/// What a seat did and was told, and the pasts that it knows: the events up to its last step, or after a join those of both seats. No value of it is made.
+pub struct Knowledge {
     pub view: View,
     pub pasts: LinkedList<LinkedList<StepEvent>>,
 }
 
-/// What holds of a table between any two atomic steps of any threads.
-pub struct Keeps;
+/// The rule of a table: between any two atomic steps of any threads it is the step machine after one list of events.
+pub struct OneHistory;
 
-impl TableRule<(), Knower, Plan> for Keeps {
-    ghost use Rattle.word_rows.specs.Changes.{first_view};
+impl TableRule<(), Knowledge, Plan> for OneHistory {
     ghost use Rattle.std.specs.Prelude.{[]};
-    ghost use Rattle.word_rule.specs.History.{IsHistory};
+    ghost use Rattle.word_rows.specs.Changes.{first_view};
+    ghost use Rattle.word_rule.specs.Rule.{HasHistory};
 
-    ghost holds = { IsHistory };
+    ghost holds = { HasHistory };
 
     ghost first = { λ plan. record { view = first_view plan.all; pasts = [] } };
 }

@@ -2,7 +2,7 @@ ghost use Rattle.std.specs.Prelude.{◌≡◌, ◌<◌, [], IfOk};
 ghost use Rattle.word_rows.specs.Changes.{first_view};
 
 use crate::passes::Pass;
-use crate::rule::{Keeps, Knower, Plan};
+use crate::rule::{Knowledge, OneHistory, Plan};
 use atomic_table::Table;
 use std::alloc::{AllocError, Global};
 use std::marker::Model;
@@ -10,13 +10,14 @@ use std::marker::Model;
 /// The words that threads share. Contracts see which table it is, the number of its words and the number of all shares.
 #[derive(Drop)]
 pub struct MeetTable {
-    pub(crate) table: Table<(), Knower, Plan, Keeps, Global>,
+    pub(crate) table: Table<(), Knowledge, Plan, OneHistory, Global>,
     pub(crate) width: u32,
     pub(crate) all: u32,
 }
 
 impl Model for MeetTable {
-    ghost use Rattle.word_rule.specs.Holdings.{IsTable, Opened};
+    ghost use Rattle.word_rule.specs.Holdings.{Opened};
+    ghost use Rattle.word_rule.specs.inner.Keeping.{IsTable};
 
     ghost Value = { Opened };
 
@@ -26,7 +27,7 @@ impl Model for MeetTable {
 }
 
 impl MeetTable {
-    /// A table of so many words with all bits 1, and a pass with all shares.
+    /// Opens a table of so many words with all bits 1, and a pass with all shares. The only error is that memory ran out.
     pub fn open(alloc: Global, width: u32, shares: u32) -> Result<(MeetTable, Pass), AllocError>
         requires width { 0 < width }
         requires shares { 0 < shares }
@@ -42,5 +43,21 @@ impl MeetTable {
             all: shares,
         };
         Ok((table, Pass { seat, shares }))
+    }
+
+    /// Tells the number of words.
+    pub fn width(&self) -> u32
+        ensures width { result ≡ self.now.width }
+        ensures some { 0 < result }
+    {
+        self.width
+    }
+
+    /// Tells the number of all shares.
+    pub fn all(&self) -> u32
+        ensures all { result ≡ self.now.all }
+        ensures some { 0 < result }
+    {
+        self.all
     }
 }

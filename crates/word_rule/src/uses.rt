@@ -1,7 +1,7 @@
 ghost use Rattle.std.specs.Prelude.{◌≡◌, ℕ, ◌<◌, length, slice_index, IfSome};
 ghost use Rattle.word_rule.specs.Holdings.{IsOf};
-ghost use Rattle.word_rule.specs.Standing.{read_until};
-ghost use Rattle.word_rule.specs.History.{LoadHappened, ReadInOneHistory};
+ghost use Rattle.word_rule.specs.Histories.{IsLoadBetween, read_until};
+ghost use Rattle.word_rule.specs.Uses.{ReadInOneHistory};
 
 use crate::passes::Pass;
 use crate::tables::MeetTable;
@@ -9,7 +9,7 @@ use std::alloc::Global;
 use std::thread::{self, Threads};
 use word_rows::Sheet;
 
-/// Two passes read, become one and close: their readings and the words at the end are replies of the step machine in one history.
+/// Opens a table for two passes, which read, become one and close: their readings and the words at the end are replies of the step machine in one history.
 pub fn read_twice(alloc: Global, width: u32, first: &mut [u64], second: &mut [u64]) -> Option<Sheet>
     requires width { 0 < width }
     requires first { length first.old ≡ width }
@@ -29,18 +29,18 @@ pub fn read_twice(alloc: Global, width: u32, first: &mut [u64], second: &mut [u6
     }
 }
 
-// A pass reads all words.
+/// Reads all words by a pass.
 fn read_as(table: &MeetTable, mut pass: Pass, mut into: Vec<u64>) -> (Pass, Vec<u64>)
     requires table { IsOf table.now pass }
     requires width { length into.items ≡ table.now.width }
     ensures table { IsOf table.now result.0 }
-    ensures happened { (i : ℕ) → i < length result.1.items → LoadHappened table.now.width table.now.all pass.pasts (read_until pass.view result.1.items i) i (slice_index result.1.items i) result.0.pasts }
+    ensures stands { (i : ℕ) → i < length result.1.items → IsLoadBetween table.now.width table.now.all pass.pasts (read_until pass.view result.1.items i) i (slice_index result.1.items i) result.0.pasts }
 {
     table.read(&mut pass, into.as_mut_slice());
     (pass, into)
 }
 
-/// The same by two threads beside one another.
+/// Does the same by two threads beside one another.
 pub fn read_beside<R: Threads + Sync>(
     rt: &R,
     alloc: Global,
@@ -61,12 +61,12 @@ pub fn read_beside<R: Threads + Sync>(
         || -> (Pass, Vec<u64>)
             requires { IsOf shared.now one × (length first.items ≡ shared.now.width) }
             ensures table { IsOf shared.entry.now result.0 }
-            ensures happened { (i : ℕ) → i < length result.1.items → LoadHappened shared.entry.now.width shared.entry.now.all one.pasts (read_until one.view result.1.items i) i (slice_index result.1.items i) result.0.pasts }
+            ensures stands { (i : ℕ) → i < length result.1.items → IsLoadBetween shared.entry.now.width shared.entry.now.all one.pasts (read_until one.view result.1.items i) i (slice_index result.1.items i) result.0.pasts }
         { read_as(shared, one, first) },
         || -> (Pass, Vec<u64>)
             requires { IsOf shared.now other × (length second.items ≡ shared.now.width) }
             ensures table { IsOf shared.entry.now result.0 }
-            ensures happened { (i : ℕ) → i < length result.1.items → LoadHappened shared.entry.now.width shared.entry.now.all other.pasts (read_until other.view result.1.items i) i (slice_index result.1.items i) result.0.pasts }
+            ensures stands { (i : ℕ) → i < length result.1.items → IsLoadBetween shared.entry.now.width shared.entry.now.all other.pasts (read_until other.view result.1.items i) i (slice_index result.1.items i) result.0.pasts }
         { read_as(shared, other, second) },
     );
     table.join(&mut one, other);

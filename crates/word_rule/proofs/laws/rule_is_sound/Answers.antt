@@ -1,4 +1,4 @@
-use Rattle.word_rule.proofs.Moves.{rule_is_sound}
+use Rattle.word_rule.proofs.KindLemmas.{rule_is_sound}
 use Rattle.word_rule.proofs.laws.rule_is_sound.Goals as goal
 
 pub returns : goal.returns

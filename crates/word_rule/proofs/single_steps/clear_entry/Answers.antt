@@ -4,9 +4,10 @@ use mathlib.Core.Option.{none}
 use Rattle.atomic_table.specs.Table.{Allows, step}
 use Rattle.word_rows.specs.declared.entries.Entry.{Entry}
 use Rattle.word_rule.specs.declared.rule.Plan.{Plan}
-use Rattle.word_rule.specs.History.{IsHistory, HistoryClears}
-use Rattle.word_rule.proofs.Lists.{below_at}
-use Rattle.word_rule.proofs.History.{history_clear_allowed}
+use Rattle.word_rule.specs.Rule.{HasHistory}
+use Rattle.word_rule.specs.Plays.{ClearPlay}
+use Rattle.word_rule.proofs.ListLemmas.{below_at}
+use Rattle.word_rule.proofs.RuleLemmas.{clear_allowed}
 use Rattle.word_rule.proofs.single_steps.clear_entry.Goals as goal
 
 pub fetch_and-requires : goal.fetch_and-requires
@@ -17,8 +18,8 @@ fetch_and-requires g c =
     let low : e.word < plan.width = below_at plan.width row c.args.at zero_entry c.requires.width c.requires.inside in (
       c.requires.table.here,
       subst (λ (n : ℕ). e.word < n) (sym c.requires.table.shared.words) low,
-      subst (λ (k : ℕ). Allows (IsHistory plan) id.slots seat.id me e.word (λ n. bit_and n k) (HistoryClears g.L.Offered.plan g.L.Offered.entries (step id.slots e.word k 0 none) me)) (sym c.complement.ensures.bits)
-          (subst (λ (p : Plan). Allows (IsHistory plan) id.slots seat.id me e.word (λ n. bit_and n (bit_not w64 e.mask)) (HistoryClears p g.L.Offered.entries (step id.slots e.word (bit_not w64 e.mask) 0 none) me)) (sym c.requires.plan)
-          (subst (λ (r : List Entry). Allows (IsHistory plan) id.slots seat.id me e.word (λ n. bit_and n (bit_not w64 e.mask)) (HistoryClears plan r (step id.slots e.word (bit_not w64 e.mask) 0 none) me)) (sym c.requires.row)
-          (history_clear_allowed c.events_keep_sound.ensures plan c.complement_clears.ensures id.slots seat.id me row e is c.complement.ensures.fits c.requires.form c.requires.next c.requires.share c.requires.width))),
+      subst (λ (k : ℕ). Allows (HasHistory plan) id.slots seat.id me e.word (λ n. bit_and n k) (ClearPlay g.L.Offered.plan g.L.Offered.entries (step id.slots e.word k 0 none) me)) (sym c.complement.ensures.bits)
+          (subst (λ (p : Plan). Allows (HasHistory plan) id.slots seat.id me e.word (λ n. bit_and n (bit_not w64 e.mask)) (ClearPlay p g.L.Offered.entries (step id.slots e.word (bit_not w64 e.mask) 0 none) me)) (sym c.requires.plan)
+          (subst (λ (r : List Entry). Allows (HasHistory plan) id.slots seat.id me e.word (λ n. bit_and n (bit_not w64 e.mask)) (ClearPlay plan r (step id.slots e.word (bit_not w64 e.mask) 0 none) me)) (sym c.requires.row)
+          (clear_allowed c.events_keep_sound.ensures plan c.complement_clears.ensures id.slots seat.id me row e is c.complement.ensures.fits c.requires.form c.requires.next c.requires.share c.requires.width))),
     )

@@ -3,9 +3,10 @@ use mathlib.Core.Option.{none}
 use Rattle.atomic_table.specs.Table.{Allows, step}
 use Rattle.word_rows.specs.declared.entries.Entry.{Entry}
 use Rattle.word_rule.specs.declared.rule.Plan.{Plan}
-use Rattle.word_rule.specs.History.{IsHistory, HistorySkips}
-use Rattle.word_rule.proofs.Lists.{below_at}
-use Rattle.word_rule.proofs.History.{history_skip_allowed}
+use Rattle.word_rule.specs.Rule.{HasHistory}
+use Rattle.word_rule.specs.Plays.{SkipPlay}
+use Rattle.word_rule.proofs.ListLemmas.{below_at}
+use Rattle.word_rule.proofs.RuleLemmas.{skip_allowed}
 use Rattle.word_rule.proofs.single_steps.skip_entry.Goals as goal
 
 pub load-requires : goal.load-requires
@@ -16,7 +17,7 @@ load-requires g c =
     let low : e.word < plan.width = below_at plan.width row c.args.at zero_entry c.requires.width c.requires.inside in (
       c.requires.table.here,
       subst (λ (n : ℕ). e.word < n) (sym c.requires.table.shared.words) low,
-      subst (λ (p : Plan). Allows (IsHistory plan) id.slots seat.id me e.word (λ n. n) (HistorySkips p g.L.Offered.entries (step id.slots e.word 0 0 none) me)) (sym c.requires.plan)
-          (subst (λ (r : List Entry). Allows (IsHistory plan) id.slots seat.id me e.word (λ n. n) (HistorySkips plan r (step id.slots e.word 0 0 none) me)) (sym c.requires.row)
-          (history_skip_allowed c.events_keep_sound.ensures plan id.slots seat.id me row e is c.requires.form c.requires.next c.requires.share c.requires.width)),
+      subst (λ (p : Plan). Allows (HasHistory plan) id.slots seat.id me e.word (λ n. n) (SkipPlay p g.L.Offered.entries (step id.slots e.word 0 0 none) me)) (sym c.requires.plan)
+          (subst (λ (r : List Entry). Allows (HasHistory plan) id.slots seat.id me e.word (λ n. n) (SkipPlay plan r (step id.slots e.word 0 0 none) me)) (sym c.requires.row)
+          (skip_allowed c.events_keep_sound.ensures plan id.slots seat.id me row e is c.requires.form c.requires.next c.requires.share c.requires.width)),
     )

@@ -1,7 +1,8 @@
 use Rattle.std.proofs.Common.{◌≡◌, ℕ, ◌++◌, subst}
 use Rattle.word_rule.specs.Holdings.{Holding, together}
-use Rattle.word_rule.specs.History.{EndsWith, ReadInOneHistory}
-use Rattle.word_rule.proofs.History.{both_in_one}
+use Rattle.word_rule.specs.Histories.{EndsWith}
+use Rattle.word_rule.specs.Uses.{ReadInOneHistory}
+use Rattle.word_rule.proofs.UseLemmas.{both_in_one}
 use Rattle.word_rule.proofs.uses.read_beside.Goals as goal
 
 pub returns-in-Ok-close : goal.returns-in-Ok-close

@@ -1,7 +1,8 @@
 use Rattle.std.proofs.Common.{◌≡◌, ℕ, ◌++◌, subst}
 use Rattle.word_rule.specs.Holdings.{Holding, together}
-use Rattle.word_rule.specs.History.{EndsWith, ReadInOneHistory}
-use Rattle.word_rule.proofs.History.{both_in_one}
+use Rattle.word_rule.specs.Histories.{EndsWith}
+use Rattle.word_rule.specs.Uses.{ReadInOneHistory}
+use Rattle.word_rule.proofs.UseLemmas.{both_in_one}
 use Rattle.word_rule.proofs.uses.read_twice.Goals as goal
 
 pub returns-in-Ok-close : goal.returns-in-Ok-close
@@ -11,4 +12,4 @@ returns-in-Ok-close c =
     let ends : EndsWith w a (one.pasts ++ other.pasts) (together one other).view words = subst (λ (p : Holding). EndsWith w a p.pasts p.view words) c.join.ensures c.in-Ok-close.ensures.ends in
     subst (λ (n : ℕ). ReadInOneHistory n 2 first second words) c.in-Ok.ensures.table.0
     (subst (λ (n : ℕ). ReadInOneHistory w n first second words) c.in-Ok.ensures.table.1
-    (both_in_one w a first second words one.pasts other.pasts c.split-other.new.pass.pasts c.split-other.result.pasts c.split-other.new.pass.view c.split-other.result.view (together one other).view c.read.ensures.happened c.read-2.ensures.happened ends))
+    (both_in_one w a first second words one.pasts other.pasts c.split-other.new.pass.pasts c.split-other.result.pasts c.split-other.new.pass.view c.split-other.result.view (together one other).view c.read.ensures.stands c.read-2.ensures.stands ends))

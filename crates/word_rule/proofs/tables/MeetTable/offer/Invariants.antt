@@ -1,6 +1,5 @@
 use Rattle.std.proofs.Common.{◌≡◌, ℕ, ◌<◌, []}
-use Rattle.word_rule.specs.Standing.{offered_until}
-use Rattle.word_rule.specs.History.{ClearHappened, Grows, IsOne}
+use Rattle.word_rule.specs.Histories.{IsClearBetween, KnowsMore, IsOnePast, offered_until}
 use Rattle.word_rule.proofs.tables.MeetTable.offer.Given as goal
 
 abbrev pub ghosts-offer_entry : goal.ghosts-offer_entry
@@ -12,7 +11,7 @@ invariant-loop-at l = record {
   shares : l.pass-inside.shares ≡ l.fn.pass.view.shares;
   view : l.pass-inside.seat.me.0.view ≡ offered_until l.fn.pass.view l.row l.at;
   held : l.pass-inside.seat.me.1 ≡ [];
-  happened : (k : ℕ) → k < l.at → ClearHappened l.self.width l.self.all l.fn.pass.pasts (offered_until l.fn.pass.view l.row k) l.row l.pass-inside.seat.me.0.pasts;
-  grows : Grows l.fn.pass.pasts l.pass-inside.seat.me.0.pasts;
-  one : 0 < l.at → IsOne l.pass-inside.seat.me.0.pasts;
+  stands : (k : ℕ) → k < l.at → IsClearBetween l.self.width l.self.all l.fn.pass.pasts (offered_until l.fn.pass.view l.row k) l.row l.pass-inside.seat.me.0.pasts;
+  more : KnowsMore l.fn.pass.pasts l.pass-inside.seat.me.0.pasts;
+  one : 0 < l.at → IsOnePast l.pass-inside.seat.me.0.pasts;
 }

@@ -5,14 +5,11 @@ use Rattle.word_rows.specs.declared.entries.Entry.{Entry}
 use Rattle.word_rows.specs.declared.views.View.{View}
 use Rattle.word_rows.specs.Changes.{is_idle, finished_view, midway_view, next_view}
 use Rattle.word_rows.specs.Machine.{can_clear}
-use Rattle.word_rows.specs.Rows.{same_row}
-use Rattle.word_rule.specs.Standing.{offered_until}
+use Rattle.word_rows.specs.Meeting.{RowIsSame}
+use Rattle.word_rule.proofs.ListLemmas.{idle_row, idle_cleared}
+use Rattle.word_rule.specs.Histories.{offered_until}
 
-same_row-refl : (row : List Entry) → same_row row row ≡ true
-same_row-refl [] = refl
-same_row-refl (e ∷ es) = and_from _ _ (and_from _ _ (eq-eqb e.word e.word refl) (eq-eqb e.mask e.mask refl)) (same_row-refl es)
-
-module _ (v : View) (row : List Entry) (rests : IsTrue (is_idle v)) where
+module _ (same_row-refl : RowIsSame) (v : View) (row : List Entry) (rests : is_idle v ≡ true) where
   begins : (k : ℕ) → k ≡ 0 → offered_until v row k ≡ v
   begins k z = cond-true _ v _ (eq-eqb k 0 z)
 
@@ -34,9 +31,9 @@ module _ (v : View) (row : List Entry) (rests : IsTrue (is_idle v)) where
   one_more k = sym (cond-false _ v _ (ne_eqb (k + 1) 0 (λ e. omega arith)))
 
   next_first : (k : ℕ) → k ≡ 0 → Next k
-  next_first k z = let here : offered_until v row k ≡ v = begins k z in let same : v.cleared ≡ k = rests.1 ∙ sym z in record {
+  next_first k z = let here : offered_until v row k ≡ v = begins k z in let same : v.cleared ≡ k = idle_cleared v rests ∙ sym z in record {
     cleared = sym same ∙ ap (λ (u : View). u.cleared) (sym here);
-    can = or_left _ _ (eq-eqb _ 0 (ap (λ (u : View). u.cleared) here ∙ rests.1));
+    can = or_left _ _ (ap is_idle here ∙ rests);
     shares = ap (λ (u : View). u.shares) here;
     more = ap (λ (u : View). next_view u row) here ∙ ap (λ (n : ℕ). cond (n + 1 == length row) (finished_view v row) (midway_view v row (n + 1))) same ∙ one_more k;
   }
@@ -44,7 +41,7 @@ module _ (v : View) (row : List Entry) (rests : IsTrue (is_idle v)) where
   next_midway : (k : ℕ) → (k ≡ 0 → ⊥) → k < length row → Next k
   next_midway k n h = let here : offered_until v row k ≡ midway_view v row k = midway k n h in record {
     cleared = ap (λ (u : View). u.cleared) (sym here);
-    can = ap (λ (u : View). can_clear u row) here ∙ or_right (k == 0) _ (same_row-refl row);
+    can = ap (λ (u : View). can_clear u row) here ∙ or_right (is_idle (midway_view v row k)) _ (same_row-refl row);
     shares = ap (λ (u : View). u.shares) here;
     more = ap (λ (u : View). next_view u row) here ∙ one_more k;
   }
@@ -55,7 +52,7 @@ module _ (v : View) (row : List Entry) (rests : IsTrue (is_idle v)) where
   -- the view after the whole row
   pub ends : (k : ℕ) → 0 < length row → k ≡ length row → ◌≡◌ {A = View} (offered_until v row k) (record v { done = v.done ++ row ∷ [] })
   ends k long e = cond-false _ v _ (ne_eqb k 0 (λ z. omega arith)) ∙ cond-true _ (finished_view v row) _ (eq-eqb k (length row) e)
-      ∙ λ j. record { all = v.all; shares = v.shares; done = v.done ++ row ∷ []; row = sym rests.0 j; cleared = sym rests.1 j; seen = v.seen; readings = v.readings }
+      ∙ λ j. record { all = v.all; shares = v.shares; done = v.done ++ row ∷ []; row = sym (idle_row v rests) j; cleared = sym (idle_cleared v rests) j; seen = v.seen; readings = v.readings }
 
 -- what was told of the entries before, and of one more
 pub one_told : (H : View → Type 0) (v u : View) (row : List Entry) (at : ℕ) → u ≡ offered_until v row at → ((k : ℕ) → k < at → H (offered_until v row k)) → H u → (k : ℕ) → k < at + 1 → H (offered_until v row k)

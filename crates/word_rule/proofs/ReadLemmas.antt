@@ -11,7 +11,7 @@ use Rattle.word_rows.specs.Words.{bit_of}
 use Rattle.word_rows.specs.Accounts.{lacks}
 use Rattle.word_rows.specs.Changes.{readings_from, with_reading, with_readings}
 use Rattle.word_rule.specs.Shown.{shows}
-use Rattle.word_rule.specs.Standing.{read_until}
+use Rattle.word_rule.specs.Histories.{read_until}
 
 abbrev reading : ℕ → ℕ → Reading
 reading i x = record { word = i; value = x }

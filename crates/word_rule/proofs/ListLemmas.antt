@@ -1,7 +1,7 @@
 -- Lists that are read at a place.
-use Rattle.std.proofs.Common.{◌≡◌, ◌≢◌, ℕ, zero, suc, ◌+◌, ◌<◌, true, false, nat_lt, List, [], ◌∷◌, ◌++◌, length, get_or, set, take, replicate, sym, ap, ◌∙◌, subst, ⊎_elim, arith}
-use Rattle.std.proofs.lemmas.Bool.{and_parts, ltb-true}
-use Rattle.std.proofs.lemmas.List.{take_more, get_or-replicate}
+use Rattle.std.proofs.Common.{◌≡◌, ◌≢◌, ℕ, zero, suc, ◌+◌, ◌<◌, true, ◌&&◌, ◌==◌, nat_lt, refl, List, [], ◌∷◌, ◌++◌, length, get_or, set, take, sym, ap, ◌∙◌, subst, ⊎_elim, arith}
+use Rattle.std.proofs.lemmas.Bool.{and_parts, eqb-true, ltb-true}
+use Rattle.std.proofs.lemmas.List.{take_more}
 use Rattle.atomic_table.proofs.Lists.{at_set, at_snoc}
 use mathlib.Core.Option.{some, some-injective, some-ne-none}
 use lib.ListN.{get_elem?}
@@ -9,6 +9,7 @@ use Rattle.word_rows.specs.declared.entries.Entry.{Entry}
 use Rattle.word_rows.specs.declared.views.View.{View}
 use Rattle.word_rows.specs.Rows.{below}
 use Rattle.word_rows.specs.Accounts.{Each}
+use Rattle.word_rows.specs.Changes.{is_idle}
 
 module _ {A : Type 0} where
   pub at_or : (l : List A) (i : ℕ) (a d : A) → get_elem? l i ≡ some a → get_or l i d ≡ a
@@ -24,10 +25,18 @@ module _ {A : Type 0} where
   pub take_at : (l : List A) (i : ℕ) (a : A) → get_elem? l i ≡ some a → take (i + 1) l ≡ take i l ++ a ∷ []
   take_at l i a e = take_more l i a (at_inside l i a e) ∙ ap (λ (y : A). take i l ++ y ∷ []) (at_or l i a a e)
 
--- a seat that has a view is live where all are
-pub live_at : (views : List View) (id : ℕ) (v : View) → get_elem? views id ≡ some v → get_or (replicate (length views) true) id false ≡ true
-live_at views id v e = get_or-replicate (length views) id true false (at_inside views id v e)
+-- ---- a view with no row in progress
+no_entry : (row : List Entry) → (length row == 0) ≡ true → row ≡ []
+no_entry [] t = refl
+no_entry (e ∷ es) t = let z = eqb-true (length (e ∷ es)) 0 t in absurd (omega arith)
 
+pub idle_row : (v : View) → is_idle v ≡ true → v.row ≡ []
+idle_row v t = no_entry v.row (and_parts (length v.row == 0) (v.cleared == 0) t).0
+
+pub idle_cleared : (v : View) → is_idle v ≡ true → v.cleared ≡ 0
+idle_cleared v t = eqb-true v.cleared 0 (and_parts (length v.row == 0) (v.cleared == 0) t).1
+
+-- ---- a fact of each view
 pub each_set : (F : View → Type 0) (views : List View) (id : ℕ) (w : View) → F w → Each F views → Each F (set views id w)
 each_set F views id w mine others j u e = ⊎_elim (λ (t : (j ≡ id) × (w ≡ u)). subst F t.1 mine) (λ (t : (j ≢ id) × (get_elem? views j ≡ some u)). others j u t.1) (at_set views id j w u e)
 
