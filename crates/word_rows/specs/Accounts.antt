@@ -1,4 +1,5 @@
--- What views account for: the bits that they cleared, the bits that their readings lack, and their shares.
+-- What views account for: the bits that they cleared, the bits that their readings lack, and their
+-- shares.
 use Rattle.std.specs.Prelude.{◌≡◌, ℕ, ◌<◌, Bool, true, ◌&&◌, ◌||◌, ◌==◌, nat_lt, List, length, take}
 use Rattle.std.specs.List.{list_any, list_all, sum_by}
 use Rattle.std.specs.Int.{bit_at}
@@ -24,7 +25,8 @@ views_clear views word bit = list_any (λ (v : View). view_clears v word bit) vi
 
 -- some reading of this word lacks this bit
 abbrev pub lacks : List Reading → ℕ → ℕ → Bool
-lacks readings word bit = list_any (λ (r : Reading). (r.word == word) && (bit_at r.value bit == 0)) readings
+lacks readings word bit =
+    list_any (λ (r : Reading). (r.word == word) && (bit_at r.value bit == 0)) readings
 
 -- all words that these readings name are below the width
 abbrev pub readings_below : ℕ → List Reading → Bool

@@ -6,11 +6,27 @@ use Rattle.word_rows.specs.declared.views.View.{View}
 
 -- the view at opening has all shares and empty lists
 abbrev pub first_view : ℕ → View
-first_view all = record { all = all; shares = all; done = []; row = []; cleared = 0; seen = []; readings = [] }
+first_view all = record {
+  all = all;
+  shares = all;
+  done = [];
+  row = [];
+  cleared = 0;
+  seen = [];
+  readings = [];
+}
 
 -- the view of a seat that was joined away
 abbrev pub empty_view : View
-empty_view = record { all = 0; shares = 0; done = []; row = []; cleared = 0; seen = []; readings = [] }
+empty_view = record {
+  all = 0;
+  shares = 0;
+  done = [];
+  row = [];
+  cleared = 0;
+  seen = [];
+  readings = [];
+}
 
 -- no row is in progress
 abbrev pub is_idle : View → Bool
@@ -26,22 +42,41 @@ midway_view v row cleared = record v { row = row; cleared = cleared }
 
 -- Clear: one entry more of the row is cleared
 abbrev pub next_view : View → List Entry → View
-next_view v row = if v.cleared + 1 == length row then finished_view v row else midway_view v row (v.cleared + 1)
+next_view v row =
+    if v.cleared + 1 == length row then finished_view v row else midway_view v row (v.cleared + 1)
 
 -- Load: the pair of a word and its value is the last reading
 abbrev pub with_reading : View → ℕ → ℕ → View
-with_reading v word value = record v { readings = v.readings ++ record { word = word; value = value } ∷ [] }
+with_reading v word value = record v {
+  readings = v.readings ++ record {
+    word = word;
+    value = value;
+  } ∷ [];
+}
 
 -- Split: what is left to the view, and what the new view begins with
 abbrev pub left_view : ℕ → View → View
 left_view shares v = record v { shares = v.shares - shares }
 
 abbrev pub new_view : ℕ → View → View
-new_view shares v = record { all = v.all; shares = shares; done = []; row = []; cleared = 0; seen = v.seen ++ v.done; readings = [] }
+new_view shares v = record {
+  all = v.all;
+  shares = shares;
+  done = [];
+  row = [];
+  cleared = 0;
+  seen = v.seen ++ v.done;
+  readings = [];
+}
 
 -- Join: shares add up, and the other's lists follow
 abbrev pub joined_view : View → View → View
-joined_view v w = record v { shares = v.shares + w.shares; done = v.done ++ w.done; seen = v.seen ++ w.seen; readings = v.readings ++ w.readings }
+joined_view v w = record v {
+  shares = v.shares + w.shares;
+  done = v.done ++ w.done;
+  seen = v.seen ++ w.seen;
+  readings = v.readings ++ w.readings;
+}
 
 -- a row more, and readings more, at the end of the view's
 abbrev pub with_done : View → List Entry → View

@@ -1,4 +1,5 @@
--- The step machine: words, the number of shares at opening, and a view for each seat; what each event does to them, when it is refused, and its reply.
+-- The step machine: words, the number of shares at opening, and a view for each seat; what each
+-- event does to them, when it is refused, and its reply.
 use Rattle.std.specs.Prelude.{◌≡◌, ℕ, Bool, true, false, not, ◌&&◌, ◌||◌, ◌==◌, nat_lt, if◌then◌else◌, Option, Some, None, Result, Ok, Err, List, [], ◌∷◌, ◌++◌, map, length, slice_index, slice_index_or, slice_set}
 use Rattle.word_rows.specs.declared.entries.Entry.{Entry}
 use Rattle.word_rows.specs.declared.views.View.{View}
@@ -11,14 +12,16 @@ use Rattle.word_rows.specs.Words.{AreWords, full_words, without_entry}
 use Rattle.word_rows.specs.Changes.{first_view, empty_view, is_idle, next_view, with_reading, left_view, new_view, joined_view}
 use Rattle.word_rows.specs.Sound.{IsSound}
 
--- seats are numbered from 0 in the order in which they are made, and so are their views; a seat is live until it is joined away or a close succeeds
+-- seats are numbered from 0 in the order in which they are made, and so are their views; a seat is
+-- live until it is joined away or a close succeeds
 pub record StepState : Type 0 where
   pub words : List ℕ
   pub all : ℕ
   pub views : List View
   pub live : List Bool
 
--- the seat; the seat; the shares that it has and those asked; the word and the width; the shares that the seat has and all
+-- the seat; the seat; the shares that it has and those asked; the word and the width; the shares
+-- that the seat has and all
 pub data Fault : Type 0 where
   no_seat : ℕ → Fault
   row_open : ℕ → Fault
@@ -28,7 +31,12 @@ pub data Fault : Type 0 where
 
 -- all bits are 1, and seat 0 has all shares
 abbrev pub opening_state : ℕ → ℕ → StepState
-opening_state width all = record { words = full_words width; all = all; views = first_view all ∷ []; live = true ∷ [] }
+opening_state width all = record {
+  words = full_words width;
+  all = all;
+  views = first_view all ∷ [];
+  live = true ∷ [];
+}
 
 abbrev pub is_live : StepState → ℕ → Bool
 is_live s seat = slice_index_or s.live seat false
@@ -49,13 +57,16 @@ abbrev pub first_past : ℕ → List Entry → ℕ
 first_past width [] = 0
 first_past width (e ∷ es) = if nat_lt e.word width then first_past width es else e.word
 
--- the first fault of an event, in this order: no seat, a row open, a bad share, a bad word, shares out
+-- the first fault of an event, in this order: no seat, a row open, a bad share, a bad word, shares
+-- out
 abbrev pub fault_of : StepState → StepEvent → Option Fault
 fault_of s (clear seat row) =
     if not (is_live s seat) then Some (no_seat seat) else (
     if not (can_clear (view_at s seat) row) then Some (row_open seat) else (
     if (view_at s seat).shares == 0 then Some (bad_share 0 1) else (
-    if not (below (length s.words) row) then Some (bad_word (first_past (length s.words) row) (length s.words)) else None)))
+    if not (below (length s.words) row)
+    then Some (bad_word (first_past (length s.words) row) (length s.words))
+    else None)))
 fault_of s (load seat word) =
     if not (is_live s seat) then Some (no_seat seat) else (
     if not (is_idle (view_at s seat)) then Some (row_open seat) else (
@@ -63,7 +74,9 @@ fault_of s (load seat word) =
 fault_of s (split seat shares) =
     if not (is_live s seat) then Some (no_seat seat) else (
     if not (is_idle (view_at s seat)) then Some (row_open seat) else (
-    if not (nat_lt shares (view_at s seat).shares) then Some (bad_share (view_at s seat).shares shares) else None))
+    if not (nat_lt shares (view_at s seat).shares)
+    then Some (bad_share (view_at s seat).shares shares)
+    else None))
 fault_of s (join seat other) =
     if not (is_live s seat) then Some (no_seat seat) else (
     if (not (is_live s other) || (seat == other)) then Some (no_seat other) else (
@@ -72,19 +85,37 @@ fault_of s (join seat other) =
 fault_of s (close seat) =
     if not (is_live s seat) then Some (no_seat seat) else (
     if not (is_idle (view_at s seat)) then Some (row_open seat) else (
-    if nat_lt (view_at s seat).shares s.all then Some (shares_out (view_at s seat).shares s.all) else None))
+    if nat_lt (view_at s seat).shares s.all
+    then Some (shares_out (view_at s seat).shares s.all)
+    else None))
 
 -- the state after an event that has no fault
 abbrev pub next_state : StepState → StepEvent → StepState
-next_state s (clear seat row) = record s { words = without_entry s.words (entry_at row (view_at s seat).cleared); views = slice_set s.views seat (next_view (view_at s seat) row) }
-next_state s (load seat word) = record s { views = slice_set s.views seat (with_reading (view_at s seat) word (slice_index s.words word)) }
-next_state s (split seat shares) = record s { views = slice_set s.views seat (left_view shares (view_at s seat)) ++ new_view shares (view_at s seat) ∷ []; live = s.live ++ true ∷ [] }
-next_state s (join seat other) = record s { views = slice_set (slice_set s.views seat (joined_view (view_at s seat) (view_at s other))) other empty_view; live = slice_set s.live other false }
+next_state s (clear seat row) = record s {
+  words = without_entry s.words (entry_at row (view_at s seat).cleared);
+  views = slice_set s.views seat (next_view (view_at s seat) row);
+}
+next_state s (load seat word) = record s {
+  views = slice_set s.views seat (with_reading (view_at s seat) word (slice_index s.words word));
+}
+next_state s (split seat shares) = record s {
+  views =
+      slice_set s.views seat (left_view shares (view_at s seat))
+      ++ new_view shares (view_at s seat) ∷ [];
+  live = s.live ++ true ∷ [];
+}
+next_state s (join seat other) = record s {
+  views =
+      slice_set (slice_set s.views seat (joined_view (view_at s seat) (view_at s other)))
+      other empty_view;
+  live = slice_set s.live other false;
+}
 next_state s (close seat) = record s { live = map (λ _. false) s.live }
 
 -- the reply to an event that has no fault
 abbrev pub reply_of : StepState → StepEvent → Reply
-reply_of s (clear seat row) = Cleared (slice_index s.words (entry_at row (view_at s seat).cleared).word)
+reply_of s (clear seat row) =
+    Cleared (slice_index s.words (entry_at row (view_at s seat).cleared).word)
 reply_of s (load seat word) = Loaded (slice_index s.words word)
 reply_of s (split seat shares) = Split (length s.views)
 reply_of s (join seat other) = Joined
@@ -104,7 +135,8 @@ abbrev pub steps : StepState → List StepEvent → StepState × List (Result Re
 steps s [] = (s, [])
 steps s (e ∷ es) = let first = step s e in let rest = steps first.0 es in (rest.0, first.1 ∷ rest.1)
 
--- the state and the replies after an opening with this width and number of shares and then a list of events
+-- the state and the replies after an opening with this width and number of shares and then a list
+-- of events
 abbrev pub after : ℕ → ℕ → List StepEvent → StepState × List (Result Reply Fault)
 after width all events = steps (opening_state width all) events
 

@@ -1,4 +1,5 @@
--- Rows: which bits of which words they clear. Words are counted from 0, and the bits of a word from 0, the lowest, to 63.
+-- Rows: which bits of which words they clear. Words are counted from 0, and the bits of a word from
+-- 0, the lowest, to 63.
 use Rattle.std.specs.Prelude.{◌≡◌, ℕ, Bool, true, false, not, ◌&&◌, ◌||◌, ◌==◌, nat_lt, List, [], ◌∷◌, map, length}
 use Rattle.std.specs.Cmp.Lexicographic.{pointwise}
 use Rattle.std.specs.List.{list_any, list_all}
@@ -18,9 +19,11 @@ is_blank (e ∷ f ∷ es) = false
 
 -- the words of the entries rise strictly and no mask is 0
 abbrev pub is_ascending : List Entry → Bool
-is_ascending row = is_rising (map (λ (e : Entry). e.word) row) && list_all (λ (e : Entry). not (e.mask == 0)) row
+is_ascending row =
+    is_rising (map (λ (e : Entry). e.word) row) && list_all (λ (e : Entry). not (e.mask == 0)) row
 
--- the form of a row: at least one entry, the words rise strictly and no mask is 0; or the row that clears nothing
+-- the form of a row: at least one entry, the words rise strictly and no mask is 0; or the row that
+-- clears nothing
 abbrev pub is_row : List Entry → Bool
 is_row row = is_blank row || (not (length row == 0) && is_ascending row)
 
@@ -54,4 +57,5 @@ same_row = pointwise same_entry
 
 -- the new entries clear this bit of this word besides those of the old, and no other
 abbrev pub AddsBit : List Entry → ℕ → ℕ → List Entry → Type 0
-AddsBit old word bit new = (i b : ℕ) → clears new i b ≡ (clears old i b || ((word == i) && (bit == b)))
+AddsBit old word bit new = (i b : ℕ)
+    → clears new i b ≡ (clears old i b || ((word == i) && (bit == b)))

@@ -18,8 +18,10 @@ pub record IsBelow (width : ℕ) (v : View) : Type 0 where
   pub readings : readings_below width v.readings ≡ true
 
 pub record IsSound (words : List ℕ) (all : ℕ) (views : List View) : Type 0 where
-  -- each bit that is 0 is one of a done row, or of a cleared entry of a row in progress, of some view
-  pub accounted : (i b : ℕ) → i < length words → b < 64 → bit_of words i b ≡ 0 → views_clear views i b ≡ true
+  -- each bit that is 0 is one of a done row, or of a cleared entry of a row in progress, of some
+  -- view
+  pub accounted : (i b : ℕ) → i < length words → b < 64 → bit_of words i b ≡ 0
+      → views_clear views i b ≡ true
   -- each bit of a done row, or of a cleared entry, of any view is 0
   pub cleared : Each (λ v. AreZero words (view_clears v)) views
   -- the shares of all views add up to the number at opening
@@ -29,7 +31,8 @@ pub record IsSound (words : List ℕ) (all : ℕ) (views : List View) : Type 0 w
   -- a reading has every bit that its word has now
   pub kept : Each (λ v. AreZero words (lacks v.readings)) views
   -- each bit that a reading lacks is one of a done row or of a cleared entry of some view
-  pub found : Each (λ v. (i b : ℕ) → i < length words → b < 64 → lacks v.readings i b ≡ true → views_clear views i b ≡ true) views
+  pub found : Each (λ v. (i b : ℕ) → i < length words → b < 64 → lacks v.readings i b ≡ true
+      → views_clear views i b ≡ true) views
   -- each bit of a seen row of any view is 0
   pub seen : Each (λ v. AreZero words (rows_clear v.seen)) views
   -- a row in progress has a cleared entry and one that is not

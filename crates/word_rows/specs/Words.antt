@@ -28,12 +28,15 @@ without n mask = bit_xor n (bit_and n mask)
 abbrev pub without_entry : List ℕ → Entry → List ℕ
 without_entry words e = slice_set words e.word (without (slice_index words e.word) e.mask)
 
--- the meet of words with a list of rows: a bit that some row clears is 0, and every other bit is what it was
+-- the meet of words with a list of rows: a bit that some row clears is 0, and every other bit is
+-- what it was
 pub record IsMeet (old : List ℕ) (rows : List (List Entry)) (new : List ℕ) : Type 0 where
   pub width : length new ≡ length old
-  pub bits : (i b : ℕ) → i < length old → b < 64 → bit_of new i b ≡ (if rows_clear rows i b then 0 else bit_of old i b)
+  pub bits : (i b : ℕ) → i < length old → b < 64
+      → bit_of new i b ≡ (if rows_clear rows i b then 0 else bit_of old i b)
 
 -- the meet of two lists of words of one width: a bit is 1 where it is 1 in both
 pub record IsCommon (old other new : List ℕ) : Type 0 where
   pub width : length new ≡ length old
-  pub bits : (i b : ℕ) → i < length old → b < 64 → bit_of new i b ≡ min (bit_of old i b) (bit_of other i b)
+  pub bits : (i b : ℕ) → i < length old → b < 64
+      → bit_of new i b ≡ min (bit_of old i b) (bit_of other i b)

@@ -13,7 +13,8 @@ pub struct Entry {
     pub mask: u64,
 }
 
-/// A list of entries that has the form of a row: at least one entry, the words rise strictly and no mask is 0. A row that clears nothing is the one entry (0, 0).
+/// A list of entries that has the form of a row: at least one entry, the words rise strictly and no
+/// mask is 0. A row that clears nothing is the one entry (0, 0).
 #[derive(Debug, Drop)]
 pub struct Row {
     entries: Vec<Entry>,
@@ -31,7 +32,7 @@ impl Model for Row {
     ghost invariant = { λ r. is_row r.entries.items ≡ true };
 }
 
-// Whether the only entry is (0, 0).
+/// Tests whether the only entry is (0, 0).
 fn clears_nothing(entries: &[Entry]) -> bool
     ensures { result ≡ is_blank entries.now }
 {
@@ -41,7 +42,7 @@ fn clears_nothing(entries: &[Entry]) -> bool
     }
 }
 
-// Whether the words rise strictly and no mask is 0.
+/// Tests whether the words rise strictly and no mask is 0.
 fn ascends(entries: &[Entry]) -> bool
     ensures { result ≡ is_ascending entries.now }
 {
@@ -56,14 +57,14 @@ fn ascends(entries: &[Entry]) -> bool
 }
 
 impl Row {
-    /// Whether the entries have the form of a row.
+    /// Tests whether the entries have the form of a row.
     pub fn fits(entries: &[Entry]) -> bool
         ensures { result ≡ is_row entries.now }
     {
         clears_nothing(entries) || (!entries.is_empty() && ascends(entries))
     }
 
-    /// The row of these entries, whose form `fits` tests.
+    /// Makes the row of these entries, whose form `fits` tests.
     pub fn of(entries: Vec<Entry>) -> Row
         requires { IsTrue (is_row entries.items) }
         ensures { result ≡ entries.items }
@@ -71,7 +72,7 @@ impl Row {
         Row { entries }
     }
 
-    /// The entries, their words rising.
+    /// Lends the entries, their words rising.
     pub fn entries(&self) -> &[Entry]
         ensures same { result.now ≡ self.now }
         ensures form { IsTrue (is_row self.now) }

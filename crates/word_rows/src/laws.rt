@@ -1,4 +1,5 @@
-//! What follows from the definitions alone. Each law is the contract of a function that does nothing.
+//! What follows from the definitions alone. Each law is the contract of a function that does
+//! nothing.
 ghost use Rattle.word_rows.specs.Keeping.{EventsKeepSound, OpeningIsSound, StepKeepsSound, WholeShareKnowsAll};
 ghost use Rattle.word_rows.specs.Meeting.{BelowWider, BlockLacks, ClearsAppend, ClearsBelow, CommonByAnd, CommonIsMeet, ComplementClears, LacksAppend, MeetBegins, MeetByBits, MeetIsUnique, MeetsFollow, OrderIsFree, RowIsSame, RowsClearAppend, SameRowIsOne, WidenedMeet};
 
@@ -17,7 +18,8 @@ pub fn events_keep_sound()
     ensures { EventsKeepSound }
 {}
 
-/// In a sound state the view that has all shares tells the words by its done rows, and its readings lack only their bits.
+/// In a sound state the view that has all shares tells the words by its done rows, and its readings
+/// lack only their bits.
 pub fn whole_share_knows_all()
     ensures { WholeShareKnowsAll }
 {}

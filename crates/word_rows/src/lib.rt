@@ -1,4 +1,5 @@
-//! Rows of bits to be cleared, sheets of words, and the step machine: what single steps of many seats do to shared words, and what holds between any two of them.
+//! Rows of bits to be cleared, sheets of words, and the step machine: what single steps of many
+//! seats do to shared words, and what holds between any two of them.
 #![tactic(auto)]
 
 mod entries;

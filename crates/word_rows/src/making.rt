@@ -37,7 +37,8 @@ impl RowMaker {
         }
     }
 
-    /// Clears this bit of this word too, no later word having been begun. The only error is that memory ran out.
+    /// Clears this bit of this word too, no later word having been begun. The only error is that
+    /// memory ran out.
     pub fn clear(&mut self, word: u32, bit: u32) -> Result<(), AllocError>
         requires no_later { IsTrue (below (word + 1) self.old) }
         requires bit { bit < 64 }
@@ -59,7 +60,8 @@ impl RowMaker {
         Ok(())
     }
 
-    /// Gives the row, which is (0, 0) where nothing was cleared. The only error is that memory ran out.
+    /// Gives the row, which is (0, 0) where nothing was cleared. The only error is that memory ran
+    /// out.
     pub fn finish(self) -> Result<Row, AllocError>
         ensures { IfOk result (λ r. r ≡ self) }
     {

@@ -20,7 +20,7 @@ impl Model for Sheet {
     ghost view = { λ s. s.words.items };
 }
 
-// The words lose the bits of these entries.
+/// Takes the bits of these entries from the words.
 fn clear_entries(words: &mut [u64], entries: &[Entry])
     requires { IsTrue (below (length words.old) entries.now) }
     ensures { IsMeet words.old (entries.now ∷ []) words.new }
@@ -30,7 +30,7 @@ fn clear_entries(words: &mut [u64], entries: &[Entry])
     }
 }
 
-// The words lose the bits that the others lack.
+/// Takes the bits that the others lack from the words.
 fn keep_common(words: &mut [u64], others: &[u64])
     requires { length others.now ≡ length words.old }
     ensures { IsCommon words.old others.now words.new }
@@ -40,7 +40,7 @@ fn keep_common(words: &mut [u64], others: &[u64])
     }
 }
 
-// Lends the words, each of which has 64 bits.
+/// Lends the words, each of which has 64 bits.
 fn lent(words: &[u64]) -> &[u64]
     ensures same { result.now ≡ words.now }
     ensures bound { AreWords words.now }
@@ -49,7 +49,7 @@ fn lent(words: &[u64]) -> &[u64]
 }
 
 impl Sheet {
-    /// As many words as the width, with all bits 1.
+    /// Makes as many words as the width, with all bits 1. The only error is that memory ran out.
     pub fn full(alloc: Global, width: u32) -> Result<Sheet, AllocError>
         ensures { IfOk result (λ s. s ≡ full_words width) }
     {
@@ -58,14 +58,14 @@ impl Sheet {
         })
     }
 
-    /// The sheet of just these words.
+    /// Makes the sheet of just these words, and takes no memory.
     pub fn of(words: Vec<u64>) -> Sheet
         ensures { result ≡ words.items }
     {
         Sheet { words }
     }
 
-    /// The words lose the bits of the row, whose words are all in the sheet.
+    /// Takes the bits of the row, whose words are all in the sheet, from the words.
     pub fn meet_row(&mut self, row: &Row)
         requires { IsTrue (below (length self.old) row.now) }
         ensures { IsMeet self.old (row.now ∷ []) self.new }
@@ -73,7 +73,7 @@ impl Sheet {
         clear_entries(self.words.as_mut_slice(), row.entries());
     }
 
-    /// The words lose the bits that the other sheet, of the same width, lacks.
+    /// Takes the bits that the other sheet, of the same width, lacks from the words.
     pub fn meet_sheet(&mut self, other: &Sheet)
         requires { length other.now ≡ length self.old }
         ensures { IsCommon self.old other.now self.new }
@@ -81,7 +81,7 @@ impl Sheet {
         keep_common(self.words.as_mut_slice(), other.words());
     }
 
-    /// Whether this bit, counted from 0, of this word is 1.
+    /// Tests whether this bit, counted from 0, of this word is 1.
     pub fn bit(&self, word: u32, bit: u32) -> bool
         requires word { word < length self.now }
         requires bit { bit < 64 }

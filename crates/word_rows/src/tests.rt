@@ -1,12 +1,14 @@
-ghost use Rattle.std.specs.Prelude.{◌≡◌, IfOk, [], ◌∷◌};
+ghost use Rattle.std.specs.Prelude.{◌≡◌, ◌+◌, ◌<◌, ◌≤◌, IfOk, IsTrue, OnOk, [], ◌∷◌};
+ghost use Rattle.word_rows.specs.Rows.{below};
 
-use crate::{Entry, Row, Sheet};
+use crate::laws::below_wider;
+use crate::{Entry, Row, RowMaker, Sheet};
 use std::alloc::{AllocError, Global};
 use std::test::Fail;
 
 const FULL: u64 = u64::MAX;
 
-// A row of one entry.
+/// Makes a list of one entry.
 fn single(alloc: Global, word: u32, mask: u64) -> Result<Vec<Entry>, AllocError>
     ensures { IfOk result (λ r. r.items ≡ record { word = word; mask = mask } ∷ []) }
 {
@@ -60,6 +62,53 @@ fn a_sheet_loses_the_bits_of_rows_and_sheets(rt: HostRuntime) -> Result<(), Fail
     assert_eq!(rt;
         (sheet.bit(0, 1), sheet.bit(0, 2), sheet.bit(1, 63)),
         (false, true, false)
+    );
+    Ok(())
+}
+
+/// Clears a bit of this word, which is no less than the last one.
+fn clear_from(maker: &mut RowMaker, last: u32, word: u32, bit: u32) -> Result<(), AllocError>
+    requires no_later { IsTrue (below (last + 1) maker.old) }
+    requires word { last ≤ word }
+    requires bit { bit < 64 }
+    ensures { OnOk result (IsTrue (below (word + 1) maker.new)) }
+{
+    below_wider();
+    maker.clear(word, bit)
+}
+
+#[test]
+fn a_row_is_made_bit_by_bit(rt: HostRuntime) -> Result<(), Fail> {
+    let none = RowMaker::new(rt.alloc()).finish()?;
+    assert_eq!(rt; none.entries(), [Entry { word: 0, mask: 0 }].as_slice());
+    let mut maker = RowMaker::new(rt.alloc());
+    clear_from(&mut maker, 0, 0, 1)?;
+    clear_from(&mut maker, 0, 0, 3)?;
+    clear_from(&mut maker, 0, 0, 1)?;
+    clear_from(&mut maker, 0, 126, 63)?;
+    let row = maker.finish()?;
+    let entries = [
+        Entry { word: 0, mask: 10 },
+        Entry {
+            word: 126,
+            mask: 0x8000_0000_0000_0000,
+        },
+    ];
+    assert_eq!(rt; row.entries(), entries.as_slice());
+    let copy = row.copy(rt.alloc())?;
+    assert_eq!(rt; (copy == row, copy == none), (true, false));
+    Ok(())
+}
+
+#[test]
+fn a_sheet_is_filled_and_widened(rt: HostRuntime) -> Result<(), Fail> {
+    let mut sheet = Sheet::of(Vec::from_array(rt.alloc(), [10, 0])?);
+    sheet.widen(1)?;
+    assert_eq!(rt; sheet.words(), [10, 0, FULL].as_slice());
+    sheet.fill();
+    assert_eq!(rt;
+        sheet.into_words().as_slice(),
+        [FULL, FULL, FULL].as_slice()
     );
     Ok(())
 }

@@ -8,7 +8,8 @@ pub struct Reading {
     pub value: u64,
 }
 
-/// What a seat at shared words did and knows. Definitions and contracts speak of it; no value of it is made.
+/// What a seat at shared words did and knows. Definitions and contracts speak of it; no value of it
+/// is made.
 pub struct View {
     /// The number of all shares at opening, which each view but an empty one carries.
     pub all: u32,

@@ -17,7 +17,11 @@ with_view holding view = record { table_id = holding.table_id; view = view; past
 
 -- two passes, or a pass and a note, as one
 abbrev pub together : Holding → Holding → Holding
-together pass other = record { table_id = pass.table_id; view = joined_view pass.view other.view; pasts = pass.pasts ++ other.pasts }
+together pass other = record {
+  table_id = pass.table_id;
+  view = joined_view pass.view other.view;
+  pasts = pass.pasts ++ other.pasts;
+}
 
 -- a table: which it is, the number of its words and the number of all shares
 pub record Opened : Type 0 where
@@ -25,7 +29,8 @@ pub record Opened : Type 0 where
   pub width : ℕ
   pub all : ℕ
 
--- the pass or note is of this table, and carries the number of shares that the table was opened with
+-- the pass or note is of this table, and carries the number of shares that the table was opened
+-- with
 pub record IsOf (table : Opened) (holding : Holding) : Type 0 where
   pub table_id : holding.table_id ≡ table.table_id
   pub all : holding.view.all ≡ table.all

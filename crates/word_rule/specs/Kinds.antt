@@ -1,9 +1,10 @@
--- Each kind of atomic step that changes a word or a view, and the end of the table, is a step of the step machine; the other loads change nothing.
+-- Each kind of atomic step that changes a word or a view, and the end of the table, is a step of
+-- the step machine; the other loads change nothing.
 use Rattle.std.specs.Prelude.{◌≡◌, ◌≢◌, ℕ, ◌^◌, ◌<◌, ◌≤◌, true, false, IsTrue, Ok, List, [], ◌∷◌, ◌++◌, length, map, bit_and, slice_index, slice_set}
 use Rattle.std.specs.Int.{bit_not, w64}
 use mathlib.Core.Option.{none, some}
 use lib.ListN.{get_elem?}
-use Rattle.atomic_table.specs.Table.{State, Me, step as base_step, keeps, stepped}
+use Rattle.atomic_table.specs.Table.{step as base_step, keeps, stepped}
 use Rattle.word_rows.specs.declared.entries.Entry.{Entry}
 use Rattle.word_rows.specs.declared.events.StepEvent.TheVariants.{Clear as clear, Load as load, Split as split, Join as join, Close as close}
 use Rattle.word_rows.specs.declared.replies.Reply.TheVariants.{Cleared, Loaded, Split, Joined, Closed}
@@ -13,15 +14,19 @@ use Rattle.word_rows.specs.Sound.{IsSound}
 use Rattle.word_rows.specs.Machine.{step, can_clear, entry_at}
 use Rattle.word_rule.specs.declared.rule.Plan.{Plan}
 use Rattle.word_rule.specs.declared.rule.Knowledge.{Knowledge}
-use Rattle.word_rule.specs.Rule.{HasHistory, is_seated, machine_state, view_of}
+use Rattle.word_rule.specs.Rule.{TableState, SeatState, HasHistory, is_seated, machine_state, view_of}
 use Rattle.word_rule.specs.Plays.{ClearPlay, SkipPlay, LoadPlay, TellPlay, left_knowledge, new_knowledge, joined_knowledge, no_knowledge}
 
 -- the table with other seats
-abbrev pub with_seats : State (Unit {0}) Knowledge → List Knowledge → State (Unit {0}) Knowledge
+abbrev pub with_seats : TableState → List Knowledge → TableState
 with_seats s seats = record { words = s.words; homes = s.homes; views = seats }
 
+-- the table after a step of this seat, which wrote this value to the word
+abbrev pub table_after : TableState → ℕ → SeatState → SeatState → ℕ → ℕ → TableState
+table_after s id before now word value = stepped s word value id before.1 now.0 keeps
+
 -- the table meets the rule, and this seat knows this and has a share
-pub record IsAt (plan : Plan) (s : State (Unit {0}) Knowledge) (id : ℕ) (k : Knowledge) : Type 0 where
+pub record IsAt (plan : Plan) (s : TableState) (id : ℕ) (k : Knowledge) : Type 0 where
   pub history : HasHistory plan s
   pub has : get_elem? s.views id ≡ some k
   pub share : 0 < k.view.shares
@@ -34,56 +39,88 @@ pub record MayClear (plan : Plan) (k : Knowledge) (row : List Entry) (e : Entry)
 
 -- between any two atomic steps the words and all views are sound
 abbrev pub RuleIsSound : Type 0
-RuleIsSound = (plan : Plan) (s : State (Unit {0}) Knowledge) → HasHistory plan s → IsSound s.words plan.all (map view_of s.views)
+RuleIsSound =
+    (plan : Plan) (s : TableState)
+    → HasHistory plan s
+    → IsSound s.words plan.all (map view_of s.views)
 
--- `fetch_and` with the complement of the entry's mask: the machine clears the entry, and replies with what was found
+-- `fetch_and` with the complement of the entry's mask: the machine clears the entry, and replies
+-- with what was found
 abbrev pub ClearIsStep : Type 0
-ClearIsStep = (plan : Plan) (s : State (Unit {0}) Knowledge) (slots id : ℕ) (before after : Me (Unit {0}) Knowledge) (row : List Entry) (e : Entry)
-    → IsAt plan s id before.0 → MayClear plan before.0 row e → e.mask < 2 ^ 64
-    → ClearPlay plan row (base_step slots e.word (bit_not w64 e.mask) 0 none) before (slice_index s.words e.word) after
-    → step (machine_state plan s) (clear id row) ≡ (machine_state plan (stepped s e.word (bit_and (slice_index s.words e.word) (bit_not w64 e.mask)) id before.1 after.0 keeps), Ok (Cleared (slice_index s.words e.word)))
+ClearIsStep =
+    (plan : Plan) (s : TableState) (slots id : ℕ) (before now : SeatState)
+    (row : List Entry) (e : Entry) (found : ℕ)
+    → IsAt plan s id before.0 → MayClear plan before.0 row e
+    → found ≡ slice_index s.words e.word → e.mask < 2 ^ 64
+    → ClearPlay plan row (base_step slots e.word (bit_not w64 e.mask) 0 none) before found now
+    → step (machine_state plan s) (clear id row)
+    ≡ (machine_state plan (table_after s id before now e.word (bit_and found (bit_not w64 e.mask))), Ok (Cleared found))
 
--- `load`, which writes back what it found, where that lacks all of the entry's bits: the machine clears the entry, and replies with what was found
+-- `load`, which writes back what it found, where that lacks all of the entry's bits: the machine
+-- clears the entry, and replies with what was found
 abbrev pub SkipIsStep : Type 0
-SkipIsStep = (plan : Plan) (s : State (Unit {0}) Knowledge) (slots id : ℕ) (before after : Me (Unit {0}) Knowledge) (row : List Entry) (e : Entry)
-    → IsAt plan s id before.0 → MayClear plan before.0 row e → bit_and (slice_index s.words e.word) e.mask ≡ 0
-    → SkipPlay plan row (base_step slots e.word 0 0 none) before (slice_index s.words e.word) after
-    → step (machine_state plan s) (clear id row) ≡ (machine_state plan (stepped s e.word (slice_index s.words e.word) id before.1 after.0 keeps), Ok (Cleared (slice_index s.words e.word)))
+SkipIsStep =
+    (plan : Plan) (s : TableState) (slots id : ℕ) (before now : SeatState)
+    (row : List Entry) (e : Entry) (found : ℕ)
+    → IsAt plan s id before.0 → MayClear plan before.0 row e
+    → found ≡ slice_index s.words e.word → bit_and found e.mask ≡ 0
+    → SkipPlay plan row (base_step slots e.word 0 0 none) before found now
+    → step (machine_state plan s) (clear id row)
+    ≡ (machine_state plan (table_after s id before now e.word found), Ok (Cleared found))
 
 -- the same load where the word has a bit of the entry: nothing changes, and there is no event
 abbrev pub LookIsNoStep : Type 0
-LookIsNoStep = (plan : Plan) (s : State (Unit {0}) Knowledge) (slots id : ℕ) (before after : Me (Unit {0}) Knowledge) (row : List Entry) (e : Entry)
-    → IsAt plan s id before.0 → MayClear plan before.0 row e → bit_and (slice_index s.words e.word) e.mask ≢ 0
-    → SkipPlay plan row (base_step slots e.word 0 0 none) before (slice_index s.words e.word) after
-    → stepped s e.word (slice_index s.words e.word) id before.1 after.0 keeps ≡ s
+LookIsNoStep =
+    (plan : Plan) (s : TableState) (slots id : ℕ) (before now : SeatState)
+    (row : List Entry) (e : Entry) (found : ℕ)
+    → IsAt plan s id before.0 → MayClear plan before.0 row e
+    → found ≡ slice_index s.words e.word → bit_and found e.mask ≢ 0
+    → SkipPlay plan row (base_step slots e.word 0 0 none) before found now
+    → table_after s id before now e.word found ≡ s
 
--- `load`, which writes back what it found: the machine loads the word, and replies with what was found
+-- `load`, which writes back what it found: the machine loads the word, and replies with what was
+-- found
 abbrev pub LoadIsStep : Type 0
-LoadIsStep = (plan : Plan) (s : State (Unit {0}) Knowledge) (slots id word : ℕ) (before after : Me (Unit {0}) Knowledge)
+LoadIsStep =
+    (plan : Plan) (s : TableState) (slots id word : ℕ) (before now : SeatState) (found : ℕ)
     → IsAt plan s id before.0 → IsTrue (is_idle before.0.view) → word < plan.width
-    → LoadPlay plan (base_step slots word 0 0 none) before (slice_index s.words word) after
-    → step (machine_state plan s) (load id word) ≡ (machine_state plan (stepped s word (slice_index s.words word) id before.1 after.0 keeps), Ok (Loaded (slice_index s.words word)))
+    → found ≡ slice_index s.words word
+    → LoadPlay plan (base_step slots word 0 0 none) before found now
+    → step (machine_state plan s) (load id word)
+    ≡ (machine_state plan (table_after s id before now word found), Ok (Loaded found))
 
--- the load by which a seat learns that it has at most all shares: nothing changes, and there is no event
+-- the load by which a seat learns that it has at most all shares: nothing changes, and there is no
+-- event
 abbrev pub TellIsNoStep : Type 0
-TellIsNoStep = (plan : Plan) (s : State (Unit {0}) Knowledge) (slots id word : ℕ) (before after : Me (Unit {0}) Knowledge)
-    → IsAt plan s id before.0 → TellPlay (base_step slots word 0 0 none) before (slice_index s.words word) after
-    → stepped s word (slice_index s.words word) id before.1 after.0 keeps ≡ s
+TellIsNoStep =
+    (plan : Plan) (s : TableState) (slots id word : ℕ) (before now : SeatState) (found : ℕ)
+    → IsAt plan s id before.0 → found ≡ slice_index s.words word
+    → TellPlay (base_step slots word 0 0 none) before found now
+    → table_after s id before now word found ≡ s
 
 -- `split_seat`: the machine splits off the shares, and the new seat is the next one
 abbrev pub SplitIsStep : Type 0
-SplitIsStep = (plan : Plan) (s : State (Unit {0}) Knowledge) (id shares : ℕ) (k : Knowledge)
+SplitIsStep =
+    (plan : Plan) (s : TableState) (id shares : ℕ) (k : Knowledge) (seats : List Knowledge)
     → IsAt plan s id k → IsTrue (is_idle k.view) → shares < k.view.shares
-    → step (machine_state plan s) (split id shares) ≡ (machine_state plan (with_seats s (slice_set s.views id (left_knowledge shares k) ++ new_knowledge shares k ∷ [])), Ok (Split (length s.views)))
+    → seats ≡ slice_set s.views id (left_knowledge shares k) ++ new_knowledge shares k ∷ []
+    → step (machine_state plan s) (split id shares)
+    ≡ (machine_state plan (with_seats s seats), Ok (Split (length s.views)))
 
 -- `join_seat`: the machine joins the other seat, which is live no more
 abbrev pub JoinIsStep : Type 0
-JoinIsStep = (plan : Plan) (s : State (Unit {0}) Knowledge) (id other : ℕ) (k l : Knowledge)
-    → IsAt plan s id k → get_elem? s.views other ≡ some l → l.view.all ≡ plan.all → other ≢ id → IsTrue (is_idle k.view) → IsTrue (is_idle l.view)
-    → step (machine_state plan s) (join id other) ≡ (machine_state plan (with_seats s (slice_set (slice_set s.views id (joined_knowledge k l)) other no_knowledge)), Ok Joined)
+JoinIsStep =
+    (plan : Plan) (s : TableState) (id other : ℕ) (k l : Knowledge) (seats : List Knowledge)
+    → IsAt plan s id k → get_elem? s.views other ≡ some l → l.view.all ≡ plan.all → other ≢ id
+    → IsTrue (is_idle k.view) → IsTrue (is_idle l.view)
+    → seats ≡ slice_set (slice_set s.views id (joined_knowledge k l)) other no_knowledge
+    → step (machine_state plan s) (join id other)
+    ≡ (machine_state plan (with_seats s seats), Ok Joined)
 
 -- `close_with`: the machine closes, and replies with the words
 abbrev pub CloseIsStep : Type 0
-CloseIsStep = (plan : Plan) (s : State (Unit {0}) Knowledge) (id : ℕ) (k : Knowledge)
+CloseIsStep =
+    (plan : Plan) (s : TableState) (id : ℕ) (k : Knowledge)
     → IsAt plan s id k → IsTrue (is_idle k.view) → plan.all ≤ k.view.shares
-    → step (machine_state plan s) (close id) ≡ (record (machine_state plan s) { live = map (λ _. false) (map is_seated (map view_of s.views)) }, Ok (Closed s.words))
+    → step (machine_state plan s) (close id)
+    ≡ (record (machine_state plan s) { live = map (λ _. false) (map is_seated (map view_of s.views)) }, Ok (Closed s.words))

@@ -52,16 +52,22 @@ fn copy_words(from: &Ended<(), Global>, into: &mut Vec<u64>)
 }
 
 /// Ends the table. The seat that has all shares knows its words.
-fn end(table: Table<(), Knowledge, Plan, OneHistory, Global>, seat: Seat<(), Knowledge>) -> Ended<(), Global>
+fn end(
+    table: Table<(), Knowledge, Plan, OneHistory, Global>,
+    seat: Seat<(), Knowledge>,
+) -> Ended<(), Global>
     requires table { seat.table_id ≡ table.shared.table_id }
     requires share { 0 < seat.me.0.view.shares }
     requires rests { IsTrue (is_idle seat.me.0.view) }
     requires whole { table.shared.key.all ≤ seat.me.0.view.shares }
-    ensures counts { (slots_len result.words ≡ table.shared.table_id.words) × (slots_len result.slots ≡ table.shared.table_id.slots) }
+    ensures counts { (slots_len result.words ≡ table.shared.table_id.words)
+        × (slots_len result.slots ≡ table.shared.table_id.slots) }
     ensures full { IsFull result.words × IsFull result.slots }
-    ensures met { IsMeet (full_words table.shared.key.width) seat.me.0.view.done (slots_items result.words) }
+    ensures met { IsMeet (full_words table.shared.key.width) seat.me.0.view.done
+        (slots_items result.words) }
     ensures known { KnowsAll (slots_items result.words) table.shared.key.all seat.me.0.view }
-    ensures ends { EndsWith table.shared.key.width table.shared.key.all seat.me.0.pasts seat.me.0.view (slots_items result.words) }
+    ensures ends { EndsWith table.shared.key.width table.shared.key.all seat.me.0.pasts
+        seat.me.0.view (slots_items result.words) }
 {
     events_keep_sound();
     whole_share_knows_all();
@@ -77,7 +83,8 @@ impl MeetTable {
         ensures readings { IfOk result (λ _. LackOnly pass.view.readings pass.view.done) }
 
         // One history goes on from all that the pass knows, ends with these words, and is sound.
-        ensures ends { IfOk result (λ c. EndsWith self.width self.all pass.pasts pass.view c.words) }
+        ensures ends { IfOk result
+            (λ c. EndsWith self.width self.all pass.pasts pass.view c.words) }
         ensures fault { IfErr result (IsFault self pass) }
     {
         let (have, all) = (pass.shares(), self.all);

@@ -1,4 +1,5 @@
-//! What the rule of the table means, over the definitions alone. Each law is the contract of a function that does nothing.
+//! What the rule of the table means, over the definitions alone. Each law is the contract of a
+//! function that does nothing.
 ghost use Rattle.word_rule.specs.Kinds.{ClearIsStep, CloseIsStep, JoinIsStep, LoadIsStep, LookIsNoStep, RuleIsSound, SkipIsStep, SplitIsStep, TellIsNoStep};
 
 use word_rows::laws::{complement_clears, events_keep_sound};

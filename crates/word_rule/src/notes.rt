@@ -9,7 +9,8 @@ use crate::tables::MeetTable;
 use atomic_table::Seat;
 use std::marker::{Brand, Model};
 
-/// A seat with no shares, which tells another pass what a pass has done and seen. Contracts see its table, its view and the pasts that it knows.
+/// A seat with no shares, which tells another pass what a pass has done and seen. Contracts see its
+/// table, its view and the pasts that it knows.
 #[derive(Drop)]
 pub struct Note {
     pub(crate) seat: Seat<(), Knowledge>,

@@ -12,15 +12,20 @@ use word_rows::Row;
 use word_rows::laws::row_is_same;
 
 impl MeetTable {
-    /// Clears the bits of the row, one step of the step machine for each entry. The row is then the last of the pass's done rows. A word that lacks an entry's bits already is read and not written.
+    /// Clears the bits of the row, one step of the step machine for each entry. The row is then the
+    /// last of the pass's done rows. A word that lacks an entry's bits already is read and not
+    /// written.
     pub fn offer(&self, pass: &mut Pass, row: &Row)
         requires table { IsOf self.now pass.old }
         requires row { IsTrue (below self.now.width row.now) }
         ensures table { pass.new.table_id ≡ pass.old.table_id }
         ensures done { pass.new.view ≡ with_done pass.old.view row.now }
 
-        // Each entry is cleared by one step of every history that goes on from what the pass then knows.
-        ensures stands { (k : ℕ) → k < length row.now → IsClearBetween self.now.width self.now.all pass.old.pasts (offered_until pass.old.view row.now k) row.now pass.new.pasts }
+        // Each entry is cleared by one step of every history that goes on from what the pass then
+        // knows.
+        ensures stands { (k : ℕ) → k < length row.now
+            → IsClearBetween self.now.width self.now.all pass.old.pasts
+            (offered_until pass.old.view row.now k) row.now pass.new.pasts }
         ensures more { KnowsMore pass.old.pasts pass.new.pasts }
         ensures one { IsOnePast pass.new.pasts }
     {

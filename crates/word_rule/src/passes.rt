@@ -2,7 +2,9 @@ use crate::rule::Knowledge;
 use atomic_table::Seat;
 use std::marker::Model;
 
-/// A seat at a table with at least one share, which may offer rows and read. Contracts see its table, its view and the pasts that it knows. Dropping a pass does not return its shares, so the table can then not be closed.
+/// A seat at a table with at least one share, which may offer rows and read. Contracts see its
+/// table, its view and the pasts that it knows. Dropping a pass does not return its shares, so the
+/// table can then not be closed.
 #[derive(Drop)]
 pub struct Pass {
     pub(crate) seat: Seat<(), Knowledge>,

@@ -27,10 +27,13 @@ fn load_words(
     requires share { 0 < seat.old.me.0.view.shares }
     requires rests { IsTrue (is_idle seat.old.me.0.view) }
     ensures table { seat.new.table_id ≡ seat.old.table_id }
-    ensures view { seat.new.me.0.view ≡ with_readings seat.old.me.0.view (readings_from 0 into.new) }
+    ensures view { seat.new.me.0.view ≡ with_readings seat.old.me.0.view
+        (readings_from 0 into.new) }
     ensures held { seat.new.me.1 ≡ seat.old.me.1 }
     ensures shown { AreZero into.new (shows seat.old.me.0.view) }
-    ensures stands { (i : ℕ) → i < length into.new → IsLoadBetween shared.now.key.width shared.now.key.all seat.old.me.0.pasts (read_until seat.old.me.0.view into.new i) i (slice_index into.new i) seat.new.me.0.pasts }
+    ensures stands { (i : ℕ) → i < length into.new
+        → IsLoadBetween shared.now.key.width shared.now.key.all seat.old.me.0.pasts
+        (read_until seat.old.me.0.view into.new i) i (slice_index into.new i) seat.new.me.0.pasts }
     ensures more { KnowsMore seat.old.me.0.pasts seat.new.me.0.pasts }
     ensures one { IsOnePast seat.new.me.0.pasts }
 {
@@ -40,23 +43,30 @@ fn load_words(
 }
 
 impl MeetTable {
-    /// Reads the words, one step of the step machine for each, the words rising. The readings are then the last of the pass's.
+    /// Reads the words, one step of the step machine for each, the words rising. The readings are
+    /// then the last of the pass's.
     pub fn read(&self, pass: &mut Pass, into: &mut [u64])
         requires table { IsOf self.now pass.old }
         requires width { length into.old ≡ self.now.width }
         ensures table { pass.new.table_id ≡ pass.old.table_id }
         ensures readings { pass.new.view ≡ with_readings pass.old.view (readings_from 0 into.new) }
 
-        // The words lack all bits of the pass's done and seen rows, and all that its earlier readings lack.
+        // The words lack all bits of the pass's done and seen rows, and all that its earlier
+        // readings lack.
         ensures shown { AreZero into.new (shows pass.old.view) }
 
-        // Each value is the machine's reply to one load in every history that goes on from what the pass then knows.
-        ensures stands { (i : ℕ) → i < length into.new → IsLoadBetween self.now.width self.now.all pass.old.pasts (read_until pass.old.view into.new i) i (slice_index into.new i) pass.new.pasts }
+        // Each value is the machine's reply to one load in every history that goes on from what the
+        // pass then knows.
+        ensures stands { (i : ℕ) → i < length into.new
+            → IsLoadBetween self.now.width self.now.all pass.old.pasts
+            (read_until pass.old.view into.new i) i (slice_index into.new i) pass.new.pasts }
         ensures more { KnowsMore pass.old.pasts pass.new.pasts }
         ensures one { IsOnePast pass.new.pasts }
 
         // In every such history some view had cleared each bit that is 0 before it was read.
-        ensures cleared { (i b : ℕ) → i < length into.new → b < 64 → bit_of into.new i b ≡ 0 → (history : List StepEvent) → ArePrefixes pass.new.pasts history → WasCleared self.now.width self.now.all history i (slice_index into.new i) b }
+        ensures cleared { (i b : ℕ) → i < length into.new → b < 64 → bit_of into.new i b ≡ 0
+            → (history : List StepEvent) → ArePrefixes pass.new.pasts history
+            → WasCleared self.now.width self.now.all history i (slice_index into.new i) b }
     {
         events_keep_sound();
         load_words(&self.table.shared, &mut pass.seat, into);

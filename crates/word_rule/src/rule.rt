@@ -11,13 +11,15 @@ pub struct Plan {
     pub all: u32,
 }
 
-/// What a seat did and was told, and the pasts that it knows: the events up to its last step, or after a join those of both seats. No value of it is made.
+/// What a seat did and was told, and the pasts that it knows: the events up to its last step, or
+/// after a join those of both seats. No value of it is made.
 pub struct Knowledge {
     pub view: View,
     pub pasts: LinkedList<LinkedList<StepEvent>>,
 }
 
-/// The rule of a table: between any two atomic steps of any threads it is the step machine after one list of events.
+/// The rule of a table: between any two atomic steps of any threads it is the step machine after
+/// one list of events.
 pub struct OneHistory;
 
 impl TableRule<(), Knowledge, Plan> for OneHistory {

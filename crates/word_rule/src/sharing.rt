@@ -8,7 +8,8 @@ use crate::tables::MeetTable;
 use std::marker::Brand;
 
 impl MeetTable {
-    /// Makes a new pass with so many of the pass's shares, which has seen what the pass has done and seen.
+    /// Makes a new pass with so many of the pass's shares, which has seen what the pass has done
+    /// and seen.
     pub fn split(&self, pass: &mut Pass, shares: u32) -> Pass
         requires table { IsOf self.now pass.old }
         requires some { 0 < shares }
@@ -21,7 +22,8 @@ impl MeetTable {
         Pass { seat, shares }
     }
 
-    /// Takes in another pass: the shares add up, and the other's done rows, seen rows and readings follow the pass's.
+    /// Takes in another pass: the shares add up, and the other's done rows, seen rows and readings
+    /// follow the pass's.
     pub fn join(&self, pass: &mut Pass, other: Pass)
         requires pass { IsOf self.now pass.old }
         requires other { IsOf self.now other }

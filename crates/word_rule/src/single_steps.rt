@@ -1,4 +1,5 @@
-//! The steps of a seat, one function for each kind. Each keeps the rule, since it is a step of the step machine or changes nothing.
+//! The steps of a seat, one function for each kind. Each keeps the rule, since it is a step of the
+//! step machine or changes nothing.
 ghost use Rattle.std.specs.Prelude.{◌≡◌, ℕ, ◌^◌, ◌<◌, ◌≤◌, true, [], length, IsTrue, MatchBool};
 ghost use Rattle.std.specs.Int.{bit_not, w64};
 ghost use Rattle.word_rows.specs.Rows.{below, is_row};
@@ -46,7 +47,8 @@ fn clear_entry<L: Offered>(
     shared.fetch_and::<Clear<L>>(seat, word as usize, complement(mask));
 }
 
-/// Reads the word of the next entry of the row, and counts the entry as cleared where the word lacks all its bits. Answers whether it did.
+/// Reads the word of the next entry of the row, and counts the entry as cleared where the word
+/// lacks all its bits. Answers whether it did.
 fn skip_entry<L: Offered>(
     shared: &Shared<(), Knowledge, Plan, OneHistory>,
     seat: &mut Seat<(), Knowledge>,
@@ -63,7 +65,8 @@ fn skip_entry<L: Offered>(
     requires next { can_clear seat.old.me.0.view row.now ≡ true }
     requires share { 0 < seat.old.me.0.view.shares }
     ensures table { seat.new.table_id ≡ seat.old.table_id }
-    ensures seat { MatchBool result (Clears shared.now.key row.now seat.old.me seat.new.me) (seat.new.me ≡ seat.old.me) }
+    ensures seat { MatchBool result (Clears shared.now.key row.now seat.old.me seat.new.me)
+        (seat.new.me ≡ seat.old.me) }
 {
     events_keep_sound();
     let Entry { word, mask } = row[at];
@@ -121,8 +124,10 @@ pub(crate) fn split_shares<N: Counted>(
     requires table { IsSeated seat.old.table_id shared.now.table_id shared.now.key }
     requires count { (N.count ≡ count) × (count < seat.old.me.0.view.shares) }
     requires rests { IsTrue (is_idle seat.old.me.0.view) }
-    ensures old { (seat.new.table_id ≡ seat.old.table_id) × (seat.new.me ≡ (left_knowledge count seat.old.me.0, seat.old.me.1)) }
-    ensures new { (result.table_id ≡ seat.old.table_id) × (result.me ≡ (new_knowledge count seat.old.me.0, [])) }
+    ensures old { (seat.new.table_id ≡ seat.old.table_id)
+        × (seat.new.me ≡ (left_knowledge count seat.old.me.0, seat.old.me.1)) }
+    ensures new { (result.table_id ≡ seat.old.table_id)
+        × (result.me ≡ (new_knowledge count seat.old.me.0, [])) }
 {
     events_keep_sound();
     shared.split_seat::<SplitOff<N>>(seat)
@@ -155,7 +160,8 @@ pub(crate) fn tell_shares(
     requires table { IsSeated seat.old.table_id shared.now.table_id shared.now.key }
     requires share { 0 < seat.old.me.0.view.shares }
     ensures same { (seat.new.table_id ≡ seat.old.table_id) × (seat.new.me ≡ seat.old.me) }
-    ensures most { (seat.old.me.0.view.shares ≤ seat.old.me.0.view.all) × (seat.old.me.0.view.all < 2 ^ 32) }
+    ensures most { (seat.old.me.0.view.shares ≤ seat.old.me.0.view.all)
+        × (seat.old.me.0.view.all < 2 ^ 32) }
 {
     events_keep_sound();
     shared.load::<Tell>(seat, 0);

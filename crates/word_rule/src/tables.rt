@@ -7,7 +7,8 @@ use atomic_table::Table;
 use std::alloc::{AllocError, Global};
 use std::marker::Model;
 
-/// The words that threads share. Contracts see which table it is, the number of its words and the number of all shares.
+/// The words that threads share. Contracts see which table it is, the number of its words and the
+/// number of all shares.
 #[derive(Drop)]
 pub struct MeetTable {
     pub(crate) table: Table<(), Knowledge, Plan, OneHistory, Global>,
@@ -27,12 +28,17 @@ impl Model for MeetTable {
 }
 
 impl MeetTable {
-    /// Opens a table of so many words with all bits 1, and a pass with all shares. The only error is that memory ran out.
+    /// Opens a table of so many words with all bits 1, and a pass with all shares. The only error
+    /// is that memory ran out.
     pub fn open(alloc: Global, width: u32, shares: u32) -> Result<(MeetTable, Pass), AllocError>
         requires width { 0 < width }
         requires shares { 0 < shares }
         ensures table { IfOk result (λ t. (t.0.width ≡ width) × (t.0.all ≡ shares)) }
-        ensures pass { IfOk result (λ t. t.1 ≡ record { table_id = t.0.table_id; view = first_view shares; pasts = [] }) }
+        ensures pass { IfOk result (λ t. t.1 ≡ record {
+          table_id = t.0.table_id;
+          view = first_view shares;
+          pasts = [];
+        }) }
     {
         let words = Vec::from_elem(alloc, u64::MAX, width as usize)?;
         let plan = Plan { width, all: shares };

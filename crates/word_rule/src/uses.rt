@@ -9,7 +9,8 @@ use std::alloc::Global;
 use std::thread::{self, Threads};
 use word_rows::Sheet;
 
-/// Opens a table for two passes, which read, become one and close: their readings and the words at the end are replies of the step machine in one history.
+/// Opens a table for two passes, which read, become one and close: their readings and the words at
+/// the end are replies of the step machine in one history.
 pub fn read_twice(alloc: Global, width: u32, first: &mut [u64], second: &mut [u64]) -> Option<Sheet>
     requires width { 0 < width }
     requires first { length first.old ≡ width }
@@ -34,7 +35,9 @@ fn read_as(table: &MeetTable, mut pass: Pass, mut into: Vec<u64>) -> (Pass, Vec<
     requires table { IsOf table.now pass }
     requires width { length into.items ≡ table.now.width }
     ensures table { IsOf table.now result.0 }
-    ensures stands { (i : ℕ) → i < length result.1.items → IsLoadBetween table.now.width table.now.all pass.pasts (read_until pass.view result.1.items i) i (slice_index result.1.items i) result.0.pasts }
+    ensures stands { (i : ℕ) → i < length result.1.items
+        → IsLoadBetween table.now.width table.now.all pass.pasts
+        (read_until pass.view result.1.items i) i (slice_index result.1.items i) result.0.pasts }
 {
     table.read(&mut pass, into.as_mut_slice());
     (pass, into)
@@ -61,12 +64,18 @@ pub fn read_beside<R: Threads + Sync>(
         || -> (Pass, Vec<u64>)
             requires { IsOf shared.now one × (length first.items ≡ shared.now.width) }
             ensures table { IsOf shared.entry.now result.0 }
-            ensures stands { (i : ℕ) → i < length result.1.items → IsLoadBetween shared.entry.now.width shared.entry.now.all one.pasts (read_until one.view result.1.items i) i (slice_index result.1.items i) result.0.pasts }
+            ensures stands { (i : ℕ) → i < length result.1.items
+                → IsLoadBetween shared.entry.now.width shared.entry.now.all one.pasts
+                (read_until one.view result.1.items i) i
+                (slice_index result.1.items i) result.0.pasts }
         { read_as(shared, one, first) },
         || -> (Pass, Vec<u64>)
             requires { IsOf shared.now other × (length second.items ≡ shared.now.width) }
             ensures table { IsOf shared.entry.now result.0 }
-            ensures stands { (i : ℕ) → i < length result.1.items → IsLoadBetween shared.entry.now.width shared.entry.now.all other.pasts (read_until other.view result.1.items i) i (slice_index result.1.items i) result.0.pasts }
+            ensures stands { (i : ℕ) → i < length result.1.items
+                → IsLoadBetween shared.entry.now.width shared.entry.now.all other.pasts
+                (read_until other.view result.1.items i) i
+                (slice_index result.1.items i) result.0.pasts }
         { read_as(shared, other, second) },
     );
     table.join(&mut one, other);

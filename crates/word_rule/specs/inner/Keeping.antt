@@ -6,7 +6,8 @@ use Rattle.word_rows.specs.Changes.{is_idle}
 use Rattle.word_rule.specs.declared.rule.Knowledge.{Knowledge}
 use Rattle.word_rule.specs.declared.rule.Plan.{Plan}
 
--- a pass: the number beside its seat is that of its view's shares, it has one, no row is in progress and the seat holds no slot
+-- a pass: the number beside its seat is that of its view's shares, it has one, no row is in
+-- progress and the seat holds no slot
 pub record IsPass (shares : ℕ) (me : Me (Unit {0}) Knowledge) : Type 0 where
   pub counted : shares ≡ me.0.view.shares
   pub some_share : 0 < shares
