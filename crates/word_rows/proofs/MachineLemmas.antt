@@ -40,7 +40,7 @@ goes_from v row p r o = let long = row_long row r in
     p)
     (or_cases _ _ o)
 
--- a test that finds no fault is false, and so are those behind it
+-- a test that finds no fault is false, and so are those after it
 passed : (b : Bool) (fault : Fault) (next : Option Fault) → ◌≡◌ {A = Option Fault} (cond b (Some fault) next) None → (b ≡ false) × (next ≡ None)
 passed true fault next e = cc
 passed false fault next e = (refl, e)

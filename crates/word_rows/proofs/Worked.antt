@@ -8,7 +8,7 @@ use Rattle.word_rows.specs.Machine.{after, clear, load, split, join, close, Clea
 abbrev entry : ℕ → ℕ → Entry
 entry word mask = record { word = word; mask = mask }
 
--- two seats clear a bit each; the close is refused until they are joined, and after it no seat is live
+-- two seats clear a bit each; a close has the fault `shares_out` until they are joined, and after it no seat is live
 two_seats : (after 1 2 (
     split 0 1
     ∷ clear 0 (entry 0 1 ∷ [])
@@ -30,7 +30,27 @@ two_seats : (after 1 2 (
     ∷ []
 two_seats = refl
 
--- a row in progress refuses all but its own next entry, and a note clears nothing
+-- a row of two words that is cleared twice: the second time its bits are 0 already
+whole_rows : (after 2 1 (
+    clear 0 (entry 0 1 ∷ entry 1 1 ∷ [])
+    ∷ clear 0 (entry 0 1 ∷ entry 1 1 ∷ [])
+    ∷ clear 0 (entry 0 1 ∷ entry 1 1 ∷ [])
+    ∷ clear 0 (entry 0 1 ∷ entry 1 1 ∷ [])
+    ∷ load 0 0
+    ∷ load 0 1
+    ∷ close 0
+    ∷ [])).1
+    ≡ Ok (Cleared 18446744073709551615)
+    ∷ Ok (Cleared 18446744073709551615)
+    ∷ Ok (Cleared 18446744073709551614)
+    ∷ Ok (Cleared 18446744073709551614)
+    ∷ Ok (Loaded 18446744073709551614)
+    ∷ Ok (Loaded 18446744073709551614)
+    ∷ Ok (Closed (18446744073709551614 ∷ 18446744073709551614 ∷ []))
+    ∷ []
+whole_rows = refl
+
+-- while a row is in progress all but its own next entry have the fault `row_open`, and a note clears nothing
 row_in_progress : (after 2 1 (
     clear 0 (entry 0 1 ∷ entry 1 1 ∷ [])
     ∷ load 0 0

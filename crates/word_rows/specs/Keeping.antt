@@ -13,7 +13,7 @@ use Rattle.word_rows.specs.Machine.{StepState, StepEvent, IsSoundState, HasRow, 
 abbrev pub OpeningIsSound : Type 0
 OpeningIsSound = (width all : ℕ) → IsSoundState (opening_state width all)
 
--- an event, refused or not, keeps a state sound
+-- an event, with or without a fault, keeps a state sound
 abbrev pub StepKeepsSound : Type 0
 StepKeepsSound = (s : StepState) (e : StepEvent) → IsSoundState s → HasRow e
     → IsSoundState (step s e).0

@@ -1,5 +1,5 @@
 -- The step machine: words, the number of shares at opening, and a view for each seat; what each
--- event does to them, when it is refused, and its reply.
+-- event does to them, which fault it has, and its reply.
 use Rattle.std.specs.Prelude.{◌≡◌, ℕ, Bool, true, false, not, ◌&&◌, ◌||◌, ◌==◌, nat_lt, if◌then◌else◌, Option, Some, None, Result, Ok, Err, List, [], ◌∷◌, ◌++◌, map, length, slice_index, slice_index_or, slice_set}
 use Rattle.word_rows.specs.declared.entries.Entry.{Entry}
 use Rattle.word_rows.specs.declared.views.View.{View}
@@ -44,7 +44,7 @@ is_live s seat = slice_index_or s.live seat false
 abbrev pub view_at : StepState → ℕ → View
 view_at s seat = slice_index_or s.views seat empty_view
 
--- the entry at this place of the row
+-- the entry with this index in the row
 abbrev pub entry_at : List Entry → ℕ → Entry
 entry_at row k = slice_index_or row k (record { word = 0; mask = 0 })
 

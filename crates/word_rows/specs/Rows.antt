@@ -6,7 +6,7 @@ use Rattle.std.specs.List.{list_any, list_all}
 use Rattle.std.specs.Int.{bit_at}
 use Rattle.word_rows.specs.declared.entries.Entry.{Entry}
 
--- each number is below all that stand behind it
+-- each number is below all that follow it
 abbrev pub is_rising : List ℕ → Bool
 is_rising [] = true
 is_rising (n ∷ ns) = list_all (λ m. nat_lt n m) ns && is_rising ns

@@ -4,7 +4,7 @@ use Rattle.std.specs.Int.{bit_at}
 use Rattle.word_rows.specs.declared.entries.Entry.{Entry}
 use Rattle.word_rows.specs.Rows.{rows_clear}
 
--- this bit of the word at this place: 0 or 1
+-- this bit of the word with this index: 0 or 1
 abbrev pub bit_of : List ℕ → ℕ → ℕ → ℕ
 bit_of words word bit = bit_at (slice_index words word) bit
 

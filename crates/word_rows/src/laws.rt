@@ -8,7 +8,7 @@ pub fn opening_is_sound()
     ensures { OpeningIsSound }
 {}
 
-/// Each event, refused or not, keeps the state sound.
+/// Each event, with or without a fault, keeps the state sound.
 pub fn step_keeps_sound()
     ensures { StepKeepsSound }
 {}

@@ -1,6 +1,6 @@
 use crate::sheets::Sheet;
 
-/// What the step machine replies to an event that it does not refuse.
+/// What the step machine replies to an event that has no fault.
 #[derive(Debug, Drop)]
 pub enum Reply {
     /// An entry was cleared: the value of its word before.

@@ -35,7 +35,7 @@ seat_is plan s id k l e ws w reply a left same is = is
     ∙ (λ j. (record { words = ws; all = plan.all; views = set (map view_of s.views) id (sym left j); live = map is_seated (map view_of s.views) }, Ok reply))
     ∙ λ j. (machine_next plan s a.history id k a.has l ws (ap (λ (v : View). v.all) left ∙ same) j, Ok reply)
 
--- a word of the table, or one behind them, has 64 bits
+-- a word of the table has 64 bits, and what is read past its end
 word_fits : EventsKeepSound → (plan : Plan) (s : TableState) → HasHistory plan s → (i : ℕ) → slice_index s.words i < 2 ^ 64
 word_fits sound plan s h i = ⊎_elim
     (λ (low : i < length s.words). (sound_here plan s h sound).bound i low)

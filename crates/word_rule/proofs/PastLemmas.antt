@@ -1,4 +1,4 @@
--- Pasts, and the steps that stand behind them.
+-- Pasts, and the steps that stand after them.
 use Rattle.std.proofs.Common.{◌≡◌, ℕ, ◌<◌, true, List, [], ◌∷◌, ◌++◌, sym, refl, ap, ◌∙◌, append_assoc}
 use Rattle.std.proofs.lemmas.List.{append-nil}
 use Rattle.std.specs.Int.{bit_at}
@@ -47,7 +47,7 @@ of_right [] qs es h = h
 of_right (p ∷ ps) qs es h = of_right ps qs es h.1
 
 -- ---- steps
--- a step behind more stands behind less
+-- a step that stands after more stands after less
 pub between_before : (width all : ℕ) (less more then : List (List StepEvent)) (v : View) (ask : ℕ → StepEvent) (reply : Reply) → KnowsMore less more → IsStepBetween width all more v ask reply then → IsStepBetween width all less v ask reply then
 between_before width all less more then v ask reply grows h history begins = let r = h history begins in record {
   events = r.events;

@@ -26,7 +26,7 @@ rows_snoc [] e h r = (r, tt)
 rows_snoc (d ∷ ds) e h r = (h.0, rows_snoc ds e h.1 r)
 
 -- ---- steps that have no fault
--- a test that is false finds no fault, and those behind it go on
+-- a test that is false finds no fault, and those after it go on
 none_here : (b : Bool) (fault : Fault) (next : Option Fault) → b ≡ false → next ≡ None → ◌≡◌ {A = Option Fault} (cond b (Some fault) next) None
 none_here b fault next f e = cond-false b (Some fault) next f ∙ e
 
@@ -103,7 +103,7 @@ module _ (m : StepState) (id : ℕ) (v : View) (has : get_elem? m.views id ≡ s
   close_step i whole = ap (outcome m (close id)) (close_fits i whole)
 
 -- ---- what a reply tells
--- a test that finds no fault is false, and so are those behind it
+-- a test that finds no fault is false, and so are those after it
 passed : (b : Bool) (fault : Fault) (next : Option Fault) → ◌≡◌ {A = Option Fault} (cond b (Some fault) next) None → (b ≡ false) × (next ≡ None)
 passed true fault next e = cc
 passed false fault next e = (refl, e)

@@ -20,7 +20,7 @@ abbrev pub ArePrefixes : List (List StepEvent) → List StepEvent → Type 0
 ArePrefixes [] history = Unit {0}
 ArePrefixes (p ∷ ps) history = IsPrefix p history × ArePrefixes ps history
 
--- in this history, behind each of these pasts, a seat with this view makes this step, and the step
+-- in this history, after each of these pasts, a seat with this view makes this step, and the step
 -- machine gives it this reply
 pub record HasStep (width all : ℕ) (pasts : List (List StepEvent)) (v : View)
     (ask : ℕ → StepEvent) (reply : Reply) (history : List StepEvent) : Type 0 where
@@ -32,7 +32,7 @@ pub record HasStep (width all : ℕ) (pasts : List (List StepEvent)) (v : View)
   pub replied : (step (after width all events).0 (ask seat)).1 ≡ Ok reply
   pub stands : IsPrefix (events ++ ask seat ∷ []) history
 
--- the step stands in each history that goes on from what is known now, behind what was known
+-- the step stands in each history that goes on from what is known now, after what was known
 -- before
 abbrev pub IsStepBetween : ℕ → ℕ → List (List StepEvent) → View → (ℕ → StepEvent) → Reply
     → List (List StepEvent) → Type 0

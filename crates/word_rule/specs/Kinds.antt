@@ -11,10 +11,10 @@ use Rattle.word_rows.specs.declared.replies.Reply.TheVariants.{Cleared, Loaded, 
 use Rattle.word_rows.specs.Rows.{below}
 use Rattle.word_rows.specs.Changes.{is_idle}
 use Rattle.word_rows.specs.Sound.{IsSound}
-use Rattle.word_rows.specs.Machine.{step, can_clear, entry_at}
+use Rattle.word_rows.specs.Machine.{StepState, step, can_clear, entry_at}
 use Rattle.word_rule.specs.declared.rule.Plan.{Plan}
 use Rattle.word_rule.specs.declared.rule.Knowledge.{Knowledge}
-use Rattle.word_rule.specs.Rule.{TableState, SeatState, HasHistory, is_seated, machine_state, view_of}
+use Rattle.word_rule.specs.Rule.{TableState, SeatState, HasHistory, machine_state, view_of}
 use Rattle.word_rule.specs.Plays.{ClearPlay, SkipPlay, LoadPlay, TellPlay, left_knowledge, new_knowledge, joined_knowledge, no_knowledge}
 
 -- the table with other seats
@@ -54,7 +54,11 @@ ClearIsStep =
     → found ≡ slice_index s.words e.word → e.mask < 2 ^ 64
     → ClearPlay plan row (base_step slots e.word (bit_not w64 e.mask) 0 none) before found now
     → step (machine_state plan s) (clear id row)
-    ≡ (machine_state plan (table_after s id before now e.word (bit_and found (bit_not w64 e.mask))), Ok (Cleared found))
+    ≡ (
+      machine_state plan
+          (table_after s id before now e.word (bit_and found (bit_not w64 e.mask))),
+      Ok (Cleared found),
+    )
 
 -- `load`, which writes back what it found, where that lacks all of the entry's bits: the machine
 -- clears the entry, and replies with what was found
@@ -117,10 +121,14 @@ JoinIsStep =
     → step (machine_state plan s) (join id other)
     ≡ (machine_state plan (with_seats s seats), Ok Joined)
 
+-- no seat is live
+abbrev pub closed_state : StepState → StepState
+closed_state m = record m { live = map (λ _. false) m.live }
+
 -- `close_with`: the machine closes, and replies with the words
 abbrev pub CloseIsStep : Type 0
 CloseIsStep =
     (plan : Plan) (s : TableState) (id : ℕ) (k : Knowledge)
     → IsAt plan s id k → IsTrue (is_idle k.view) → plan.all ≤ k.view.shares
     → step (machine_state plan s) (close id)
-    ≡ (record (machine_state plan s) { live = map (λ _. false) (map is_seated (map view_of s.views)) }, Ok (Closed s.words))
+    ≡ (closed_state (machine_state plan s), Ok (Closed s.words))

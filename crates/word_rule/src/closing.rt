@@ -46,8 +46,8 @@ fn copy_words(from: &Ended<(), Global>, into: &mut Vec<u64>)
     requires room { (into.old.items ≡ []) × (slots_len from.now.words ≤ vec_capacity into.old) }
     ensures { into.new.items ≡ slots_items from.now.words }
 {
-    for place in 0..from.words.len() {
-        into.push_reserved(from.word(place));
+    for index in 0..from.words.len() {
+        into.push_reserved(from.word(index));
     }
 }
 

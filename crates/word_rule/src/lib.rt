@@ -1,7 +1,7 @@
 //! A table of words that many threads clear by single steps: passes that offer rows and read, notes
 //! that tell what was done, and a close that gives the words of exactly the rows offered.
 //!
-//! The rule of a table is `HasHistory` (specs/Rule.antt), and `OneHistory` (src/rule.rt) carries it:
+//! The rule of a table is `HasHistory` (specs/Rule.antt); `OneHistory` (src/rule.rt) carries it:
 //! between any two atomic steps of any threads the table is the step machine of `word_rows` after
 //! one list of events, its history. The words used here:
 //!

@@ -22,7 +22,11 @@ impl Model for Note {
 
     ghost Value = { Holding };
 
-    ghost view = { λ n. record { table_id = n.seat.table_id; view = n.seat.me.0.view; pasts = n.seat.me.0.pasts } };
+    ghost view = { λ n. record {
+      table_id = n.seat.table_id;
+      view = n.seat.me.0.view;
+      pasts = n.seat.me.0.pasts;
+    } };
 
     ghost invariant = { λ n. IsNote n.seat.me };
 }

@@ -17,7 +17,11 @@ impl Model for Pass {
 
     ghost Value = { Holding };
 
-    ghost view = { λ p. record { table_id = p.seat.table_id; view = p.seat.me.0.view; pasts = p.seat.me.0.pasts } };
+    ghost view = { λ p. record {
+      table_id = p.seat.table_id;
+      view = p.seat.me.0.view;
+      pasts = p.seat.me.0.pasts;
+    } };
 
     ghost invariant = { λ p. IsPass p.shares p.seat.me };
 }

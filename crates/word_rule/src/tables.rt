@@ -22,7 +22,11 @@ impl Model for MeetTable {
 
     ghost Value = { Opened };
 
-    ghost view = { λ t. record { table_id = t.table.shared.table_id; width = t.width; all = t.all } };
+    ghost view = { λ t. record {
+      table_id = t.table.shared.table_id;
+      width = t.width;
+      all = t.all;
+    } };
 
     ghost invariant = { λ t. IsTable t.width t.all t.table.shared.key t.table.shared.table_id };
 }

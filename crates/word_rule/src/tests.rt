@@ -8,10 +8,10 @@ use std::test::Fail;
 use std::thread;
 use word_rows::{Entry, Row};
 
-// What is left of the full word where bits 0 and 2 are cleared.
+/// What is left of the full word where bits 0 and 2 are cleared.
 const LEFT: u64 = 0xffff_ffff_ffff_fffa;
 
-// The row of one entry in word 0.
+/// Makes the row of one entry in word 0.
 fn row_of(alloc: Global, mask: u64) -> Result<Row, AllocError>
     requires { 0 < mask }
     ensures { IfOk result (λ r. r ≡ record { word = 0; mask = mask } ∷ []) }
@@ -21,7 +21,8 @@ fn row_of(alloc: Global, mask: u64) -> Result<Row, AllocError>
     Ok(Row::of(entries))
 }
 
-// Says that one thread is here, and waits for the other for so many turns. Whether the other came.
+/// Says that one thread is here, and waits for the other for so many turns. Answers whether the
+/// other came.
 fn holds_for(mine: &AtomicU64, other: &AtomicU64) -> bool {
     mine.store(1, Ordering::SeqCst);
     for _ in 0..10_000_000u64 {
@@ -31,6 +32,17 @@ fn holds_for(mine: &AtomicU64, other: &AtomicU64) -> bool {
         thread::yield_now();
     }
     false
+}
+
+/// Makes the row that clears bit 0 of the words 0 and 1.
+fn row_of_two(alloc: Global) -> Result<Row, AllocError>
+    ensures { IfOk result (λ r. r ≡
+        record { word = 0; mask = 1 } ∷ record { word = 1; mask = 1 } ∷ []) }
+{
+    let mut entries = Vec::with_capacity(alloc, 2)?;
+    entries.push_reserved(Entry { word: 0, mask: 1 });
+    entries.push_reserved(Entry { word: 1, mask: 1 });
+    Ok(Row::of(entries))
 }
 
 #[test]
@@ -58,6 +70,41 @@ fn the_pass_with_all_shares_closes(rt: HostRuntime) -> Result<(), Fail> {
     table.join(&mut first, second);
     match table.close(rt.alloc(), first) {
         Ok(closed) => assert_eq!(rt; closed.words.words(), [LEFT].as_slice()),
+        Err(_) => return Err(Fail::from("not closed")),
+    }
+    Ok(())
+}
+
+// The replies are those of the step machine, as `two_seats` of its worked examples computes them.
+#[test]
+fn what_another_pass_offered_is_read_without_a_note(rt: HostRuntime) -> Result<(), Fail> {
+    let (table, mut first) = MeetTable::open(rt.alloc(), 1, 2)?;
+    let mut second = table.split(&mut first, 1);
+    table.offer(&mut first, &row_of(rt.alloc(), 1)?);
+    table.offer(&mut second, &row_of(rt.alloc(), 4)?);
+    let mut into = [0u64];
+    table.read(&mut first, &mut into);
+    assert_eq!(rt; into, [LEFT]);
+    table.join(&mut first, second);
+    match table.close(rt.alloc(), first) {
+        Ok(closed) => assert_eq!(rt; closed.words.words(), [LEFT].as_slice()),
+        Err(_) => return Err(Fail::from("not closed")),
+    }
+    Ok(())
+}
+
+// The replies are those of the step machine, as `whole_rows` of its worked examples computes them.
+#[test]
+fn whole_rows_run_as_on_the_step_machine(rt: HostRuntime) -> Result<(), Fail> {
+    let (table, mut pass) = MeetTable::open(rt.alloc(), 2, 1)?;
+    assert_eq!(rt; (table.width(), table.all(), pass.shares()), (2, 1, 1));
+    table.offer(&mut pass, &row_of_two(rt.alloc())?);
+    table.offer(&mut pass, &row_of_two(rt.alloc())?);
+    let mut into = [0u64; 2];
+    table.read(&mut pass, &mut into);
+    assert_eq!(rt; into, [u64::MAX - 1; 2]);
+    match table.close(rt.alloc(), pass) {
+        Ok(closed) => assert_eq!(rt; closed.words.words(), [u64::MAX - 1; 2].as_slice()),
         Err(_) => return Err(Fail::from("not closed")),
     }
     Ok(())
