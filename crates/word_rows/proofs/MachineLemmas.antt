@@ -1,7 +1,7 @@
 -- Each event keeps the state of the step machine sound.
 use Rattle.std.proofs.Common.{◌≡◌, ◌≢◌, ℕ, zero, suc, ◌+◌, ◌<◌, Bool, true, false, not, ◌||◌, ◌==◌, nat_lt, cond, List, [], ◌∷◌, length, get_or, set, take, sym, refl, ap, ◌∙◌, subst, ⊎_elim, arith, length-set, length-append}
 use Rattle.std.specs.Prelude.{Option, Some, None}
-use Rattle.std.proofs.lemmas.Bool.{not-false, eqb-true, eqb-false, ltb-true, and_parts, or_cases, or_parts, false≢true}
+use Rattle.std.proofs.lemmas.Bool.{not-false, eqb-false, ltb-true, or_cases, or_parts, false≢true}
 use Rattle.std.proofs.lemmas.List.{get_or_default, length-map}
 use mathlib.Core.Option.{some}
 use lib.ListN.{get_elem?}

@@ -1,5 +1,5 @@
 -- Meets of words with rows, bit by bit.
-use Rattle.std.proofs.Common.{◌≡◌, ℕ, ◌+◌, ◌<◌, ◌≤◌, min, Bool, true, false, ◌||◌, cond, nat_lt, List, [], ◌∷◌, length, bit_and, slice_index, sym, refl, ap, ◌∙◌, subst, ⊎_elim, arith, length-append}
+use Rattle.std.proofs.Common.{◌≡◌, ℕ, ◌+◌, ◌<◌, ◌≤◌, min, Bool, true, false, ◌||◌, cond, nat_lt, List, [], ◌∷◌, length, slice_index, sym, refl, ap, ◌∙◌, subst, ⊎_elim, arith, length-append}
 use Rattle.std.proofs.lemmas.Bool.{cases_lt, cond-false, false_from_ne_true, or_cases, and_parts, and_from, lt-ltb, eqb-true, ltb-true, false≢true}
 use Rattle.std.proofs.lemmas.List.{same_lists, get_or_default, get_or_append_left, get_or-append_right}
 use Rattle.std.proofs.lemmas.List.Folds.{list_any-append}
@@ -8,7 +8,7 @@ use Rattle.std.proofs.lemmas.Nat.Bits.{same_from_bits_below, bit_at_and}
 use Rattle.std.specs.Int.{bit_at}
 use Rattle.word_rows.specs.declared.entries.Entry.{Entry}
 use Rattle.word_rows.specs.Rows.{entry_clears, clears, rows_clear, below, rows_below}
-use Rattle.word_rows.specs.Words.{bit_of, full_words, IsCommon}
+use Rattle.word_rows.specs.Words.{bit_of, full_words}
 use Rattle.word_rows.specs.Meeting.{BelowWider, ClearsBelow, OrderIsFree, MeetIsUnique, MeetBegins, MeetsFollow, CommonIsMeet, WidenedMeet, MeetByBits, CommonByAnd}
 
 cond_at : (c d : Bool) (x : ℕ) → c ≡ d → cond c 0 x ≡ cond d 0 x

@@ -9,8 +9,8 @@ use lib.ListN.{get_elem?}
 use Rattle.word_rows.specs.declared.entries.Entry.{Entry}
 use Rattle.word_rows.specs.declared.views.Reading.{Reading}
 use Rattle.word_rows.specs.declared.views.View.{View}
-use Rattle.word_rows.specs.Rows.{entry_clears, clears, rows_clear}
-use Rattle.word_rows.specs.Accounts.{Each, view_clears, views_clear, lacks, total_shares}
+use Rattle.word_rows.specs.Rows.{entry_clears, clears}
+use Rattle.word_rows.specs.Accounts.{Each, view_clears, views_clear, total_shares}
 use Rattle.word_rows.specs.Changes.{is_idle}
 use Rattle.word_rows.specs.Meeting.{ClearsAppend, RowsClearAppend, LacksAppend}
 

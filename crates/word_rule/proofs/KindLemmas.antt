@@ -1,5 +1,5 @@
 -- Each kind of atomic step is a step of the step machine, or changes nothing.
-use Rattle.std.proofs.Common.{◌≡◌, ◌≢◌, ℕ, ◌^◌, ◌<◌, ◌≤◌, ⊎_elim, lit<, Bool, true, false, ◌==◌, List, [], ◌∷◌, ◌++◌, length, map, set, bit_and, slice_index, subst, sym, refl, ap, ◌∙◌}
+use Rattle.std.proofs.Common.{◌≡◌, ℕ, ◌^◌, ◌<◌, ◌≤◌, ⊎_elim, lit<, Bool, true, false, ◌==◌, List, length, map, set, bit_and, slice_index, subst, sym, refl, ap, ◌∙◌}
 use Rattle.std.specs.Prelude.{Ok, MatchBool}
 use Rattle.std.proofs.lemmas.Bool.{cases_lt, eq-eqb, ne_eqb}
 use Rattle.std.proofs.lemmas.List.{length-map, get_or_past}
@@ -21,7 +21,7 @@ use Rattle.word_rule.specs.declared.rule.Plan.{Plan}
 use Rattle.word_rule.specs.declared.rule.Knowledge.{Knowledge}
 use Rattle.word_rule.specs.Rule.{TableState, SeatState, view_of, is_seated, machine_state, HasHistory}
 use Rattle.word_rule.specs.Plays.{Clears}
-use Rattle.word_rule.specs.Kinds.{RuleIsSound, ClearIsStep, SkipIsStep, LookIsNoStep, LoadIsStep, TellIsNoStep, SplitIsStep, JoinIsStep, CloseIsStep, IsAt, MayClear, with_seats, table_after}
+use Rattle.word_rule.specs.Kinds.{RuleIsSound, ClearIsStep, SkipIsStep, LookIsNoStep, LoadIsStep, TellIsNoStep, SplitIsStep, JoinIsStep, CloseIsStep, IsAt, with_seats, table_after}
 use Rattle.word_rule.proofs.RuleLemmas.{sound_here, next_all, unchanged, machine_next, clear_is, skip_is, load_is, split_is, join_is, close_is}
 
 pub rule_is_sound : EventsKeepSound → RuleIsSound

@@ -1,5 +1,5 @@
 -- What two passes read stands in one history.
-use Rattle.std.proofs.Common.{◌≡◌, ℕ, ◌<◌, List, ◌++◌, length, slice_index}
+use Rattle.std.proofs.Common.{ℕ, ◌<◌, List, ◌++◌, length, slice_index}
 use Rattle.word_rows.specs.declared.views.View.{View}
 use Rattle.word_rows.specs.declared.events.StepEvent.{StepEvent}
 use Rattle.word_rows.specs.declared.events.StepEvent.TheVariants.{Load as load}

@@ -1,12 +1,11 @@
-use Rattle.std.proofs.Common.{rules, ◌≡◌, ◌<◌, length, true, ℕ, List, ap, ◌∙◌, subst}
+use Rattle.std.proofs.Common.{rules, ◌≡◌, ◌<◌, length, true, ℕ, ap, ◌∙◌, subst}
 use Rattle.std.specs.Int.{bit_at}
 use Rattle.word_rows.specs.declared.views.View.{View}
-use Rattle.word_rows.specs.declared.events.StepEvent.{StepEvent}
 use Rattle.word_rows.specs.declared.events.StepEvent.TheVariants.{Load as load}
 use Rattle.word_rows.specs.declared.replies.Reply.TheVariants.{Loaded}
 use Rattle.word_rows.specs.Changes.{with_reading}
 use Rattle.word_rule.specs.Shown.{shows}
-use Rattle.word_rule.specs.Histories.{IsLoadBetween, read_until}
+use Rattle.word_rule.specs.Histories.{IsLoadBetween}
 use Rattle.word_rule.proofs.ReadLemmas.{step_view, step_knows, step_told}
 use Rattle.word_rule.proofs.PastLemmas.{between_before, between_after}
 use Rattle.word_rule.proofs.reading.load_words.Goals as goal

@@ -1,4 +1,4 @@
-use Rattle.std.proofs.Common.{◌≡◌, ℕ, ◌++◌, subst}
+use Rattle.std.proofs.Common.{ℕ, ◌++◌, subst}
 use Rattle.word_rule.specs.Holdings.{Holding, together}
 use Rattle.word_rule.specs.Histories.{EndsWith}
 use Rattle.word_rule.specs.Uses.{ReadInOneHistory}

@@ -1,4 +1,4 @@
-use Rattle.std.proofs.Common.{rules, ◌≡◌, List, ℕ, [], subst, sym, ◌∙◌}
+use Rattle.std.proofs.Common.{rules, ◌≡◌, ℕ, [], subst, sym, ◌∙◌}
 use Rattle.atomic_table.specs.Table.{opening}
 use Rattle.word_rows.specs.Words.{full_words}
 use Rattle.word_rows.specs.Changes.{first_view}
