@@ -1,0 +1,4 @@
+pub mod CrossLemmas
+pub mod FillingLemmas
+pub mod LendLemmas
+pub mod PlaceLemmas

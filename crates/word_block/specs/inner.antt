@@ -1,0 +1,5 @@
+pub mod Blocks
+pub mod Filling
+pub mod Handover
+pub mod Ownership
+pub mod PlaceLends
