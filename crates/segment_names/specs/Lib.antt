@@ -1,0 +1,4 @@
+pub mod Known
+pub mod Limits
+pub mod Naming
+pub mod inner
