@@ -1,5 +1,5 @@
 -- Names and their order.
-use Rattle.std.proofs.Common.{◌≡◌, ◌≢◌, ◌↔◌, ℕ, ◌<◌, ◌≤◌, Bool, true, false, not, ◌&&◌, Some, List, [], length, get_or, map, refl, sym, ap, ◌∙◌, subst, inr, ⊎_elim, arith, IsPermutation, IsSorted, Ordering}
+use Rattle.std.proofs.Common.{◌≡◌, ◌≢◌, ◌↔◌, ℕ, ◌≤◌, Bool, true, false, not, ◌&&◌, Some, List, [], length, get_or, map, refl, sym, ap, ◌∙◌, inr, ⊎_elim, arith, IsPermutation, IsSorted, Ordering}
 use Rattle.std.specs.declared.cmp.Ordering.TheVariants.{Less, Equal, Greater}
 use Rattle.std.specs.Cmp.{IsTotalOrder}
 use Rattle.std.specs.Cmp.Lexicographic.{slice_cmp}

@@ -1,5 +1,5 @@
 -- What a trace refutes, it refutes under other names.
-use Rattle.std.proofs.Common.{◌≡◌, ◌≢◌, ℕ, pos, ◌+ℤ◌, ◌<ℤ◌, ◌<◌, ◌↔◌, Option, Some, List, arith, sym, ap, ◌∙◌, subst, ⊎_elim, inl, inr}
+use Rattle.std.proofs.Common.{◌≡◌, ◌≢◌, ℕ, pos, ◌+ℤ◌, ◌<ℤ◌, ◌<◌, Option, Some, List, arith, sym, ap, ◌∙◌, subst, ⊎_elim, inl, inr}
 use Rattle.std.proofs.lemmas.Int.{ints}
 use Rattle.std.specs.List.{AllZip}
 use Rattle.std.specs.declared.cmp.Ordering.{Ordering}
@@ -7,9 +7,8 @@ use Rattle.std.specs.declared.cmp.Ordering.TheVariants.{Less}
 use Rattle.trace_types.specs.Parts.{Parts}
 use Rattle.trace_types.specs.Pipelines.{HandlesAt, StartsAt, EndsAt, StartsInOrder, TakesUnfinished, TakesOutOfOrder, RefutesPipe, RefutesUnshared}
 use Rattle.trace_types.specs.Refuting.{HasBoth, StartsEarly, RefutesBefore, RefutesExclusive, RefutesApart}
-use Rattle.trace_types.specs.Relations.{HappensBefore, ExcludesUnordered}
+use Rattle.trace_types.specs.Relations.{ExcludesUnordered}
 use Rattle.trace_types.specs.Renaming.{IsOneToOne, Agree, IsSegmentRenamed, IsTraceRenamed, AreRenamed, RefuteAlike, SurviveAlike, LeaveAlike}
-use Rattle.trace_types.specs.Surviving.{Survives, IsRefuted}
 use Rattle.trace_types.proofs.MatchLemmas.{Flip, OneToOne, flip_one, Are, are_one, OptionsMatch, flip_options, options_are, some_matched, zip_map, flip_zip, partner_at, partner_in, survive_alike, refuted_alike}
 
 -- ---- the two readings, matched by relations

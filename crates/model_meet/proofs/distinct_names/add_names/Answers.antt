@@ -1,4 +1,4 @@
-use Rattle.std.proofs.Common.{map, arith}
+use Rattle.std.proofs.Common.{arith}
 use Rattle.trace_types.specs.Segments.{name_of}
 use Rattle.model_meet.proofs.GrowingLemmas.{AddsDistinct-more}
 use Rattle.model_meet.proofs.distinct_names.add_names.Goals as goal

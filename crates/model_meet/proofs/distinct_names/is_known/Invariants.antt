@@ -1,4 +1,4 @@
-use Rattle.std.proofs.Common.{take, map}
+use Rattle.std.proofs.Common.{take}
 use Rattle.std.specs.List.{Contains}
 use Rattle.trace_types.specs.Segments.{name_of}
 use Rattle.model_meet.proofs.distinct_names.is_known.Given as goal

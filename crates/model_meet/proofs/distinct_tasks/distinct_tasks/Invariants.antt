@@ -1,5 +1,4 @@
 use Rattle.std.proofs.Common.{[], take, map}
-use Rattle.trace_types.specs.Segments.{SegmentName}
 use Rattle.model_meet.specs.inner.Growing.{AddsDistinct}
 use Rattle.model_meet.proofs.NameLemmas.{task_in}
 use Rattle.model_meet.proofs.distinct_tasks.distinct_tasks.Given as goal

@@ -1,6 +1,5 @@
-use Rattle.std.proofs.Common.{◌≡◌, ◌≢◌, All, Contains, MatchOption, Option, Bor, subst}
+use Rattle.std.proofs.Common.{MatchOption, Option, Bor, subst}
 use Rattle.trace_types.specs.declared.segment.Segment.{Segment}
-use Rattle.trace_types.specs.Segments.{name_of}
 use Rattle.model_meet.proofs.RefuterLemmas.{IsNamed, HasNoneNamed, answer_of_two, answer_without_first, answer_without_second}
 use Rattle.model_meet.proofs.refuted.refuted_by.Goals as goal
 
