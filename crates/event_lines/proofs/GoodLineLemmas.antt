@@ -1,30 +1,35 @@
--- The lines that an input says have rising numbers, and timely events.
+-- The lines that an input says have rising numbers, timely events and limited commands.
 use Rattle.std.proofs.Common.{◌≡◌, ℕ, zero, suc, ◌+◌, ◌*◌, ◌≤◌, List, [], ◌∷◌, ◌++◌, Bool, true, false, Option, Some, None, Result, Ok, Err, refl, sym, subst, ◌∙◌, true≢false, arith, codes, nat_lt, unwrap_or, is_some, if◌then◌else◌}
 use Rattle.std.specs.Prelude.{All}
 use Rattle.std.proofs.lemmas.List.Elements.{All-cons}
 use Rattle.std.specs.Option.{option_map_or}
+use Rattle.std.specs.Result.{result_map_both, result_flatten}
 use Rattle.std.proofs.lemmas.Bool.{ltb-false}
 use Rattle.serde_json.specs.Data.{Data}
 use Rattle.serde_json.specs.Find.{as_object}
 use Rattle.event_lines.specs.declared.line.Line.{Line}
-use Rattle.event_lines.specs.declared.line.Line.TheVariants.{Event}
+use Rattle.event_lines.specs.declared.line.Line.TheVariants.{Event, Control}
+use Rattle.event_lines.specs.declared.command.Command.{Command}
 use Rattle.event_lines.specs.declared.why.Why.{Why}
 use Rattle.event_lines.specs.declared.why.Why.TheVariants.{NotJson, Missing, WrongKind, OutOfRange, NotBuilt}
 use Rattle.event_lines.specs.declared.time_unit.TimeUnit.{TimeUnit}
 use Rattle.event_lines.specs.declared.time_unit.TimeUnit.TheVariants.{Microseconds, Nanoseconds}
 use Rattle.event_lines.specs.Cut.{input_lines, is_blank_line}
-use Rattle.event_lines.specs.GoodLines.{line_number, NumbersRise, IsTimely}
+use Rattle.event_lines.specs.GoodLines.{line_number, NumbersRise, IsTimely, IsLimited}
+use Rattle.event_lines.specs.Commands.{command_result, is_built}
 use Rattle.event_lines.specs.EventFaults.{event_line_fault, time_name, lacks_member, has_wrong_kind, is_out_of_range}
-use Rattle.event_lines.specs.LineResults.{line_event, event_line_result, value_result, line_result, json_value}
+use Rattle.event_lines.specs.LineResults.{line_event, event_line_result, built_line, control_line_result, object_result, value_result, line_result, json_value}
 use Rattle.event_lines.specs.Members.{has_member, number_at}
 use Rattle.event_lines.specs.TimeUnits.{time_unit_of, latest_in, nanoseconds_in}
 use Rattle.event_lines.specs.InputLines.{LineFault, lines_said_from, lines_said}
+use Rattle.event_lines.proofs.CommandLemmas.{command_small}
 use Rattle.event_lines.proofs.InputLineLemmas.{one_or_fault, lines_said_from-cons, lines_said_from-one, and_then}
 
--- a good line has its number, and is timely
+-- a good line has its number, and is in the limits
 record IsGood (n : ℕ) (line : Line) : Type 0 where
   pub numbered : line_number line ≡ n
   pub timely : IsTimely line
+  pub limited : IsLimited line
 
 -- ---- one line
 
@@ -50,11 +55,26 @@ good_event n d line said = by (event_line_fault d) refl
         subst (IsGood n) same (record {
           numbered = refl;
           timely = bounded (time_unit_of d) (number_at (time_name d) d) (third_holds_not (lacks_member d) (has_wrong_kind d) (is_out_of_range d) _ e);
+          limited = tt;
         })
 
-from_else : (b : Bool) (why : Why) (said : Result Line Why) (line : Line) → (if b then Err why else said) ≡ Ok line → said ≡ Ok line
-from_else true why said line h = absurd (cc h)
-from_else false why said line h = h
+good_command : (n : ℕ) (d : Data) (line : Line) (command : Result Command Why) → command_result d ≡ command
+    → result_flatten (result_map_both (built_line n) (λ why. why) command) ≡ Ok line → IsGood n line
+good_command n d line (Err why) is said = absurd (cc said)
+good_command n d line (Ok command) is said = by (is_built command) said
+  where
+    by : (b : Bool) → (if b then Ok (Control n command) else Err NotBuilt) ≡ Ok line → IsGood n line
+    by false h = absurd (cc h)
+    by true h =
+        let same : Control n command ≡ line = cc in
+        subst (IsGood n) same (record { numbered = refl; timely = tt; limited = command_small d command is })
+
+good_object : (n : ℕ) (d : Data) (line : Line) → object_result n d ≡ Ok line → IsGood n line
+good_object n d line said = by (has_member (codes "do") d) said
+  where
+    by : (b : Bool) → (if b then control_line_result n d else event_line_result n d) ≡ Ok line → IsGood n line
+    by true h = good_command n d line (command_result d) refl h
+    by false h = good_event n d line h
 
 from_then : (b : Bool) (why : Why) (said : Result Line Why) (line : Line) → (if b then said else Err why) ≡ Ok line → said ≡ Ok line
 from_then true why said line h = h
@@ -62,7 +82,7 @@ from_then false why said line h = absurd (cc h)
 
 good_value : (n : ℕ) (value : Option Data) (line : Line) → option_map_or (value_result n) value (Err NotJson) ≡ Ok line → IsGood n line
 good_value n None line said = absurd (cc said)
-good_value n (Some d) line said = good_event n d line (from_else (has_member (codes "do") d) NotBuilt _ line (from_then (is_some (as_object d)) NotJson _ line said))
+good_value n (Some d) line said = good_object n d line (from_then (is_some (as_object d)) NotJson _ line said)
 
 good_line : (n : ℕ) (bytes : List ℕ) (line : Line) → line_result n bytes ≡ Ok line → IsGood n line
 good_line n bytes line said = good_value n (json_value bytes) line said
@@ -72,11 +92,11 @@ good_line n bytes line said = good_value n (json_value bytes) line said
 -- the lines are good, and their numbers rise from n on
 abbrev AreGoodFrom : ℕ → List Line → Type 0
 AreGoodFrom n [] = Unit {0}
-AreGoodFrom n (line ∷ lines) = (n ≤ line_number line) × IsTimely line × AreGoodFrom (line_number line + 1) lines
+AreGoodFrom n (line ∷ lines) = (n ≤ line_number line) × IsTimely line × IsLimited line × AreGoodFrom (line_number line + 1) lines
 
 from_later : (n : ℕ) (lines : List Line) → AreGoodFrom (n + 1) lines → AreGoodFrom n lines
 from_later n [] good = tt
-from_later n (line ∷ lines) good = (omega (arith, good.0), good.1, good.2)
+from_later n (line ∷ lines) good = (omega (arith, good.0), good.1, good.2, good.3)
 
 good_added : (n : ℕ) (blank : Bool) (said : Result Line Why) (lines rest : List Line) → ((line : Line) → said ≡ Ok line → IsGood n line)
     → (if blank then Ok [] else one_or_fault n said) ≡ Ok lines → AreGoodFrom (n + 1) rest → AreGoodFrom n (lines ++ rest)
@@ -85,7 +105,7 @@ good_added n false (Err why) lines rest good is more = absurd (cc is)
 good_added n false (Ok line) lines rest good is more =
     let one : line ∷ [] ≡ lines = cc in
     let g = good line refl in
-    subst (λ ls. AreGoodFrom n (ls ++ rest)) one (omega (arith, g.numbered), g.timely, subst (λ m. AreGoodFrom (m + 1) rest) (sym g.numbered) more)
+    subst (λ ls. AreGoodFrom n (ls ++ rest)) one (omega (arith, g.numbered), g.timely, g.limited, subst (λ m. AreGoodFrom (m + 1) rest) (sym g.numbered) more)
 
 good_lines : (n : ℕ) (parts : List (List ℕ)) (lines : List Line) → lines_said_from n parts ≡ Ok lines → AreGoodFrom n lines
 good_lines n [] lines said = let none : [] ≡ lines = cc in subst (AreGoodFrom n) none tt
@@ -104,17 +124,24 @@ good_lines n (part ∷ parts) lines said = by (lines_said_from n (part ∷ [])) 
 rise : (n : ℕ) (lines : List Line) → AreGoodFrom n lines → NumbersRise lines
 rise n [] good k within = absurd (omega arith)
 rise n (line ∷ []) good k within = absurd (omega arith)
-rise n (line ∷ next ∷ lines) good zero within = omega (arith, good.2.0)
+rise n (line ∷ next ∷ lines) good zero within = omega (arith, good.3.0)
 rise n (line ∷ next ∷ lines) good (suc k) within =
     let e : suc k + 1 ≡ suc (k + 1) = omega arith in
-    rw e (rise (line_number line + 1) (next ∷ lines) good.2 k (omega arith))
+    rw e (rise (line_number line + 1) (next ∷ lines) good.3 k (omega arith))
 
 lines_timely : (n : ℕ) (lines : List Line) → AreGoodFrom n lines → All IsTimely lines
 lines_timely n [] good k d within = absurd (omega arith)
-lines_timely n (line ∷ lines) good k d within = All-cons IsTimely line lines good.1 (lines_timely (line_number line + 1) lines good.2) k d within
+lines_timely n (line ∷ lines) good k d within = All-cons IsTimely line lines good.1 (lines_timely (line_number line + 1) lines good.3) k d within
+
+lines_limited : (n : ℕ) (lines : List Line) → AreGoodFrom n lines → All IsLimited lines
+lines_limited n [] good k d within = absurd (omega arith)
+lines_limited n (line ∷ lines) good k d within = All-cons IsLimited line lines good.2 (lines_limited (line_number line + 1) lines good.3) k d within
 
 pub numbers_rise : (bytes : List ℕ) (lines : List Line) → lines_said bytes ≡ Ok lines → NumbersRise lines
 numbers_rise bytes lines said = rise 1 lines (good_lines 1 (input_lines bytes) lines said)
 
 pub all_timely : (bytes : List ℕ) (lines : List Line) → lines_said bytes ≡ Ok lines → All IsTimely lines
 all_timely bytes lines said = lines_timely 1 lines (good_lines 1 (input_lines bytes) lines said)
+
+pub all_limited : (bytes : List ℕ) (lines : List Line) → lines_said bytes ≡ Ok lines → All IsLimited lines
+all_limited bytes lines said = lines_limited 1 lines (good_lines 1 (input_lines bytes) lines said)

@@ -1,4 +1,5 @@
 pub mod BatchLemmas
+pub mod CommandLemmas
 pub mod CutLemmas
 pub mod GoodLineLemmas
 pub mod InputLineLemmas

@@ -3,7 +3,7 @@ use Rattle.std.proofs.Common.{◌≡◌, ℕ, List, [], ◌∷◌, ◌++◌, map
 use Rattle.std.specs.Str.{is_utf8, chars}
 use Rattle.serde_json.proofs.OnLiterals.{serde_json_on_literals}
 use Rattle.event_lines.specs.declared.why.Why.{Why}
-use Rattle.event_lines.specs.declared.why.Why.TheVariants.{NotJson, Missing, WrongKind, OutOfRange, BadText, NotBuilt}
+use Rattle.event_lines.specs.declared.why.Why.TheVariants.{NotJson, Missing, WrongKind, OutOfRange, BadText, UnknownCommand, NotBuilt}
 use Rattle.event_lines.specs.declared.line.Line.{Line}
 use Rattle.event_lines.specs.declared.line.Line.TheVariants.{Event}
 use Rattle.event_lines.specs.InputLines.{lines_said}
@@ -80,9 +80,21 @@ bad_text : map said (
 unfolding serde_json_on_literals is_utf8 chars
 bad_text = refl
 
+control_lines : map said (
+    object (codes "\"do\":null")
+    ∷ object (codes "\"do\":5,\"day\":-1")
+    ∷ object (codes "\"do\":\"Add\"")
+    ∷ object (codes "\"do\":\"drop\",\"days\":1")
+    ∷ object (codes "\"do\":\"keep\",\"days\":null")
+    ∷ object (codes "\"do\":\"watch\",\"every\":-1")
+    ∷ object (codes "\"do\":\"grace\",\"micros\":1000001")
+    ∷ []) ≡ Err WrongKind ∷ Err WrongKind ∷ Err UnknownCommand ∷ Err Missing ∷ Err WrongKind ∷ Err OutOfRange ∷ Err OutOfRange ∷ []
+unfolding serde_json_on_literals is_utf8 chars
+control_lines = refl
+
 not_built : map said (
     object (codes "\"do\":\"add\"")
-    ∷ object (codes "\"do\":null")
+    ∷ object (codes "\"do\":\"grace\",\"micros\":1000000")
     ∷ object (codes "\"request\":\"r\",\"machine\":\"m\",\"task\":\"t\",\"event\":\"e@\",\"time\":0")
     ∷ []) ≡ replicate 3 (Err NotBuilt)
 unfolding serde_json_on_literals is_utf8 chars

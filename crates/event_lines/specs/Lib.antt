@@ -1,3 +1,4 @@
+pub mod Commands
 pub mod Cut
 pub mod EventFaults
 pub mod GoodLines

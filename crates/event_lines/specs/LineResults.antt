@@ -1,7 +1,8 @@
--- What one line says: its event, or the reason that it is bad.
+-- What one line says: its event or its command, or the reason that it is bad.
 use Rattle.std.specs.Prelude.{ℕ, ◌*◌, List, [], codes, if◌then◌else◌}
 use Rattle.std.specs.Prelude.{Option, None, is_some, unwrap_or, Result, Ok, Err}
 use Rattle.std.specs.Option.{option_map_or}
+use Rattle.std.specs.Result.{result_map_both, result_flatten}
 use Rattle.std.specs.Str.{is_utf8}
 use Rattle.serde_json.specs.Data.{Data}
 use Rattle.serde_json.specs.Read.{read}
@@ -10,9 +11,11 @@ use Rattle.trace_types.specs.declared.event.Event as events
 use Rattle.event_lines.specs.declared.why.Why.{Why}
 use Rattle.event_lines.specs.declared.why.Why.TheVariants.{NotJson, NotBuilt}
 use Rattle.event_lines.specs.declared.line.Line.{Line}
-use Rattle.event_lines.specs.declared.line.Line.TheVariants.{Event}
+use Rattle.event_lines.specs.declared.line.Line.TheVariants.{Event, Control}
+use Rattle.event_lines.specs.declared.command.Command.{Command}
 use Rattle.event_lines.specs.Members.{has_member, text_at, number_at}
 use Rattle.event_lines.specs.TimeUnits.{time_unit_of, nanoseconds_in}
+use Rattle.event_lines.specs.Commands.{command_result, is_built}
 use Rattle.event_lines.specs.EventFaults.{time_name, event_line_fault}
 
 -- the event of line n, where the line has no fault
@@ -32,9 +35,19 @@ line_event n d = record {
 abbrev pub event_line_result : ℕ → Data → Result Line Why
 event_line_result n d = option_map_or Err (event_line_fault d) (Ok (Event (line_event n d)))
 
--- what an object says: with the member do it is a control line, and these are not built yet
+-- the line of a command, where it is carried out
+abbrev pub built_line : ℕ → Command → Result Line Why
+built_line n command = if is_built command then Ok (Control n command) else Err NotBuilt
+
+-- what a control line says
+abbrev pub control_line_result : ℕ → Data → Result Line Why
+control_line_result n d =
+    result_flatten (result_map_both (built_line n) (λ why. why) (command_result d))
+
+-- what an object says: with the member do it is a control line, and otherwise an event line
 abbrev pub object_result : ℕ → Data → Result Line Why
-object_result n d = if has_member (codes "do") d then Err NotBuilt else event_line_result n d
+object_result n d =
+    if has_member (codes "do") d then control_line_result n d else event_line_result n d
 
 -- what a JSON value says
 abbrev pub value_result : ℕ → Data → Result Line Why

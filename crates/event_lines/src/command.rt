@@ -1,4 +1,4 @@
-/// The command of a control line.
+/// The command of a control line. Each number is at most 1,000,000.
 #[derive(Clone, Copy, Debug, PartialEq, Eq)]
 pub enum Command {
     /// Cut the events since the last batch into traces, and keep these.
@@ -17,6 +17,11 @@ pub enum Command {
     Watch {
         /// The number of traces from one print to the next.
         every: u32,
+    },
+    /// Judge the traces of later adds with a grace.
+    Grace {
+        /// The grace, in microseconds.
+        micros: u32,
     },
     /// Print the model.
     Model,

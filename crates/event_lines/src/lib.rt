@@ -4,12 +4,14 @@
 
 mod blank_lines;
 mod command;
+mod command_reading;
 mod event_fields;
 mod gathering;
 mod line;
 mod line_error;
 mod line_reading;
 mod lines;
+mod object_members;
 mod rising;
 mod text_rules;
 mod time_unit;

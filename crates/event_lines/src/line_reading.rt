@@ -1,8 +1,12 @@
-ghost use Rattle.std.specs.Prelude.{◌≡◌, IfOk, option_map};
+ghost use Rattle.std.specs.Prelude.{◌≡◌, codes, Some, IfOk, option_map};
+ghost use Rattle.serde_json.specs.Find.{get};
 ghost use Rattle.serde_json.specs.View.{view};
-ghost use Rattle.event_lines.specs.LineResults.{json_value, object_result, line_result};
+ghost use Rattle.event_lines.specs.LineResults.{json_value, control_line_result, event_line_result};
+ghost use Rattle.event_lines.specs.LineResults.{object_result, line_result};
 
+use crate::command_reading::{is_built, read_command};
 use crate::event_fields::EventFields;
+use crate::object_members::as_text;
 use crate::{Line, Why};
 use serde_json::Value;
 use std::alloc::{AllocError, Global};
@@ -18,13 +22,30 @@ fn parse(alloc: Global, line: &[u8]) -> Result<Option<Value>, AllocError>
     }
 }
 
-/// Reads an object: its event, or why it is bad.
-fn read_object(alloc: Global, number: u32, value: &Value) -> Result<Result<Line, Why>, AllocError>
-    ensures { IfOk result (λ said. said ≡ object_result number (view value.now)) }
+/// Reads a control line, an object with this member `do`.
+fn read_control_line(number: u32, value: &Value, name: &Value) -> Result<Line, Why>
+    requires { get (codes "do") (view value.now) ≡ Some (view name.now) }
+    ensures { result ≡ control_line_result number (view value.now) }
 {
-    if value.get("do").is_some() {
-        return Ok(Err(Why::NotBuilt));
+    let command = read_command(value, as_text(name)?)?;
+    if is_built(command) {
+        Ok(Line::Control {
+            line: number,
+            command,
+        })
+    } else {
+        Err(Why::NotBuilt)
     }
+}
+
+/// Reads an event line.
+fn read_event_line(
+    alloc: Global,
+    number: u32,
+    value: &Value,
+) -> Result<Result<Line, Why>, AllocError>
+    ensures { IfOk result (λ said. said ≡ event_line_result number (view value.now)) }
+{
     let fields = match EventFields::of(value) {
         Ok(fields) => fields,
         Err(why) => return Ok(Err(why)),
@@ -37,7 +58,18 @@ fn read_object(alloc: Global, number: u32, value: &Value) -> Result<Result<Line,
     }
 }
 
-/// Reads a line that is not blank: its event, or why it is bad. The only error is out of memory.
+/// Reads an object: its event or command, or why it is bad.
+fn read_object(alloc: Global, number: u32, value: &Value) -> Result<Result<Line, Why>, AllocError>
+    ensures { IfOk result (λ said. said ≡ object_result number (view value.now)) }
+{
+    match value.get("do") {
+        Some(name) => Ok(read_control_line(number, value, name)),
+        None => read_event_line(alloc, number, value),
+    }
+}
+
+/// Reads a line that is not blank: its event or command, or why it is bad. The only
+/// error is out of memory.
 pub(crate) fn read_line(
     alloc: Global,
     number: u32,

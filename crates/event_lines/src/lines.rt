@@ -2,7 +2,7 @@ ghost use Rattle.std.specs.Prelude.{◌≡◌, ◌≤◌, ◌<◌, ◌+◌, ◌�
 ghost use Rattle.std.specs.Prelude.{Ok, IfOk, IfErr, OnOk, IsOkAnd};
 ghost use Rattle.std.specs.List.{position_or_len};
 ghost use Rattle.event_lines.specs.Cut.{is_line_feed};
-ghost use Rattle.event_lines.specs.GoodLines.{IsTimely, NumbersRise};
+ghost use Rattle.event_lines.specs.GoodLines.{IsLimited, IsTimely, NumbersRise};
 ghost use Rattle.event_lines.specs.InputLines.{lines_said, lines_said_from, IsLineError};
 
 use crate::blank_lines::is_blank_line;
@@ -44,13 +44,14 @@ fn add_line(alloc: Global, number: u32, line: &[u8], lines: &mut Vec<Line>) -> R
 /// An input has fewer than 2^32 - 1 bytes, so that the number of each line fits 32 bits.
 ///
 /// The errors are `Memory`, and `Bad` with the number of the first bad line and the first reason
-/// that holds of it. A control line, and an event with an `@`, are not built yet.
+/// that holds of it. A good control line, and an event with an `@`, are not built yet.
 pub fn read_lines(alloc: Global, bytes: &[u8]) -> Result<Vec<Line>, LineError>
     requires { length bytes.now < u32.MAX }
     ensures lines_read { IfOk result (λ v. lines_said bytes.now ≡ Ok v.items) }
     ensures first_bad { IfErr result (IsLineError (lines_said bytes.now)) }
     ensures rising { IfOk result (λ v. NumbersRise v.items) }
     ensures timely { IfOk result (λ v. All IsTimely v.items) }
+    ensures limited { IfOk result (λ v. All IsLimited v.items) }
     ensures few { IfOk result (λ v. length v.items ≤ length bytes.now + 1) }
 {
     let mut lines = Vec::new(alloc);

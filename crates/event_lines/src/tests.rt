@@ -64,8 +64,21 @@ bad text|{"request":"r1","machine":"m","task":"a","event":"\n@","time":0}
 bad text|{"request":"r1","machine":"m","task":"a","event":"s","time":0,"send":""}
 bad text|{"request":"r1","machine":"m","task":"a","event":"s","time":0,"recv":"\u007f"}
 not built|{"request":"r1","machine":"m","task":"a","event":"s@x","time":0}
+wrong kind|{"do":null}
+wrong kind|{"do":5,"day":-1}
+unknown command|{"do":"","day":-1}
+unknown command|{"do":"Add"}
+missing member|{"do":"drop","days":1}
+missing member|{"do":"keep","day":1}
+missing member|{"do":"watch"}
+missing member|{"do":"grace"}
+wrong kind|{"do":"drop","day":null}
+wrong kind|{"do":"grace","micros":"5"}
+out of range|{"do":"keep","days":-1}
+out of range|{"do":"watch","every":1000001}
 not built|{"do":"add"}
-not built|{"do":5}
+not built|{"do":"drop","day":0}
+not built|{"do":"grace","micros":1000000,"request":5}
 "#;
 
 /// Rows of a time in nanoseconds and a good line that has it.
@@ -90,7 +103,7 @@ fn a_bad_line_has_the_first_reason_that_holds(rt: HostRuntime) -> Result<(), Fai
             assert_eq!(rt; found, (1, reason), "{line}");
         }
     }
-    assert_eq!(rt; rows, 36);
+    assert_eq!(rt; rows, 49);
     Ok(())
 }
 

@@ -14,10 +14,10 @@ pub enum Why {
     OutOfRange,
     /// A text is empty, longer than 64 bytes, or has a control character.
     BadText,
-    /// A control line names no command. No line has this reason while control lines are not built.
+    /// A control line names no command.
     UnknownCommand,
-    /// The line is a control line, which is looked at no further, or an otherwise good event line
-    /// whose event has an `@`. Nothing carries these out yet.
+    /// The line is an otherwise good control line, or an otherwise good event line whose event has
+    /// an `@`. Nothing carries these out yet.
     NotBuilt,
 }
 

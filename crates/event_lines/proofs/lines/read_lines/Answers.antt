@@ -4,7 +4,7 @@ use Rattle.std.proofs.lemmas.Result.{err_from_is_err_and}
 use Rattle.event_lines.specs.InputLines.{lines_said}
 use Rattle.event_lines.proofs.CutLemmas.{cut_any, cut_from, cut_end}
 use Rattle.event_lines.proofs.InputLineLemmas.{first_added, first_bad}
-use Rattle.event_lines.proofs.GoodLineLemmas.{numbers_rise, all_timely}
+use Rattle.event_lines.proofs.GoodLineLemmas.{numbers_rise, all_timely, all_limited}
 use Rattle.event_lines.proofs.lines.read_lines.Goals as goal
 
 pub lines-preserved : goal.lines-preserved
@@ -30,6 +30,9 @@ returns-then-end-bytes-clause-rising c = numbers_rise c.args.bytes.now c.add_lin
 
 pub returns-then-end-bytes-clause-timely : goal.returns-then-end-bytes-clause-timely
 returns-then-end-bytes-clause-timely c = all_timely c.args.bytes.now c.add_line.new.lines.items (all_said c)
+
+pub returns-then-end-bytes-clause-limited : goal.returns-then-end-bytes-clause-limited
+returns-then-end-bytes-clause-limited c = all_limited c.args.bytes.now c.add_line.new.lines.items (all_said c)
 
 pub returns-in_err-add_line-clause-first_bad : goal.returns-in_err-add_line-clause-first_bad
 returns-in_err-add_line-clause-first_bad c =
