@@ -1,4 +1,4 @@
-ghost use Rattle.std.specs.Prelude.{◌≡◌, ◌<◌, MatchOption, length};
+ghost use Rattle.std.specs.Prelude.{MatchOption, length};
 ghost use Rattle.trace_types.specs.Times.{AreTimely};
 ghost use Rattle.trace_types.specs.Events.{sends_of};
 ghost use Rattle.clock_offsets.specs.inner.Places.{ArePlaces};

@@ -1,4 +1,4 @@
-ghost use Rattle.std.specs.Prelude.{◌≡◌, ◌≢◌, ◌^◌, ◌<◌, ◌≤◌, IfOk, IfErr, OnOk, length};
+ghost use Rattle.std.specs.Prelude.{◌≢◌, ◌^◌, ◌<◌, ◌≤◌, IfOk, IfErr, OnOk, length};
 ghost use Rattle.trace_types.specs.Times.{AreTimely};
 ghost use Rattle.trace_types.specs.Events.{named_events};
 ghost use Rattle.trace_types.specs.Repeats.{AreDistinct};
