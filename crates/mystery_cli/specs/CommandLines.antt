@@ -51,5 +51,5 @@ abbrev pub files_of : List (List ℕ) → List (List ℕ)
 files_of words = option_map_or (λ (call : Call). call.files) (call_of words) []
 
 -- a parsed command line, seen as the call that it is
-abbrev pub plain : CommandLine → Call
-plain line = record { workers = line.workers; files = line.files.now }
+abbrev pub call_of_line : CommandLine → Call
+call_of_line line = record { workers = line.workers; files = line.files.now }

@@ -54,7 +54,7 @@ pub record AreJudged (raws : List PlainTrace) (kept : List Trace) (refused : Lis
   pub kept_are : kept ≡ kept_of verdicts
   pub refused_are : refused ≡ refused_of raws verdicts
 
--- figures of the kept traces: the number of distinct days, of distinct names and of distinct tasks of
+-- figures of the kept traces: the number of distinct days, of distinct names and distinct tasks of
 -- their segments, the ordered pairs of names and the mutually exclusive pairs
 pub record Figures : Type 0 where
   pub days : ℕ

@@ -4,7 +4,7 @@ ghost use Rattle.std.specs.List.{list_all};
 ghost use Rattle.std.specs.Str.{bytes_eq};
 ghost use Rattle.mystery_cli.specs.Numbers.{number_between};
 ghost use Rattle.mystery_cli.specs.CommandLines.{is_file, files_of_form, call_of_words, call_of};
-ghost use Rattle.mystery_cli.specs.CommandLines.{plain};
+ghost use Rattle.mystery_cli.specs.CommandLines.{call_of_line};
 
 use itoa::Buffer;
 use trace_types::Text;
@@ -76,7 +76,7 @@ fn find_files(words: &[Text]) -> Option<&[Text]>
 impl<'w> CommandLine<'w> {
     /// Reads the arguments `[--workers N] model FILE...`; `None` if they are outside the grammar.
     pub(crate) fn parse(words: &'w [Text]) -> Option<CommandLine<'w>>
-        ensures call { option_map plain result ≡ call_of words.now }
+        ensures call { option_map call_of_line result ≡ call_of words.now }
         ensures few { IfSome result (λ line. length line.files.now < 2 ^ 32) }
         ensures some { IfSome result (λ line. 0 < length line.files.now) }
     {
@@ -88,7 +88,7 @@ impl<'w> CommandLine<'w> {
 
     /// Reads fewer than 2^32 arguments.
     fn parse_few(words: &'w [Text]) -> Option<CommandLine<'w>>
-        ensures call { option_map plain result ≡ call_of_words words.now }
+        ensures call { option_map call_of_line result ≡ call_of_words words.now }
         ensures few { IfSome result (λ line. length line.files.now ≤ length words.now) }
         ensures some { IfSome result (λ line. 0 < length line.files.now) }
     {

@@ -1,4 +1,4 @@
-use Rattle.mystery_cli.specs.CommandLines.{plain}
+use Rattle.mystery_cli.specs.CommandLines.{call_of_line}
 use Rattle.mystery_cli.specs.Runs.{Seen, run_seen}
 use Rattle.mystery_io.specs.ReadFaults.{files_seen}
 use Rattle.mystery_cli.proofs.EndingLemmas.{in_grammar, files_named, cause_too_big, cause_of_ends, writes_of_ends, read_input}
@@ -6,7 +6,7 @@ use Rattle.mystery_cli.proofs.program.perform.Goals as goal
 
 pub returns-in-Err-TooBig-clause-cause : goal.returns-in-Err-TooBig-clause-cause
 returns-in-Err-TooBig-clause-cause g c =
-    let call = plain c.in-Some.line in
+    let call = call_of_line c.in-Some.line in
     let known = c.in-Some.ensures.call in
     let F = g.F.Files in
     let seen : Seen = run_seen c.args.words.now (files_seen F.contents F.left F.is_open F.names F.opens c.args.files.now c.read_all.new.files) g.S.Sink.written c.args.out.now c.args.out.now in
@@ -14,7 +14,7 @@ returns-in-Err-TooBig-clause-cause g c =
 
 pub returns-in-Ok-clause-cause : goal.returns-in-Ok-clause-cause
 returns-in-Ok-clause-cause g c =
-    let call = plain c.in-Some.line in
+    let call = call_of_line c.in-Some.line in
     let known = c.in-Some.ensures.call in
     let named = files_named c.args.words.now call known in
     cause_of_ends c.print_text.result _ c.in-Ok.input.items (in_grammar c.args.words.now call known)
@@ -23,7 +23,7 @@ returns-in-Ok-clause-cause g c =
 
 pub returns-in-Ok-clause-writes : goal.returns-in-Ok-clause-writes
 returns-in-Ok-clause-writes g c =
-    let call = plain c.in-Some.line in
+    let call = call_of_line c.in-Some.line in
     let known = c.in-Some.ensures.call in
     writes_of_ends c.print_text.result _ c.in-Ok.input.items (in_grammar c.args.words.now call known) c.in-Ok.ensures.fits
     (read_input (g.F.Files.contents c.args.files.now) c.args.words.now c.in-Some.line.files.now c.in-Ok.input.items (files_named c.args.words.now call known) c.in-Ok.ensures.input) (rw (← c.deref.ensures.value) c.print_text.ensures.ends)
