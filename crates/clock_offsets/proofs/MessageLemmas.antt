@@ -9,7 +9,7 @@ use Rattle.clock_offsets.specs.declared.message.Message.{Message}
 use Rattle.trace_types.specs.Events.{machine_at, sends_of}
 use Rattle.clock_offsets.specs.Messages.{IsMessage}
 use Rattle.clock_offsets.specs.inner.Links.{AreNumbers, IsNumber}
-use Rattle.clock_offsets.specs.inner.Places.{place_in, ArePlaces}
+use Rattle.clock_offsets.specs.inner.Places.{index_in, AreIndices}
 use Rattle.clock_offsets.specs.inner.Delays.{HasDelay, IsEventAt, HasNoSender, IsReceived}
 
 -- one event stands at one place
@@ -96,18 +96,18 @@ delay_push events numbers n v w d e x a here g num_v num_w = delay_cases events 
     ))
 
 -- the place that a map of senders has for a text is that of an event that sends it
-pub sent_by : (events : List Event) (senders : BTreeMap (Bor (List ℕ)) ℕ) (text : List ℕ) (place : ℕ) → ArePlaces (sends_of events) (length events) senders → place_in senders text ≡ Some place
+pub sent_by : (events : List Event) (senders : BTreeMap (Bor (List ℕ)) ℕ) (text : List ℕ) (place : ℕ) → AreIndices (sends_of events) (length events) senders → index_in senders text ≡ Some place
     → (place < length events) × ((e : Event) → e ≡ get_or events place e → e.send ≡ Some text)
 sent_by events senders text place a found =
     let r = a.right text place found in
     (r.0, λ e is. ap (λ (x : Event). x.send) is ∙ (sym (get_or-map (λ (x : Event). x.send) events place e None r.0) ∙ r.1))
 
 -- and each event that sends it stands at that place
-pub sender_found : (events : List Event) (senders : BTreeMap (Bor (List ℕ)) ℕ) (text : List ℕ) (k : ℕ) (s : Event) → ArePlaces (sends_of events) (length events) senders → IsEventAt events k s → s.send ≡ Some text → place_in senders text ≡ Some k
+pub sender_found : (events : List Event) (senders : BTreeMap (Bor (List ℕ)) ℕ) (text : List ℕ) (k : ℕ) (s : Event) → AreIndices (sends_of events) (length events) senders → IsEventAt events k s → s.send ≡ Some text → index_in senders text ≡ Some k
 sender_found events senders text k s a (l, is) sends = a.all text k l (get_or-map (λ (x : Event). x.send) events k s None l ∙ (ap (λ (x : Event). x.send) is ∙ sends))
 
 -- a sender of what an event receives is found by that text
-pub message_found : (events : List Event) (senders : BTreeMap (Bor (List ℕ)) ℕ) (text : List ℕ) (k : ℕ) (s r : Event) → ArePlaces (sends_of events) (length events) senders → r.recv ≡ Some text → IsEventAt events k s → IsMessage s r → place_in senders text ≡ Some k
+pub message_found : (events : List Event) (senders : BTreeMap (Bor (List ℕ)) ℕ) (text : List ℕ) (k : ℕ) (s r : Event) → AreIndices (sends_of events) (length events) senders → r.recv ≡ Some text → IsEventAt events k s → IsMessage s r → index_in senders text ≡ Some k
 message_found events senders text k s r a receives at_s (t, sends, received, apart) =
     let same : Some t ≡ Some text = sym received ∙ receives in
     sender_found events senders text k s a at_s (sends ∙ same)

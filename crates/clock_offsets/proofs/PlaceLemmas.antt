@@ -12,7 +12,7 @@ use Rattle.clock_offsets.specs.declared.clock_fault.ClockFault.{ClockFault}
 use Rattle.clock_offsets.specs.declared.places.End.{End}
 use Rattle.clock_offsets.specs.declared.places.End.TheVariants.{Sending, Receipt}
 use Rattle.clock_offsets.specs.Faults.{IsClockFault}
-use Rattle.clock_offsets.specs.inner.Places.{message_at, messages_at, place_in, ArePlaces, IsRepeatAt}
+use Rattle.clock_offsets.specs.inner.Places.{message_at, messages_at, index_in, AreIndices, IsRepeatAt}
 use Rattle.trace_types.specs.Repeats.{IsRepeated, IsFirstRepeat, AreDistinct}
 
 -- each event has a message or none
@@ -26,7 +26,7 @@ message_read Sending events n e l is = get_or-map (λ (x : Event). x.send) event
 message_read Receipt events n e l is = get_or-map (λ (x : Event). x.recv) events n e None l ∙ ap (λ (x : Event). x.recv) (sym is)
 
 -- one key more, where the event has none
-pub places_skip : (keys : List (Option (List ℕ))) (n : ℕ) (m : BTreeMap (Bor (List ℕ)) ℕ) → ArePlaces keys n m → get_or keys n None ≡ None → ArePlaces keys (n + 1) m
+pub places_skip : (keys : List (Option (List ℕ))) (n : ℕ) (m : BTreeMap (Bor (List ℕ)) ℕ) → AreIndices keys n m → get_or keys n None ≡ None → AreIndices keys (n + 1) m
 places_skip keys n m a none = record {
   right = λ text p h. let r = a.right text p h in let lt : p < n = r.0 in (omega arith, r.1);
   all = λ text p lt h. ⊎_elim
@@ -36,8 +36,8 @@ places_skip keys n m a none = record {
 }
 
 -- one key more, where the map got its place
-pub places_put : (keys : List (Option (List ℕ))) (n : ℕ) (t : List ℕ) (m w : BTreeMap (Bor (List ℕ)) ℕ) → ArePlaces keys n m → get_or keys n None ≡ Some t → place_in m t ≡ None
-    → ((q : List ℕ) → place_in w q ≡ cond (bytes_eq t q) (Some n) (place_in m q)) → ArePlaces keys (n + 1) w
+pub places_put : (keys : List (Option (List ℕ))) (n : ℕ) (t : List ℕ) (m w : BTreeMap (Bor (List ℕ)) ℕ) → AreIndices keys n m → get_or keys n None ≡ Some t → index_in m t ≡ None
+    → ((q : List ℕ) → index_in w q ≡ cond (bytes_eq t q) (Some n) (index_in m q)) → AreIndices keys (n + 1) w
 places_put keys n t m w a key absent put = record {
   right = λ text p h. right text p (bytes_eq t text) refl (sym (put text) ∙ h);
   all = λ text p lt h. ⊎_elim
@@ -46,11 +46,11 @@ places_put keys n t m w a key absent put = record {
       let same : p ≡ n = omega arith in
       let k : get_or keys p None ≡ get_or keys n None = ap (λ i. get_or keys i None) same in
       let e : t ≡ text = cc in
-      put text ∙ (ap (λ b. cond b (Some n) (place_in m text)) ((bytes_eq-Decides t text).1 e) ∙ ap Some (sym same)))
+      put text ∙ (ap (λ b. cond b (Some n) (index_in m text)) ((bytes_eq-Decides t text).1 e) ∙ ap Some (sym same)))
       (cases_lt p n);
 }
   where
-    right : (text : List ℕ) (p : ℕ) (b : Bool) → bytes_eq t text ≡ b → cond b (Some n) (place_in m text) ≡ Some p → (p < n + 1) × (get_or keys p None ≡ Some text)
+    right : (text : List ℕ) (p : ℕ) (b : Bool) → bytes_eq t text ≡ b → cond b (Some n) (index_in m text) ≡ Some p → (p < n + 1) × (get_or keys p None ≡ Some text)
     right text p true e h =
         let same : n ≡ p = cc in
         let t_is : t ≡ text = (bytes_eq-Decides t text).0 e in
@@ -58,33 +58,33 @@ places_put keys n t m w a key absent put = record {
         (omega arith, cc)
     right text p false e h = let r = a.right text p h in let lt : p < n = r.0 in (omega arith, r.1)
 
-    other : (text : List ℕ) (p : ℕ) → place_in m text ≡ Some p → (b : Bool) → bytes_eq t text ≡ b → cond b (Some n) (place_in m text) ≡ Some p
+    other : (text : List ℕ) (p : ℕ) → index_in m text ≡ Some p → (b : Bool) → bytes_eq t text ≡ b → cond b (Some n) (index_in m text) ≡ Some p
     other text p h true e =
         let t_is : t ≡ text = (bytes_eq-Decides t text).0 e in
-        let k : place_in m t ≡ place_in m text = ap (place_in m) t_is in
+        let k : index_in m t ≡ index_in m text = ap (index_in m) t_is in
         cc
     other text p h false e = h
 
 -- a key that the map has already is the first that stands at an earlier place too
-pub first_repeat : (keys : List (Option (List ℕ))) (n : ℕ) (t : List ℕ) (m : BTreeMap (Bor (List ℕ)) ℕ) → ArePlaces keys n m → n < length keys → get_or keys n None ≡ Some t → is_some (place_in m t) ≡ true → IsFirstRepeat keys n
+pub first_repeat : (keys : List (Option (List ℕ))) (n : ℕ) (t : List ℕ) (m : BTreeMap (Bor (List ℕ)) ℕ) → AreIndices keys n m → n < length keys → get_or keys n None ≡ Some t → is_some (index_in m t) ≡ true → IsFirstRepeat keys n
 first_repeat keys n t m a l key there = (
-  at (place_in m t) refl there,
+  at (index_in m t) refl there,
   λ j lt (i, k, before, within, ki, kj).
-      let pi : place_in m k ≡ Some i = a.all k i (omega arith) ki in
-      let pj : place_in m k ≡ Some j = a.all k j lt kj in
+      let pi : index_in m k ≡ Some i = a.all k i (omega arith) ki in
+      let pj : index_in m k ≡ Some j = a.all k j lt kj in
       let same : i ≡ j = cc in
       absurd (omega arith),
 )
   where
-    at : (o : Option ℕ) → place_in m t ≡ o → is_some o ≡ true → IsRepeated keys n
+    at : (o : Option ℕ) → index_in m t ≡ o → is_some o ≡ true → IsRepeated keys n
     at None e h = cc
     at (Some j) e h = let r = a.right t j e in (j, t, r.0, l, r.1, key)
 
 -- where the map has the place of each key, the keys differ
-pub places_distinct : (keys : List (Option (List ℕ))) (m : BTreeMap (Bor (List ℕ)) ℕ) → ArePlaces keys (length keys) m → AreDistinct keys
+pub places_distinct : (keys : List (Option (List ℕ))) (m : BTreeMap (Bor (List ℕ)) ℕ) → AreIndices keys (length keys) m → AreDistinct keys
 places_distinct keys m a = λ k (j, key, before, within, kj, kk).
-    let pj : place_in m key ≡ Some j = a.all key j (omega arith) kj in
-    let pk : place_in m key ≡ Some k = a.all key k within kk in
+    let pj : index_in m key ≡ Some j = a.all key j (omega arith) kj in
+    let pk : index_in m key ≡ Some k = a.all key k within kk in
     let same : j ≡ k = cc in
     absurd (omega arith)
 
@@ -94,8 +94,8 @@ none_from_is_some None h = refl
 none_from_is_some (Some x) h = cc
 
 -- the messages at an end differ where the map has the index of each
-pub messages_distinct : (end : End) (events : List Event) (m : BTreeMap (Bor (List ℕ)) ℕ) → ArePlaces (messages_at end events) (length events) m → AreDistinct (messages_at end events)
-messages_distinct end events m a = places_distinct (messages_at end events) m (subst (λ (n : ℕ). ArePlaces (messages_at end events) n m) (sym (length-messages_at end events)) a)
+pub messages_distinct : (end : End) (events : List Event) (m : BTreeMap (Bor (List ℕ)) ℕ) → AreIndices (messages_at end events) (length events) m → AreDistinct (messages_at end events)
+messages_distinct end events m a = places_distinct (messages_at end events) m (subst (λ (n : ℕ). AreIndices (messages_at end events) n m) (sym (length-messages_at end events)) a)
 
 -- a send that is repeated is the fault of the events
 pub send_repeats : (events : List Event) (fault : ClockFault) → IsRepeatAt events Sending fault → IsClockFault events fault

@@ -4,9 +4,10 @@ use Rattle.trace_types.specs.declared.event.Event.{Event}
 use Rattle.trace_types.specs.Events.{sends_of, receipts_of}
 use Rattle.trace_types.specs.Repeats.{AreDistinct, IsLineOfRepeat}
 use Rattle.clock_offsets.specs.declared.clock_fault.ClockFault.{ClockFault}
-use Rattle.clock_offsets.specs.declared.clock_fault.ClockFault.TheVariants.{Memory, RepeatedSend, RepeatedRecv}
+use Rattle.clock_offsets.specs.declared.clock_fault.ClockFault.TheVariants.{Memory, RepeatedSend}
+use Rattle.clock_offsets.specs.declared.clock_fault.ClockFault.TheVariants.{RepeatedRecv}
 
--- each message is sent once and received once
+-- no message is sent twice, and none is received twice
 abbrev pub AreMessagesOnce : List Event → Type 0
 AreMessagesOnce events = AreDistinct (sends_of events) × AreDistinct (receipts_of events)
 

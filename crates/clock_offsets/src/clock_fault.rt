@@ -23,7 +23,7 @@ pub enum ClockFault {
 impl From<AllocError> for ClockFault {
     ghost from_gives = { λ _ e. e ≡ Memory };
 
-    /// Answers that memory ran out.
+    /// Converts an allocation failure to `Memory`.
     fn from(_error: AllocError) -> ClockFault {
         ClockFault::Memory
     }
@@ -32,7 +32,7 @@ impl From<AllocError> for ClockFault {
 impl<T: Drop> From<AllocFailed<T>> for ClockFault {
     ghost from_gives = { λ _ e. e ≡ Memory };
 
-    /// Answers that memory ran out.
+    /// Converts an allocation failure to `Memory`.
     fn from(_error: AllocFailed<T>) -> ClockFault {
         ClockFault::Memory
     }

@@ -1,7 +1,7 @@
 ghost use Rattle.std.specs.Prelude.{◌<◌, IfOk, length};
 ghost use Rattle.trace_types.specs.Times.{AreTimely};
 ghost use Rattle.trace_types.specs.Events.{sends_of};
-ghost use Rattle.clock_offsets.specs.inner.Places.{ArePlaces};
+ghost use Rattle.clock_offsets.specs.inner.Places.{AreIndices};
 ghost use Rattle.clock_offsets.specs.inner.Links.{AreNumbers};
 ghost use Rattle.clock_offsets.specs.inner.Delays.{AreLeastDelays};
 
@@ -18,7 +18,7 @@ pub(crate) fn find_least_delays(
     senders: &BTreeMap<&str, usize>,
 ) -> Result<BTreeMap<(usize, usize), i64>, AllocError>
     requires numbered { AreNumbers events.now numbers.now }
-    requires placed { ArePlaces (sends_of events.now) (length events.now) senders.now }
+    requires placed { AreIndices (sends_of events.now) (length events.now) senders.now }
     requires timely { AreTimely events.now }
     ensures { IfOk result (λ least. AreLeastDelays events.now numbers.now least) }
 {

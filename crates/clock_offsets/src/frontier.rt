@@ -1,6 +1,7 @@
 ghost use Rattle.std.specs.Prelude.{◌≡◌, ◌+◌, ◌<◌, Some, ℕ, IfOk, OnOk, All, length, vec_len};
 ghost use Rattle.clock_offsets.specs.inner.Links.{LeadBelow, links_at};
-ghost use Rattle.clock_offsets.specs.inner.Search.{LinksTo, FrontierLinksTo, depth_at, IsFrontier, Visits, unvisited};
+ghost use Rattle.clock_offsets.specs.inner.Search.{LinksTo, FrontierLinksTo, depth_at, IsFrontier};
+ghost use Rattle.clock_offsets.specs.inner.Search.{Visits, unvisited};
 
 use crate::link::Link;
 use std::alloc::{AllocError, Global};

@@ -1,7 +1,7 @@
 ghost use Rattle.std.specs.Prelude.{MatchOption, length};
 ghost use Rattle.trace_types.specs.Times.{AreTimely};
 ghost use Rattle.trace_types.specs.Events.{sends_of};
-ghost use Rattle.clock_offsets.specs.inner.Places.{ArePlaces};
+ghost use Rattle.clock_offsets.specs.inner.Places.{AreIndices};
 ghost use Rattle.clock_offsets.specs.inner.Links.{AreNumbers};
 ghost use Rattle.clock_offsets.specs.inner.Delays.{IsEventAt, HasNoSender, IsReceived};
 
@@ -19,7 +19,7 @@ pub(crate) fn find_message(
 ) -> Option<Message>
     requires here { IsEventAt events.now at receiver.now }
     requires numbered { AreNumbers events.now numbers.now }
-    requires placed { ArePlaces (sends_of events.now) (length events.now) senders.now }
+    requires placed { AreIndices (sends_of events.now) (length events.now) senders.now }
     requires timely { AreTimely events.now }
     ensures { MatchOption result (HasNoSender events.now receiver.now) (IsReceived events.now
         numbers.now at receiver.now) }

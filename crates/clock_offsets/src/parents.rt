@@ -1,6 +1,7 @@
 ghost use Rattle.std.specs.Prelude.{◌≡◌, ◌+◌, ◌^◌, ◌<◌, MatchOption, length};
 ghost use Rattle.clock_offsets.specs.inner.Links.{AreNumbers, AreLinks, LeadBelow};
-ghost use Rattle.clock_offsets.specs.inner.Search.{AreVisitedTo, IsFrontier, IsBest, HasNone, HaveOffsetsTo};
+ghost use Rattle.clock_offsets.specs.inner.Search.{AreVisitedTo, IsFrontier, IsBest, HasNone};
+ghost use Rattle.clock_offsets.specs.inner.Search.{HaveOffsetsTo};
 
 use crate::link::Link;
 use trace_types::Event;

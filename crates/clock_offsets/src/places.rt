@@ -1,6 +1,7 @@
 ghost use Rattle.std.specs.Prelude.{◌≡◌, ◌≢◌, option_copied, IfOk, IfErr, length};
 ghost use Rattle.clock_offsets.specs.declared.clock_fault.ClockFault.TheVariants.{Memory};
-ghost use Rattle.clock_offsets.specs.inner.Places.{message_at, messages_at, repeat_at, ArePlaces, IsRepeatAt};
+ghost use Rattle.clock_offsets.specs.inner.Places.{message_at, messages_at, repeat_at, AreIndices};
+ghost use Rattle.clock_offsets.specs.inner.Places.{IsRepeatAt};
 
 use crate::ClockFault;
 use std::alloc::Global;
@@ -40,7 +41,7 @@ pub(crate) fn index_messages(
     events: &[Event],
     end: End,
 ) -> Result<BTreeMap<&str, usize>, ClockFault>
-    ensures ok { IfOk result (λ m. ArePlaces (messages_at end events.now) (length events.now) m) }
+    ensures ok { IfOk result (λ m. AreIndices (messages_at end events.now) (length events.now) m) }
     ensures err { IfErr result (λ fault. fault ≢ Memory → IsRepeatAt events.now end fault) }
 {
     let mut places = BTreeMap::new(alloc);

@@ -4,7 +4,7 @@ ghost use Rattle.trace_types.specs.Events.{sends_of};
 ghost use Rattle.clock_offsets.specs.declared.clock_fault.ClockFault.TheVariants.{Memory};
 ghost use Rattle.clock_offsets.specs.Offsets.{AreOffsets};
 ghost use Rattle.clock_offsets.specs.Faults.{AreMessagesOnce, IsClockFault};
-ghost use Rattle.clock_offsets.specs.inner.Places.{ArePlaces};
+ghost use Rattle.clock_offsets.specs.inner.Places.{AreIndices};
 ghost use Rattle.clock_offsets.specs.inner.Links.{AreNumbers};
 ghost use Rattle.clock_offsets.specs.inner.Search.{AreMachineOffsets};
 
@@ -36,10 +36,10 @@ fn spread_to_events(
     Ok(each)
 }
 
-/// Maps each message to the index of the event that sends it, once it is known that each is sent
-/// once and received once.
+/// Maps each message to the index of the event that sends it, once it is known that no message is
+/// sent twice or received twice.
 fn index_senders(alloc: Global, events: &[Event]) -> Result<BTreeMap<&str, usize>, ClockFault>
-    ensures ok { IfOk result (λ m. ArePlaces (sends_of events.now) (length events.now) m) }
+    ensures ok { IfOk result (λ m. AreIndices (sends_of events.now) (length events.now) m) }
     ensures once { OnOk result (AreMessagesOnce events.now) }
     ensures err { IfErr result (λ fault. fault ≢ Memory → IsClockFault events.now fault) }
 {
@@ -62,8 +62,9 @@ fn index_senders(alloc: Global, events: &[Event]) -> Result<BTreeMap<&str, usize
 /// where no pairings lead to the machine. This is the symmetric half round trip of M. Chow et al.,
 /// "The Mystery Machine", OSDI 2014, section 3.1; the choice of parents is this project's own.
 ///
-/// Times are at most `trace_types::LATEST_TIME`. The error is the first fault that holds, a message
-/// that is sent twice and then one that is received twice, or out of memory.
+/// Times are at most `trace_types::LATEST_TIME`; `trace_types::are_timely` tells. The error is the
+/// first fault that holds, a message that is sent twice and then one that is received twice, or out
+/// of memory.
 pub fn offsets(alloc: Global, raw: &RawTrace) -> Result<Vec<i128>, ClockFault>
     requires few { length raw.now.events < 2 ^ 32 }
     requires timely { AreTimely raw.now.events }

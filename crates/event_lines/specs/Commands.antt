@@ -48,9 +48,13 @@ command_rows =
 abbrev pub command_row : List ℕ → Option CommandRow
 command_row name = find (λ row. bytes_eq row.name name) command_rows
 
--- a number from 0 to 1,000,000
+-- the greatest number of a command
+abbrev pub most_command_number : ℕ
+most_command_number = 1000000
+
+-- a number from 0 to the greatest
 abbrev pub ranged_number : ℕ → Result ℕ Why
-ranged_number n = if nat_lt 1000000 n then Err OutOfRange else Ok n
+ranged_number n = if nat_lt most_command_number n then Err OutOfRange else Ok n
 
 -- the number that this member has, or the first reason that it is bad
 abbrev pub number_result : List ℕ → Data → Result ℕ Why

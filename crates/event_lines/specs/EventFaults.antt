@@ -28,14 +28,15 @@ abbrev pub lacks_member : Data → Bool
 lacks_member d =
     list_any (λ name. not (has_member name d)) required_texts || not (has_member (time_name d) d)
 
--- a required text is no text, the time is no whole number, or an optional text is given and is none
+-- a required text is no text, the time is no whole number, or an optional member is given and is
+-- no text
 abbrev pub has_wrong_kind : Data → Bool
 has_wrong_kind d =
     list_any (λ name. not (is_text_at name d)) required_texts
     || not (is_whole_at (time_name d) d)
     || list_any (λ name. is_given name d && not (is_text_at name d)) optional_texts
 
--- the time is below 0 or past the latest time
+-- the time is no whole number from 0 to the latest time
 abbrev pub is_out_of_range : Data → Bool
 is_out_of_range d =
     option_map_or (nat_lt (latest_in (time_unit_of d))) (number_at (time_name d) d) true
@@ -58,9 +59,9 @@ has_bad_text d =
 abbrev pub contains_at : List ℕ → Bool
 contains_at text = list_any (λ byte. byte == 64) text
 
--- the event names a data element, which is not built yet
-abbrev pub names_element : Data → Bool
-names_element d = option_map_or contains_at (text_at (codes "event") d) false
+-- the event has an `@`, which is not built yet
+abbrev pub event_has_at_sign : Data → Bool
+event_has_at_sign d = option_map_or contains_at (text_at (codes "event") d) false
 
 -- the first reason that holds
 abbrev pub event_line_fault : Data → Option Why
@@ -69,4 +70,4 @@ event_line_fault d =
     if has_wrong_kind d then Some WrongKind else (
     if is_out_of_range d then Some OutOfRange else (
     if has_bad_text d then Some BadText else (
-    if names_element d then Some NotBuilt else None))))
+    if event_has_at_sign d then Some NotBuilt else None))))

@@ -8,6 +8,7 @@ use Rattle.event_lines.specs.declared.command.Command.TheVariants.{Model, Paths,
 use Rattle.event_lines.specs.declared.command.Command.TheVariants.{Graph}
 use Rattle.event_lines.specs.declared.line.Line.{Line}
 use Rattle.event_lines.specs.declared.line.Line.TheVariants.{Event, Control}
+use Rattle.event_lines.specs.Commands.{most_command_number}
 
 -- the number of a line
 abbrev pub line_number : Line → ℕ
@@ -36,7 +37,7 @@ number_of_command Slack = 0
 number_of_command Report = 0
 number_of_command Graph = 0
 
--- a command's number is at most 1,000,000
+-- a command's number is at most the greatest
 abbrev pub IsLimited : Line → Type 0
 IsLimited (Event event) = ⊤
-IsLimited (Control line command) = number_of_command command ≤ 1000000
+IsLimited (Control line command) = number_of_command command ≤ most_command_number

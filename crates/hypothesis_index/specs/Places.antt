@@ -1,7 +1,8 @@
 -- Where the bit of a relation stands. Words and bits count from 0.
 use Rattle.std.specs.Prelude.{◌≢◌, ℕ, ◌+◌, ◌-◌, ◌*◌, ◌/◌, ◌%◌, ◌<◌, nat_lt, if◌then◌else◌}
 use Rattle.hypothesis_index.specs.declared.relation.Relation.{Relation}
-use Rattle.hypothesis_index.specs.declared.relation.Relation.TheVariants.{Before, Exclusive, Apart, Pipe, Unshared}
+use Rattle.hypothesis_index.specs.declared.relation.Relation.TheVariants.{Before, Exclusive, Apart}
+use Rattle.hypothesis_index.specs.declared.relation.Relation.TheVariants.{Pipe, Unshared}
 use Rattle.hypothesis_index.specs.declared.bit_place.BitPlace.{BitPlace}
 
 -- the two numbers differ and are in range, and where their order does not matter the lesser is first

@@ -1,7 +1,8 @@
 //! Laws over the definitions alone: each function does nothing, and its contract is the law.
 ghost use Rattle.std.specs.Prelude.{◌≡◌, ℕ, ◌+◌, ◌<◌, ◌≤◌};
 ghost use Rattle.hypothesis_index.specs.declared.relation.Relation.{Relation};
-ghost use Rattle.hypothesis_index.specs.Places.{IsRelation, NamesBelow, pairs_below, place_of, width_of};
+ghost use Rattle.hypothesis_index.specs.Places.{IsRelation, NamesBelow, pairs_below, place_of};
+ghost use Rattle.hypothesis_index.specs.Places.{width_of};
 
 /// Two different relations have two different places.
 pub fn places_differ()

@@ -1,4 +1,5 @@
-ghost use Rattle.std.specs.Prelude.{◌≡◌, ◌↔◌, ◌∷◌, [], IsTrue, Contains, map, IfOk, OnOk, vec_len, length, ◌≤◌};
+ghost use Rattle.std.specs.Prelude.{◌≡◌, ◌↔◌, ◌∷◌, [], IsTrue, Contains, map, IfOk, OnOk, vec_len};
+ghost use Rattle.std.specs.Prelude.{length, ◌≤◌};
 ghost use Rattle.trace_types.specs.Listing.{ListsExactly};
 ghost use Rattle.trace_types.specs.NameOrder.{name_cmp};
 ghost use Rattle.trace_types.specs.Parts.{by_text, segments_of};
@@ -83,6 +84,6 @@ pub(crate) fn distinct_names(alloc: Global, traces: &[Trace]) -> Result<Vec<Name
     for trace in traces {
         add_names(alloc, &mut names, trace)?;
     }
-    names.sort()?;
+    names.sort_unstable();
     Ok(names)
 }

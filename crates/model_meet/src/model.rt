@@ -20,7 +20,7 @@ pub struct PlainModel {
     pub names: u32,
     /// The number of their different tasks.
     pub tasks: u32,
-    /// The pairs of which the first happens before the second, by rising pair.
+    /// The pairs of which the first happens before the second, in rising order.
     pub hb: PlainPairList,
     /// The pairs that are mutually exclusive with no fixed order, the lesser name first, by rising
     /// pair.

@@ -26,7 +26,7 @@ impl PlainPairList {
         PlainPairList { items }
     }
 
-    /// Lends the pairs, by place.
+    /// Lends the pairs, in order.
     pub fn items(&self) -> &[PlainPair]
         ensures { result.now ≡ self.now }
     {

@@ -1,4 +1,5 @@
-ghost use Rattle.std.specs.Prelude.{◌≡◌, ◌≢◌, ◌↔◌, ◌&&◌, ◌||◌, ◌<◌, ◌+◌, IsTrue, All, Contains, MatchOption, IfOk, length, take};
+ghost use Rattle.std.specs.Prelude.{◌≡◌, ◌≢◌, ◌↔◌, ◌&&◌, ◌||◌, ◌<◌, ◌+◌, IsTrue, All, Contains};
+ghost use Rattle.std.specs.Prelude.{MatchOption, IfOk, length, take};
 ghost use Rattle.trace_types.specs.declared.trace.Trace as traces;
 ghost use Rattle.trace_types.specs.declared.segment.Segment.{Segment};
 ghost use Rattle.trace_types.specs.Parts.{by_text};

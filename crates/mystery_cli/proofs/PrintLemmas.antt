@@ -8,7 +8,7 @@ use Rattle.std.specs.Io.KnownBytes.{append_known}
 use Rattle.mystery_io.specs.Prefixes.{AppendsPrefix}
 use Rattle.std.proofs.lemmas.List.{flat_map_more, take_more, drop_more, take-append-drop}
 use Rattle.std.proofs.lemmas.Grind.{flat_map-append}
-use Rattle.mystery_cli.specs.Rows.{field_text}
+use Rattle.mystery_cli.specs.inner.Fields.{field_text}
 use Rattle.mystery_cli.specs.inner.Printing.{Prints, PrintsText, print_faults}
 use Rattle.mystery_cli.specs.declared.printing.PrintFault.{PrintFault}
 use Rattle.mystery_cli.specs.declared.printing.Field.{Field}

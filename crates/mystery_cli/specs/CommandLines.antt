@@ -24,12 +24,13 @@ files_of_form (command ∷ file ∷ files) =
     else None
 files_of_form words = None
 
--- a call of so many workers and these files, where there are both
+-- the call with this number of workers and these files, if both are there
 abbrev pub call_with : Option ℕ → Option (List (List ℕ)) → Option Call
 call_with workers files =
     option_and_then (λ n. option_map (λ names. record { workers = n; files = names }) files) workers
 
--- the number of workers, from 1 to 64, if the arguments begin with it, and otherwise 4
+-- the call of the arguments: `--workers` with a number from 1 to 64, or 4 workers without it, and
+-- then the command and its files
 abbrev pub call_of_words : List (List ℕ) → Option Call
 call_of_words (first ∷ second ∷ form) =
     if bytes_eq first (codes "--workers")
@@ -37,8 +38,7 @@ call_of_words (first ∷ second ∷ form) =
     else call_with (Some 4) (files_of_form (first ∷ second ∷ form))
 call_of_words words = None
 
--- the call that the arguments are, fewer than 2 ^ 32 of them; none where they are outside the
--- grammar
+-- the call of the arguments; none if they are outside the grammar, or 2 ^ 32 or more
 abbrev pub call_of : List (List ℕ) → Option Call
 call_of words = if nat_lt (length words) (2 ^ 32) then call_of_words words else None
 

@@ -1,4 +1,4 @@
--- How a run ends that meets no fault and finds memory.
+-- How a run ends where no call on files or sinks fails and no allocation fails.
 use Rattle.std.specs.Prelude.{ℕ, List, length, nat_lt, if◌then◌else◌, Result, Ok, Err}
 use Rattle.event_lines.specs.declared.line.Line.{Line}
 use Rattle.event_lines.specs.InputLines.{LineFault, lines_said}

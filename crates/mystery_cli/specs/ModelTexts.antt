@@ -16,8 +16,8 @@ refused_row refused =
     row_of (codes "refused" ∷ refused.request ∷ fault_reason refused.fault
     ∷ decimal (fault_number refused.fault) ∷ [])
 
--- `model`, and how many traces, days, names, tasks, ordered pairs, exclusive pairs and pipelines
--- there are
+-- `model`, and how many traces, days, names, tasks, ordered pairs and exclusive pairs there are;
+-- pipelines are not counted yet, and their figure is 0
 abbrev pub header_row : ℕ → Figures → List ℕ
 header_row traces figures =
     row_of (codes "model"

@@ -43,7 +43,7 @@ pub record ReadsAll (seen : FilesSeen) (names : List (List ℕ)) : Type 0 where
   pub opened : OpensFirst seen names (length names)
   pub at_end : IsAtEnd seen.left
 
--- why a run ended as it did; an allocation failure alone has no cause that is told
+-- why a run ended as it did; of an allocation failure only the calls of `open` are stated
 abbrev pub HasCauseOf : Outcome → Seen → Type 0
 HasCauseOf Done seen =
     (is_in_grammar seen.words ≡ true) × ReadsAll seen.files (files_of seen.words) × EndsAs Done seen

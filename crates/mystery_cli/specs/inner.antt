@@ -1,3 +1,4 @@
+pub mod Fields
 -- What private contracts alone cite.
 pub mod InputEnds
 pub mod OutcomeFaults

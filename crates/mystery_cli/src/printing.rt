@@ -1,6 +1,7 @@
 ghost use Rattle.std.specs.Prelude.{◌≡◌, ◌++◌, ◌∷◌, [], map, decimal, OnOk};
 ghost use Rattle.std.specs.List.{flat_map, join_with_byte};
-ghost use Rattle.mystery_cli.specs.Rows.{field_text, row_of};
+ghost use Rattle.mystery_cli.specs.Rows.{row_of};
+ghost use Rattle.mystery_cli.specs.inner.Fields.{field_text};
 ghost use Rattle.mystery_cli.specs.inner.Printing.{PrintsText};
 
 use itoa::Buffer;
@@ -8,7 +9,7 @@ use mystery_io::{Failed, Sink, write_text};
 use std::alloc::{AllocError, AllocFailed};
 
 /// Flush the buffer at this size.
-const ENOUGH: usize = 65_536;
+const FLUSH_SIZE: usize = 65_536;
 
 /// A field of a row.
 #[derive(Clone, Copy, Debug)]
@@ -141,7 +142,7 @@ pub(crate) fn print_row<S: Sink>(
         buffer.new.items (row_of (map field_text fields.now)) }
 {
     put_row(buffer, fields)?;
-    if buffer.len() >= ENOUGH {
+    if buffer.len() >= FLUSH_SIZE {
         flush(sink, buffer)?;
     }
     Ok(())

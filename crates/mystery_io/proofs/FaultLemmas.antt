@@ -7,7 +7,7 @@ use Rattle.mystery_io.specs.declared.reading.ReadFault.{ReadFault}
 use Rattle.mystery_io.specs.declared.reading.ReadFault.TheVariants.{Memory, File, TooBig}
 use Rattle.mystery_io.specs.Input.{input_limit, input_of, ended}
 use Rattle.mystery_io.specs.ReadFaults.{HasReadCause, FilesSeen, OpensFirst}
-use Rattle.mystery_io.specs.inner.FileCauses.{PassesLimit, FitsBefore, HasFileCause, HasEndedCause}
+use Rattle.mystery_io.specs.inner.FileCauses.{PassesInputLimit, FitsBefore, HasFileCause, HasEndedCause}
 use Rattle.mystery_io.proofs.InputLemmas.{input_more}
 
 -- nothing more was read
@@ -23,7 +23,7 @@ fits_earlier a b (Some xs) m None e h = tt
 fits_earlier a b (Some xs) None (Some rest) e h = cc
 fits_earlier a b (Some xs) (Some ys) (Some rest) e h = let k : a ++ xs ≡ b ++ ys = cc in omega (arith, h, simp length-append at (ap length k))
 
-passes_earlier : (a b : List ℕ) (l m : Option (List ℕ)) → prepend_known a l ≡ prepend_known b m → PassesLimit (length b) m → PassesLimit (length a) l
+passes_earlier : (a b : List ℕ) (l m : Option (List ℕ)) → prepend_known a l ≡ prepend_known b m → PassesInputLimit (length b) m → PassesInputLimit (length a) l
 passes_earlier a b None m e h = tt
 passes_earlier a b (Some xs) None e h = cc
 passes_earlier a b (Some xs) (Some ys) e h = let k : a ++ xs ≡ b ++ ys = cc in omega (arith, simp length-append at (ap length k))
@@ -33,7 +33,7 @@ cause_earlier Memory index a b l m left eq h = tt
 cause_earlier (File i) index a b l m left eq h = (h.0, fits_earlier a b l m left eq h.1)
 cause_earlier TooBig index a b l m left eq h = passes_earlier a b l m eq h
 
-passes_ended : (count : ℕ) (content : Option (List ℕ)) → PassesLimit count content → PassesLimit count (option_map ended content)
+passes_ended : (count : ℕ) (content : Option (List ℕ)) → PassesInputLimit count content → PassesInputLimit count (option_map ended content)
 passes_ended count None h = tt
 passes_ended count (Some xs) h = omega (arith, longer xs)
   where
@@ -82,6 +82,6 @@ read_cause TooBig seen mid names index i x bs lt is same o fits h n k = (
 )
   where
     too_big : (contents : Option (List ℕ → List ℕ)) (names : List (List ℕ)) (i : ℕ) (x bs : List ℕ) → i < length names → x ≡ get_or names i x → IfSome contents (λ c. bs ≡ input_of c (take i names))
-        → PassesLimit (length bs) (option_map ended (option_map (λ c. c x) contents)) → IfSome contents (λ c. input_limit < length (input_of c (take (i + 1) names)))
+        → PassesInputLimit (length bs) (option_map ended (option_map (λ c. c x) contents)) → IfSome contents (λ c. input_limit < length (input_of c (take (i + 1) names)))
     too_big None names i x bs lt is h k = tt
     too_big (Some c) names i x bs lt is h k = omega (arith, k, ap length h, ap length (input_more c names i x lt is), length-append (input_of c (take i names)) (ended (c x)))

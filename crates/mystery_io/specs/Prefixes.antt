@@ -3,7 +3,7 @@ use Rattle.std.specs.Prelude.{ℕ, ◌≡◌, ◌⊎◌, List, take, Option}
 use Rattle.std.specs.Io.KnownBytes.{append_known}
 use Rattle.mystery_io.specs.Counts.{counted_up}
 
--- a prefix of the bytes was appended: the first so many
+-- a prefix of the bytes was appended: the first `count` of them
 pub record AppendsPrefix (old new : Option (List ℕ)) (bytes : List ℕ) : Type 0 where
   pub count : ℕ
   pub appended : new ≡ append_known old (take count bytes)

@@ -34,15 +34,15 @@ files_seen contents left is_open names opens old new = record {
   opens_now = opens new;
 }
 
--- exactly the first files of the list were opened, so many, one after another
+-- `open` was called with exactly the first `count` names, one after another
 pub record OpensFirst (seen : FilesSeen) (names : List (List ℕ)) (count : ℕ) : Type 0 where
   pub within : count ≤ length names
   pub counted : CountsCalls count seen.opens_before seen.opens_now
   pub named : seen.names_now ≡ append_names seen.names_before (take count names)
 
--- the file at an index could not be opened or read: it was the last to be opened, the input of the
--- files before it is within the limit, and so it is with the bytes that were taken of it, which is
--- all of its content but what is left
+-- the file at an index could not be opened or read: it was the last that `open` was called with,
+-- the input of the files before it is within the limit, and if it is open, so is that input with
+-- what was read of it, its content but what is left
 pub record FailedAt (seen : FilesSeen) (names : List (List ℕ)) (index : ℕ) : Type 0 where
   pub opened : OpensFirst seen names (index + 1)
   pub fits : IfSome seen.contents (λ c. length (input_of c (take index names)) ≤ input_limit)

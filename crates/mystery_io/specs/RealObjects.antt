@@ -19,10 +19,11 @@ sink_faults sink = sink.faults
 abbrev pub open_file : {R F D : Type 0} → RealFiles R F D → Option F
 open_file files = files.file
 
--- how many calls of `open` were made, and how many calls failed
+-- how many calls of `open` were made
 abbrev pub open_calls : {R F D : Type 0} → RealFiles R F D → ℕ
 open_calls files = files.opens
 
+-- how many calls failed
 abbrev pub file_faults : {R F D : Type 0} → RealFiles R F D → ℕ
 file_faults files = files.faults
 

@@ -121,6 +121,25 @@ mod tests {
     }
 
     #[test]
+    fn a_second_file_replaces_the_first(rt: HostRuntime) -> Result<(), Fail> {
+        let mut first = temp_dir(&rt)?;
+        first.push("mystery_io_first")?;
+        let mut second = temp_dir(&rt)?;
+        second.push("mystery_io_second")?;
+        fs::write(&rt, first.as_str(), "a")?;
+        fs::write(&rt, second.as_str(), "b")?;
+        let mut files = RealFiles::new(&rt);
+        let mut into = [0; 8];
+        assert_eq!(rt; files.open(first.as_str()), Ok(()));
+        assert_eq!(rt; files.open(second.as_str()), Ok(()));
+        assert_eq!(rt; files.read(&mut into), Ok(1));
+        assert_eq!(rt; into[0], b'b');
+        fs::remove_file(&rt, first.as_str())?;
+        fs::remove_file(&rt, second.as_str())?;
+        Ok(())
+    }
+
+    #[test]
     fn a_folder_is_opened_but_not_read(rt: HostRuntime) -> Result<(), Fail> {
         let path = temp_dir(&rt)?;
         let mut files = RealFiles::new(&rt);

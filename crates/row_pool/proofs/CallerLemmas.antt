@@ -1,4 +1,4 @@
--- For callers: what a pool has once a row was written.
+-- What a pool has once a row was written, taken or given back.
 use Rattle.std.proofs.Common.{◌≡◌, ◌≢◌, ℕ, List, None, is_some, IsSome, refl, ap, sym, ◌∙◌, subst, inl, inr}
 use Rattle.std.proofs.lemmas.Bool.{cases_eq, false≢true}
 use Rattle.std.specs.FinMap.{get, insert, gets}

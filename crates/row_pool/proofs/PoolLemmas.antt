@@ -6,7 +6,7 @@ use Rattle.std.proofs.lemmas.List.{get_or_append_left, get_or-set_same, get_or-s
 use Rattle.word_rows.specs.Words.{IsCommon}
 use Rattle.row_pool.specs.Pools.{Pool, pool, IsLive, LiveRows, row_at, with_row}
 use Rattle.row_pool.specs.Pools.{words_or_none}
-use Rattle.row_pool.specs.inner.Layout.{row_in, chain, live_rows, Changes, Writes, Meets, IsSound, IsPool, pool_of, distinct_below}
+use Rattle.row_pool.specs.inner.Layout.{row_in, chain, live_rows, Changes, WritesRow, Meets, IsSoundPool, IsPool, pool_of, distinct_below}
 use Rattle.row_pool.specs.declared.pool.RowPool.TheInside.{Inside}
 use Rattle.row_pool.proofs.RowLemmas.{row_within, first_is}
 use Rattle.row_pool.proofs.LiveLemmas.{is_used, shows}
@@ -43,13 +43,13 @@ has_to vs w t n k m o f h = record { sound = h.sound; rows = h.rows ∙ f }
 pub has_at : (us vs : List ℕ) (w t n k : ℕ) (m o : LiveRows) → us ≡ vs → m ≡ o → Has vs w t n k m → Has us w t n k o
 has_at us vs w t n k m o e f h = subst (λ ws. Has ws w t n k o) (sym e) (has_to vs w t n k m o f h)
 
-pub written : (a : Inside) (p : Pool) (i id : ℕ) (vs xs : List ℕ) → pool_of a ≡ p → IsPool a → i ≡ id → IsLive p id → Writes a.width i a.storage vs xs → Has vs a.width a.total a.next a.spare (insert p.rows id xs)
+pub written : (a : Inside) (p : Pool) (i id : ℕ) (vs xs : List ℕ) → pool_of a ≡ p → IsPool a → i ≡ id → IsLive p id → WritesRow a.width i a.storage vs xs → Has vs a.width a.total a.next a.spare (insert p.rows id xs)
 written a p i id vs xs is s e live c =
     let there = live_in a p i id is e live in
     let rows : insert (rows_of a) i xs ≡ insert p.rows id xs = ap (λ q. insert q.rows i xs) is ∙ ap (λ j. insert p.rows j xs) e in
     has_to vs a.width a.total a.next a.spare _ _ rows (has-written a.storage a.width a.total a.next a.spare vs i xs s there c)
 
-pub taken : (a : Inside) (p : Pool) (us vs xs : List ℕ) → pool_of a ≡ p → IsPool a → 0 < a.spare → us ≡ a.storage → Writes a.width a.next a.storage vs xs → Has vs a.width a.total (get_or us (a.next * a.width) 0) (a.spare - 1) (insert p.rows a.next xs) × (get p.rows a.next ≡ None)
+pub taken : (a : Inside) (p : Pool) (us vs xs : List ℕ) → pool_of a ≡ p → IsPool a → 0 < a.spare → us ≡ a.storage → WritesRow a.width a.next a.storage vs xs → Has vs a.width a.total (get_or us (a.next * a.width) 0) (a.spare - 1) (insert p.rows a.next xs) × (get p.rows a.next ≡ None)
 taken a p us vs xs is s some start c =
     let h = has-taken a.storage a.width a.total a.next a.spare (a.spare - 1) vs xs (omega arith) s c in
     let link : get_or us (a.next * a.width) 0 ≡ get_or a.storage (a.next * a.width) 0 = ap (λ ws. get_or ws (a.next * a.width) 0) start in
@@ -100,7 +100,7 @@ row_is a p i id us is e live start =
 
 -- what `meet_into` leaves: the row `to` is what lies there, and it is the meet of the other two
 pub record MetInto (a : Inside) (p : Pool) (to at_a at_b : ℕ) (vs : List ℕ) : Type 0 where
-  pub sound : IsSound vs a.width a.total a.next a.spare
+  pub sound : IsSoundPool vs a.width a.total a.next a.spare
   pub pool_is : pool a.width (live_rows vs a.width (chain vs a.width a.spare a.next) a.total) a.spare ≡ with_row p to (row_in vs a.width to)
   pub met : IsCommon (row_at p at_a) (row_at p at_b) (row_in vs a.width to)
 

@@ -3,14 +3,14 @@ use Rattle.std.proofs.Common.{◌≡◌, ℕ, suc, ◌+◌, ◌*◌, ◌^◌, �
 use Rattle.std.specs.FinMap.{get, insert, remove, len, empty, len-empty}
 use Rattle.std.specs.Ordering.{nat_cmp}
 use Rattle.row_pool.specs.Pools.{LiveRows}
-use Rattle.row_pool.specs.inner.Layout.{row_in, chain, distinct_below, live_rows, Changes, Writes, IsSound}
+use Rattle.row_pool.specs.inner.Layout.{row_in, chain, distinct_below, live_rows, Changes, WritesRow, IsSoundPool}
 use Rattle.row_pool.proofs.MapLemmas.{len-insert_new, len-insert_old, len-remove_old}
 use Rattle.row_pool.proofs.RowLemmas.{row_within, chain-other, chain-same, first_is, first_from, distinct_more, not_has_past, has_below, row_in-at, length-row_in, get_or-row_in}
 use Rattle.row_pool.proofs.LiveLemmas.{is_used, live-written, live-taken, live-first, live-given, live-added, live-same}
 
 -- a pool that is sound, with these rows
 pub record Has (ws : List ℕ) (w total next spare : ℕ) (m : LiveRows) : Type 0 where
-  pub sound : IsSound ws w total next spare
+  pub sound : IsSoundPool ws w total next spare
   pub rows : live_rows ws w (chain ws w spare next) total ≡ m
 
 module _ (ws : List ℕ) (w total next spare : ℕ) where
@@ -18,7 +18,7 @@ module _ (ws : List ℕ) (w total next spare : ℕ) where
   rows_of = live_rows ws w (chain ws w spare next) total
 
   -- a row that is live was written
-  pub has-written : (vs : List ℕ) (i : ℕ) (xs : List ℕ) → IsSound ws w total next spare → IsSome (get rows_of i) → Writes w i ws vs xs → Has vs w total next spare (insert rows_of i xs)
+  pub has-written : (vs : List ℕ) (i : ℕ) (xs : List ℕ) → IsSoundPool ws w total next spare → IsSome (get rows_of i) → WritesRow w i ws vs xs → Has vs w total next spare (insert rows_of i xs)
   has-written vs i xs s there c =
       let u = is_used ws w (chain ws w spare next) total i there in
       let same = chain-other ws vs w spare next i s.wide u.used c.changes in
@@ -35,7 +35,7 @@ module _ (ws : List ℕ) (w total next spare : ℕ) where
       }
 
   -- a row that is live was given back
-  pub has-given : (vs : List ℕ) (i n : ℕ) → n ≡ suc spare → IsSound ws w total next spare → IsSome (get rows_of i) → Changes w i ws vs → get_or vs (i * w) 0 ≡ next → Has vs w total i n (remove rows_of i)
+  pub has-given : (vs : List ℕ) (i n : ℕ) → n ≡ suc spare → IsSoundPool ws w total next spare → IsSome (get rows_of i) → Changes w i ws vs → get_or vs (i * w) 0 ≡ next → Has vs w total i n (remove rows_of i)
   has-given vs i n one s there c link =
       let fs = chain ws w spare next in
       let u = is_used ws w fs total i there in
@@ -53,7 +53,7 @@ module _ (ws : List ℕ) (w total next spare : ℕ) where
       }
 
   -- the words of the rows are the same
-  pub has-same : (vs : List ℕ) → IsSound ws w total next spare → total * w ≤ length vs → ((k d : ℕ) → k < total * w → get_or vs k d ≡ get_or ws k d) → Has vs w total next spare rows_of
+  pub has-same : (vs : List ℕ) → IsSoundPool ws w total next spare → total * w ≤ length vs → ((k d : ℕ) → k < total * w → get_or vs k d ≡ get_or ws k d) → Has vs w total next spare rows_of
   has-same vs s sized words =
       let fs = chain ws w spare next in
       let within : (q : ℕ) → q < total → q * w + w ≤ total * w = λ q l. row_within w q total l in
@@ -71,7 +71,7 @@ module _ (ws : List ℕ) (w total next spare : ℕ) where
       }
 
   -- one more row, which is free
-  pub has-added : (vs : List ℕ) (t n : ℕ) → t ≡ suc total → n ≡ suc spare → IsSound ws w total next spare → t * w ≤ length ws → t < 2 ^ 32 → Changes w total ws vs → get_or vs (total * w) 0 ≡ next → Has vs w t total n rows_of
+  pub has-added : (vs : List ℕ) (t n : ℕ) → t ≡ suc total → n ≡ suc spare → IsSoundPool ws w total next spare → t * w ≤ length ws → t < 2 ^ 32 → Changes w total ws vs → get_or vs (total * w) 0 ≡ next → Has vs w t total n rows_of
   has-added vs t n one_t one_n s sized short c link =
       let fs = chain ws w spare next in
       let unused = not_has_past total total fs s.free (omega arith) in
@@ -89,7 +89,7 @@ module _ (ws : List ℕ) (w total next spare : ℕ) where
       }
 
 -- the first free row was taken and written
-pub has-taken : (ws : List ℕ) (w total next spare n : ℕ) (vs xs : List ℕ) → spare ≡ suc n → IsSound ws w total next spare → Writes w next ws vs xs → Has vs w total (get_or ws (next * w) 0) n (insert (live_rows ws w (chain ws w spare next) total) next xs) × (get (live_rows ws w (chain ws w spare next) total) next ≡ None)
+pub has-taken : (ws : List ℕ) (w total next spare n : ℕ) (vs xs : List ℕ) → spare ≡ suc n → IsSoundPool ws w total next spare → WritesRow w next ws vs xs → Has vs w total (get_or ws (next * w) 0) n (insert (live_rows ws w (chain ws w spare next) total) next xs) × (get (live_rows ws w (chain ws w spare next) total) next ≡ None)
 has-taken ws w total next spare n vs xs one s c =
     let link = get_or ws (next * w) 0 in
     let fs = chain ws w n link in

@@ -7,14 +7,14 @@ use borrow.Rule.Slice.PartMut.{put_mid}
 use Rattle.std.proofs.lemmas.Bool.{cases_Bool, cases_lt, cases_eq}
 use Rattle.std.specs.FinMap.{get, insert, len}
 use Rattle.std.specs.Option.{option_map}
-use Rattle.word_rows.specs.Words.{full, widened as with_full}
+use Rattle.word_rows.specs.Words.{full_words as full, widened_words as with_full}
 use Rattle.row_pool.specs.Pools.{LiveRows}
-use Rattle.row_pool.specs.inner.Layout.{row_in, chain, has, distinct_below, live_rows, Writes, Widens, IsSound}
+use Rattle.row_pool.specs.inner.Layout.{row_in, chain, has, distinct_below, live_rows, WritesRow, Widens, IsSoundPool}
 use Rattle.row_pool.proofs.MapLemmas.{len-insert_new}
 use Rattle.row_pool.proofs.RowLemmas.{has_head, has_tail, length-row_in, get_or-row_in, has_below, row_within, row_in-other}
 use Rattle.row_pool.proofs.LiveLemmas.{shows}
 
-mid : (w i : ℕ) (ws xs : List ℕ) → length xs ≡ w → i * w + w ≤ length ws → Writes w i ws (put_mid (i * w) w ws xs) xs
+mid : (w i : ℕ) (ws xs : List ℕ) → length xs ≡ w → i * w + w ≤ length ws → WritesRow w i ws (put_mid (i * w) w ws xs) xs
 mid w i ws xs long within =
     let a = i * w in
     let post = drop w (drop a ws) in
@@ -37,16 +37,16 @@ pub refill_same : (ws vs : List ℕ) → length vs ≡ length ws → refill (len
 refill_same ws vs e = take_at vs (drop (length vs) ws) (length ws) e
 
 -- one more row is written
-pub widens_more : (old new n : ℕ) (ws vs us : List ℕ) → n * new + new ≤ length vs → ((q : ℕ) → q < n → row_in vs new q ≡ row_in ws old q ++ full (new - old)) → Writes new n vs us (row_in ws old n ++ full (new - old)) → (q : ℕ) → q < n + 1 → row_in us new q ≡ row_in ws old q ++ full (new - old)
+pub widens_more : (old new n : ℕ) (ws vs us : List ℕ) → n * new + new ≤ length vs → ((q : ℕ) → q < n → row_in vs new q ≡ row_in ws old q ++ full (new - old)) → WritesRow new n vs us (row_in ws old n ++ full (new - old)) → (q : ℕ) → q < n + 1 → row_in us new q ≡ row_in ws old q ++ full (new - old)
 widens_more old new n ws vs us within before c q l =
     elim (cases_eq q n) [
       | inl same ↦ ap (row_in us new) same ∙ c.is ∙ ap (λ j. row_in ws old j ++ full (new - old)) (sym same)
       | inr other ↦ row_in-other new n q vs us other c.changes ∙ before q (omega arith)
     ]
 
-pub writes_mid : (w i k : ℕ) (ws ys xs : List ℕ) → k ≡ w → ys ≡ xs → length xs ≡ w → i * w + w ≤ length ws → Writes w i ws (put_mid (i * w) k ws ys) xs
+pub writes_mid : (w i k : ℕ) (ws ys xs : List ℕ) → k ≡ w → ys ≡ xs → length xs ≡ w → i * w + w ≤ length ws → WritesRow w i ws (put_mid (i * w) k ws ys) xs
 writes_mid w i k ws ys xs e f long within =
-    subst (λ n. Writes w i ws (put_mid (i * w) n ws ys) xs) (sym e) (subst (λ zs. Writes w i ws (put_mid (i * w) w ws zs) xs) (sym f) (mid w i ws xs long within))
+    subst (λ n. WritesRow w i ws (put_mid (i * w) n ws ys) xs) (sym e) (subst (λ zs. WritesRow w i ws (put_mid (i * w) w ws zs) xs) (sym f) (mid w i ws xs long within))
 
 first_of_row : (old new n q : ℕ) (ws vs : List ℕ) → 0 < old → old ≤ new → n * old ≤ length ws → Widens old new n ws vs → q < n → get_or vs (q * new) 0 ≡ get_or ws (q * old) 0
 first_of_row old new n q ws vs wide more sized s l =
@@ -84,10 +84,10 @@ len_same ws vs w v fs (suc n) =
     ∙ sym (len_next ws w fs n)
 
 pub record Widened (ws : List ℕ) (old total next spare : ℕ) (vs : List ℕ) (new : ℕ) : Type 0 where
-  pub sound : IsSound vs new total next spare
+  pub sound : IsSoundPool vs new total next spare
   pub rows : (q : ℕ) → get (live_rows vs new (chain vs new spare next) total) q ≡ option_map (λ words. with_full words (new - old)) (get (live_rows ws old (chain ws old spare next) total) q)
 
-pub widened : (ws : List ℕ) (old total next spare : ℕ) (vs : List ℕ) (new : ℕ) → IsSound ws old total next spare → old ≤ new → Widens old new total ws vs → Widened ws old total next spare vs new
+pub widened : (ws : List ℕ) (old total next spare : ℕ) (vs : List ℕ) (new : ℕ) → IsSoundPool ws old total next spare → old ≤ new → Widens old new total ws vs → Widened ws old total next spare vs new
 widened ws old total next spare vs new s more w =
     let fs = chain ws old spare next in
     let same = chain-wide ws vs old new spare next (λ q h. first_of_row old new total q ws vs s.wide more s.sized w (has_below total q fs s.free h)) in

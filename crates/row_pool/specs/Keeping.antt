@@ -1,7 +1,7 @@
 -- What is promised of a pool's map, over the definitions alone.
 use Rattle.std.specs.Prelude.{◌≡◌, ◌≢◌, ℕ, List, None}
 use Rattle.std.specs.FinMap.{get}
-use Rattle.word_rows.specs.Words.{full}
+use Rattle.word_rows.specs.Words.{full_words as full}
 use Rattle.row_pool.specs.Pools.{Pool, row_at, with_row, with_taken, without_row}
 
 -- a written row has these words, a taken one is full, and one that is given back is not live

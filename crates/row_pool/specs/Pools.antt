@@ -4,7 +4,7 @@ use Rattle.std.specs.Option.{option_map}
 use Rattle.std.specs.Ordering.{nat_cmp}
 use Rattle.std.specs.FinMap.{FinMap, get, insert, remove, code}
 use Rattle.std.specs.Coded.{Coded, code_by, coded×, coded_ℕ, coded_list}
-use Rattle.word_rows.specs.Words.{full, widened, IsCommon}
+use Rattle.word_rows.specs.Words.{full_words as full, widened_words as widened, IsCommon}
 
 -- the words of each live row, by the number of its id
 abbrev pub LiveRows : Type 0

@@ -1,7 +1,9 @@
-ghost use Rattle.std.specs.Prelude.{◌≡◌, ◌≢◌, ◌+◌, ◌^◌, ◌<◌, ◌≤◌, ◌↔◌, length, None, IfSome, IfNone, IsNone, OnOk, OnErr};
+ghost use Rattle.std.specs.Prelude.{◌≡◌, ◌≢◌, ◌+◌, ◌^◌, ◌<◌, ◌≤◌, ◌↔◌, length, None, IfSome};
+ghost use Rattle.std.specs.Prelude.{IfNone, IsNone, OnOk, OnErr};
 ghost use Rattle.std.specs.FinMap as map;
-ghost use Rattle.word_rows.specs.Words.{full};
-ghost use Rattle.row_pool.specs.Pools.{pool, IsLive, IsMet, IsWider, row_at, with_row, with_spare, with_taken, without_row};
+ghost use Rattle.word_rows.specs.Words.{full_words as full};
+ghost use Rattle.row_pool.specs.Pools.{pool, IsLive, IsMet, IsWider, row_at, with_row, with_spare};
+ghost use Rattle.row_pool.specs.Pools.{with_taken, without_row};
 
 use crate::row_id::RowId;
 use crate::steps::Steps;

@@ -1,7 +1,8 @@
 //! The words of all rows of a pool, one row after another, in one block that can grow.
-ghost use Rattle.std.specs.Prelude.{◌≡◌, ◌≢◌, ◌+◌, ◌-◌, ◌*◌, ◌^◌, ◌<◌, ◌≤◌, ◌++◌, [], length, replicate, slice_set, IfOk, OnOk, OnErr};
-ghost use Rattle.word_rows.specs.Words.{full};
-ghost use Rattle.row_pool.specs.inner.Layout.{IsRow, Writes, Meets, Widens};
+ghost use Rattle.std.specs.Prelude.{◌≡◌, ◌≢◌, ◌+◌, ◌-◌, ◌*◌, ◌^◌, ◌<◌, ◌≤◌, ◌++◌, [], length};
+ghost use Rattle.std.specs.Prelude.{replicate, slice_set, IfOk, OnOk, OnErr};
+ghost use Rattle.word_rows.specs.Words.{full_words as full};
+ghost use Rattle.row_pool.specs.inner.Layout.{IsRow, WritesRow, Meets, Widens};
 
 use crate::words::{copy_words, fill_row, meet_rows, widen_row, write_row};
 use std::alloc::{AllocError, Global};
@@ -42,7 +43,7 @@ impl Storage {
         }
     }
 
-    /// Writes one word.
+    /// WritesRow one word.
     pub(crate) fn set(&mut self, index: usize, word: u64)
         requires { index < length self.old }
         ensures { self.new ≡ slice_set self.old index word }
@@ -56,7 +57,7 @@ impl Storage {
     /// Sets all bits of a row.
     pub(crate) fn fill(&mut self, width: usize, row: usize)
         requires { IsRow width row self.old }
-        ensures { Writes width row self.old self.new (full width) }
+        ensures { WritesRow width row self.old self.new (full width) }
     {
         let Some(block) = &mut self.block else {
             return;
@@ -68,7 +69,7 @@ impl Storage {
     pub(crate) fn write(&mut self, width: usize, row: usize, from: &[u64])
         requires row { IsRow width row self.old }
         requires width { length from.now ≡ width }
-        ensures { Writes width row self.old self.new from.now }
+        ensures { WritesRow width row self.old self.new from.now }
     {
         let Some(block) = &mut self.block else {
             return;

@@ -1,12 +1,12 @@
 //! Steps on the rows of one list of words.
 ghost use Rattle.std.specs.Prelude.{◌≡◌, ◌≢◌, ◌+◌, ◌-◌, ◌*◌, ◌<◌, ◌≤◌, ◌++◌, length, drop};
-ghost use Rattle.word_rows.specs.Words.{full, widened};
-ghost use Rattle.row_pool.specs.inner.Layout.{row_in, IsRow, Writes, Meets};
+ghost use Rattle.word_rows.specs.Words.{full_words as full, widened_words as widened};
+ghost use Rattle.row_pool.specs.inner.Layout.{row_in, IsRow, WritesRow, Meets};
 
 /// Sets all bits of a row.
 pub(crate) fn fill_row(words: &mut [u64], width: usize, row: usize)
     requires { IsRow width row words.old }
-    ensures { Writes width row words.old words.new (full width) }
+    ensures { WritesRow width row words.old words.new (full width) }
 {
     words[row * width..row * width + width].fill(u64::MAX);
 }
@@ -15,7 +15,7 @@ pub(crate) fn fill_row(words: &mut [u64], width: usize, row: usize)
 pub(crate) fn write_row(words: &mut [u64], width: usize, row: usize, from: &[u64])
     requires row { IsRow width row words.old }
     requires width { length from.now ≡ width }
-    ensures { Writes width row words.old words.new from.now }
+    ensures { WritesRow width row words.old words.new from.now }
 {
     words[row * width..row * width + width].copy_from_slice(from);
 }
@@ -43,7 +43,7 @@ pub(crate) fn copy_words(to: &mut [u64], from: &[u64])
 pub(crate) fn widen_row(to: &mut [u64], new: usize, from: &[u64], old: usize, row: usize)
     requires widths { (0 < old) × (old ≤ new) }
     requires rows { IsRow new row to.old × IsRow old row from.now }
-    ensures { Writes new row to.old to.new (widened (row_in from.now old row) (new - old)) }
+    ensures { WritesRow new row to.old to.new (widened (row_in from.now old row) (new - old)) }
 {
     copy_widened(
         &mut to[row * new..row * new + new],

@@ -19,7 +19,7 @@ most_events = 4096
 abbrev pub IsShort : List Event → Type 0
 IsShort events = length events ≤ most_events
 
--- no fault holds of the events, whose adjusted times these are
+-- given the adjusted times of the events, no fault holds of the events
 pub record IsValid (events : List Event) (times : List ℤ) : Type 0 where
   pub short : IsShort events
   pub named_once : AreDistinct (named_events events)

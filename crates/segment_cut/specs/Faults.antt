@@ -4,10 +4,15 @@ use Rattle.trace_types.specs.declared.event.Event.{Event}
 use Rattle.trace_types.specs.Events.{named_events, sends_of, receipts_of}
 use Rattle.trace_types.specs.Repeats.{AreDistinct, IsLineOfRepeat}
 use Rattle.clock_offsets.specs.declared.clock_fault.ClockFault.{ClockFault}
-use Rattle.clock_offsets.specs.declared.clock_fault.ClockFault.TheVariants.{Memory as NoMemory, RepeatedSend as SentTwice, RepeatedRecv as ReceivedTwice}
+use Rattle.clock_offsets.specs.declared.clock_fault.ClockFault.TheVariants.{Memory as NoMemory}
+use Rattle.clock_offsets.specs.declared.clock_fault.ClockFault.TheVariants.{RepeatedSend as SentTwice}
+use Rattle.clock_offsets.specs.declared.clock_fault.ClockFault.TheVariants.{RepeatedRecv as ReceivedTwice}
 use Rattle.clock_offsets.specs.Faults.{AreMessagesOnce}
 use Rattle.segment_cut.specs.declared.trace_fault.TraceFault.{TraceFault}
-use Rattle.segment_cut.specs.declared.trace_fault.TraceFault.TheVariants.{Memory, TooManyEvents, RepeatedEvent, RepeatedSend, RepeatedRecv, ClockRange}
+use Rattle.segment_cut.specs.declared.trace_fault.TraceFault.TheVariants.{Memory, TooManyEvents}
+use Rattle.segment_cut.specs.declared.trace_fault.TraceFault.TheVariants.{RepeatedEvent}
+use Rattle.segment_cut.specs.declared.trace_fault.TraceFault.TheVariants.{RepeatedSend}
+use Rattle.segment_cut.specs.declared.trace_fault.TraceFault.TheVariants.{RepeatedRecv, ClockRange}
 use Rattle.segment_cut.specs.AdjustedTimes.{IsLineOutOfRange}
 use Rattle.segment_cut.specs.Cutting.{most_events, IsShort}
 

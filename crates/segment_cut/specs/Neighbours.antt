@@ -1,5 +1,6 @@
 -- Which two events of a trace make a segment, and in which order the segments are listed.
-use Rattle.std.specs.Prelude.{◌≡◌, ◌≢◌, ◌⊎◌, ℕ, ◌<◌, ◌≤◌, ℤ, ◌<ℤ◌, List, length, All, AllPairs, Contains}
+use Rattle.std.specs.Prelude.{◌≡◌, ◌≢◌, ◌⊎◌, ℕ, ◌<◌, ◌≤◌, ℤ, ◌<ℤ◌, List, length, All, AllPairs}
+use Rattle.std.specs.Prelude.{Contains}
 use Rattle.trace_types.specs.declared.event.Event.{Event}
 use Rattle.trace_types.specs.Events.{task_at}
 use Rattle.segment_cut.specs.AdjustedTimes.{adjusted_at}

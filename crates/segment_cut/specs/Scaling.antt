@@ -7,7 +7,8 @@ use Rattle.trace_types.specs.declared.segment.Segment.{Segment}
 use Rattle.trace_types.specs.declared.trace.Trace.{Trace}
 use Rattle.trace_types.specs.Segments.{name_of}
 use Rattle.trace_types.specs.Times.{latest_time_in_microseconds}
-use Rattle.trace_types.specs.Events.{machines_of, machine_at, sends_of, receipts_of, tasks_of, names_of, time_at}
+use Rattle.trace_types.specs.Events.{machines_of, machine_at, sends_of, receipts_of, tasks_of}
+use Rattle.trace_types.specs.Events.{names_of, time_at}
 
 -- all events are of one machine
 abbrev pub AreOfOneMachine : List Event → Type 0

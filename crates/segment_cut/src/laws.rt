@@ -6,7 +6,8 @@ ghost use Rattle.segment_cut.specs.declared.trace_fault.TraceFault.{TraceFault};
 ghost use Rattle.segment_cut.specs.AdjustedTimes.{AreAdjustedTimes};
 ghost use Rattle.segment_cut.specs.Cutting.{IsValid, IsCut};
 ghost use Rattle.segment_cut.specs.Faults.{IsTraceFault};
-ghost use Rattle.segment_cut.specs.Scaling.{AreOfOneMachine, AreTimelyMicroseconds, AreThousandfold, IsTraceThousandfold};
+ghost use Rattle.segment_cut.specs.Scaling.{AreOfOneMachine, AreTimelyMicroseconds};
+ghost use Rattle.segment_cut.specs.Scaling.{AreThousandfold, IsTraceThousandfold};
 
 use clock_offsets::laws::a_machine_has_one_offset;
 

@@ -79,6 +79,8 @@ fn cut_by(alloc: Global, raw: &RawTrace, by_event: &[i128]) -> Result<Trace, Tra
 /// nanoseconds. Segments are those of M. Chow et al., "The Mystery Machine", OSDI 2014; the
 /// spelling of elements is this project's own.
 ///
+/// Times are at most `trace_types::LATEST_TIME`; `trace_types::are_timely` tells.
+///
 /// The error is the first fault that holds, or out of memory. The faults are, in their order: over
 /// 4,096 events, an event that its task has twice, a message that is sent twice, one that is
 /// received twice, an adjusted time out of range.

@@ -72,7 +72,7 @@ impl TraceFault {
 impl From<AllocError> for TraceFault {
     ghost from_gives = { λ _ e. e ≡ Memory };
 
-    /// Answers that memory ran out.
+    /// Converts an allocation failure to `Memory`.
     fn from(_error: AllocError) -> TraceFault {
         TraceFault::Memory
     }
@@ -81,7 +81,7 @@ impl From<AllocError> for TraceFault {
 impl<T: Drop> From<AllocFailed<T>> for TraceFault {
     ghost from_gives = { λ _ e. e ≡ Memory };
 
-    /// Answers that memory ran out.
+    /// Converts an allocation failure to `Memory`.
     fn from(_error: AllocFailed<T>) -> TraceFault {
         TraceFault::Memory
     }

@@ -3,7 +3,8 @@ use Rattle.std.specs.Prelude.{◌≡◌, ℕ, ◌+◌, ◌<◌, ◌≤◌, ◌�
 use Rattle.trace_types.specs.declared.trace.Trace.{Trace}
 use Rattle.trace_types.specs.Limits.{most_names, most_tasks}
 use Rattle.segment_names.specs.declared.name_fault.NameFault.{NameFault}
-use Rattle.segment_names.specs.declared.name_fault.NameFault.TheVariants.{Memory, TooManyNames, TooManyTasks}
+use Rattle.segment_names.specs.declared.name_fault.NameFault.TheVariants.{Memory, TooManyNames}
+use Rattle.segment_names.specs.declared.name_fault.NameFault.TheVariants.{TooManyTasks}
 use Rattle.segment_names.specs.Known.{Known, with_traces}
 
 -- neither names nor tasks are too many

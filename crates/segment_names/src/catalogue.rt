@@ -23,10 +23,12 @@ impl Model for Catalogue {
 }
 
 impl Catalogue {
-    ghost use Rattle.std.specs.Prelude.{◌≡◌, ◌<◌, ◌≤◌, length, [], slice_get, Some, All, OnOk, OnErr, IfErr};
+    ghost use Rattle.std.specs.Prelude.{◌≡◌, ◌<◌, ◌≤◌, length, [], slice_get, Some, All, OnOk};
+    ghost use Rattle.std.specs.Prelude.{OnErr, IfErr};
     ghost use Rattle.trace_types.specs.declared.trace.Trace.{Trace};
     ghost use Rattle.segment_names.specs.declared.name_fault.NameFault.{NameFault};
-    ghost use Rattle.segment_names.specs.Known.{name_number, task_number, with_segments, with_traces};
+    ghost use Rattle.segment_names.specs.Known.{name_number, task_number, with_segments};
+    ghost use Rattle.segment_names.specs.Known.{with_traces};
     ghost use Rattle.segment_names.specs.Limits.{Fits, HasCause, IsKept, IsPassed, PassesLimit};
 
     /// An empty catalogue. It takes no memory.

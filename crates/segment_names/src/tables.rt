@@ -98,10 +98,12 @@ fn intern_name(
 }
 
 impl Tables {
-    ghost use Rattle.std.specs.Prelude.{◌^◌, ◌<◌, ◌≤◌, None, length, All, IfErr, IfNone, IfSome, MatchResult};
+    ghost use Rattle.std.specs.Prelude.{◌^◌, ◌<◌, ◌≤◌, None, length, All, IfErr, IfNone, IfSome};
+    ghost use Rattle.std.specs.Prelude.{MatchResult};
     ghost use Rattle.trace_types.specs.declared.trace.Trace.{Trace};
     ghost use Rattle.segment_names.specs.declared.name_fault.NameFault.{NameFault};
-    ghost use Rattle.segment_names.specs.Known.{name_number, task_number, with_segments, with_traces};
+    ghost use Rattle.segment_names.specs.Known.{name_number, task_number, with_segments};
+    ghost use Rattle.segment_names.specs.Known.{with_traces};
     ghost use Rattle.segment_names.specs.Limits.{Fits, HasCause, IsPassed, PassesLimit};
     ghost use Rattle.segment_names.specs.inner.Filing.{AreFiled, Filed, Grows, known_in, marks_of};
 

@@ -23,7 +23,7 @@ sends_of events = map (λ (e : Event). e.send) events
 abbrev pub receipts_of : List Event → List (Option (List ℕ))
 receipts_of events = map (λ (e : Event). e.recv) events
 
--- the task and the name of each event, which no two events of a valid trace have alike
+-- the task and the name of each event; a valid trace has no such pair twice
 abbrev pub named_events : List Event → List (Option (List ℕ × List ℕ))
 named_events events = map (λ (e : Event). Some (e.task, e.event)) events
 

@@ -4,7 +4,8 @@ use Rattle.trace_types.specs.declared.segment.Segment.{Segment}
 use Rattle.trace_types.specs.declared.trace.Trace.{Trace}
 use Rattle.trace_types.specs.declared.named_segment.NamedSegment.{NamedSegment}
 use Rattle.trace_types.specs.declared.named_trace.NamedTrace.{NamedTrace}
-use Rattle.trace_types.specs.NamedSegments.{number_of_name, number_of_task, number_of_element, named_start, named_end}
+use Rattle.trace_types.specs.NamedSegments.{number_of_name, number_of_task, number_of_element}
+use Rattle.trace_types.specs.NamedSegments.{named_start, named_end}
 use Rattle.trace_types.specs.Segments.{SegmentName, name_of, task_of, start_of, end_of}
 
 -- of a trace of type A its segments of type S and its own grace; of a segment its name, its task,

@@ -10,6 +10,6 @@ latest_time = 4102444800000000000
 abbrev pub latest_time_in_microseconds : ℕ
 latest_time_in_microseconds = 4102444800000000
 
--- no event is later than that
+-- no event is later than the latest time
 abbrev pub AreTimely : List Event → Type 0
 AreTimely events = All (λ (e : Event). e.time ≤ latest_time) events

@@ -1,7 +1,7 @@
 //! The types that the other crates share: texts, logged events, the trace that the events of one
-//! request make, the segments that it is cut into, and the same trace by numbers. Contracts see them
-//! as plain data: a text as its list of bytes, a list type as its list. The definitions that several
-//! crates cite stand here too: what a trace refutes, the relations that survive, renaming.
+//! request make, the segments that it is cut into, and the same trace by numbers. Contracts see
+//! them as plain data: a text as its list of bytes, a list type as its list. The definitions that
+//! several crates cite stand here too: what a trace refutes, the relations that survive, renaming.
 #![tactic(auto)]
 
 mod event;
@@ -19,6 +19,7 @@ mod segment_list;
 #[cfg(test)]
 mod tests;
 mod text;
+mod timely;
 mod trace;
 
 pub use event::Event;
@@ -33,4 +34,5 @@ pub use raw_trace::RawTrace;
 pub use segment::Segment;
 pub use segment_list::SegmentList;
 pub use text::Text;
+pub use timely::are_timely;
 pub use trace::Trace;

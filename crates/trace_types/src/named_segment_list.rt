@@ -26,7 +26,7 @@ impl NamedSegmentList {
         NamedSegmentList { items }
     }
 
-    /// Lends the segments, by place.
+    /// Lends the segments, in order.
     pub fn items(&self) -> &[NamedSegment]
         ensures { result.now ≡ self.now }
     {

@@ -1,7 +1,9 @@
 ghost use Rattle.std.specs.Prelude.{◌≡◌, ◌≤◌, IfOk};
 ghost use Rattle.trace_types.specs.Limits.{most_grace};
-ghost use Rattle.trace_types.specs.NamedSegments.{number_of_name, number_of_task, number_of_element, named_start, named_end};
-ghost use Rattle.trace_types.specs.SegmentLists.{NamesDiffer, TasksStandTogether, JoinInTasks, ElementsCountUp};
+ghost use Rattle.trace_types.specs.NamedSegments.{number_of_name, number_of_task};
+ghost use Rattle.trace_types.specs.NamedSegments.{number_of_element, named_start, named_end};
+ghost use Rattle.trace_types.specs.SegmentLists.{NamesDiffer, TasksStandTogether, JoinInTasks};
+ghost use Rattle.trace_types.specs.SegmentLists.{ElementsCountUp};
 
 use crate::{NamedSegmentList, Text};
 use std::alloc::{AllocError, Global};
@@ -17,7 +19,7 @@ pub struct NamedTrace {
     pub latency: u64,
     /// By how much two segments may overlap and refute nothing, in nanoseconds.
     pub grace: u64,
-    /// The segments, by place: task after task, and each task's own by time.
+    /// The segments: task after task, and within a task by time.
     pub segments: NamedSegmentList,
     ghost grace_within: { grace ≤ most_grace },
     ghost names_differ: { NamesDiffer number_of_name segments },

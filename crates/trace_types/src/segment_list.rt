@@ -26,7 +26,7 @@ impl SegmentList {
         SegmentList { items }
     }
 
-    /// Lends the segments, by place.
+    /// Lends the segments, in order.
     pub fn items(&self) -> &[Segment]
         ensures { result.now ≡ self.now }
     {

@@ -1,6 +1,6 @@
 use crate::{
     Event, EventList, LATEST_TIME, NameText, NamedSegment, NamedSegmentList, NamedTrace,
-    NamedTraceList, Segment, SegmentList, Text,
+    NamedTraceList, Segment, SegmentList, Text, are_timely,
 };
 use std::alloc::{AllocError, Global};
 use std::cmp::Ordering;
@@ -47,7 +47,11 @@ fn lists_give_back_what_they_were_made_of(rt: HostRuntime) -> Result<(), Fail> {
         send: None,
         recv: None,
     };
-    let events = EventList::of(vec![in alloc; event]?);
+    let mut events = vec![in alloc; event]?;
+    assert!(rt; are_timely(&events));
+    events[0].time = LATEST_TIME + 1;
+    assert!(rt; !are_timely(&events));
+    let events = EventList::of(events);
     assert_eq!(rt; events.items().len(), 1);
     assert_eq!(rt; events.into_items()[0].line, 7);
     let segment = Segment {

@@ -12,7 +12,7 @@ pub struct Trace {
     pub day: u32,
     /// The greatest adjusted time of its events less the least, in nanoseconds.
     pub latency: u64,
-    /// The segments, by place: task after task, and each task's own by time.
+    /// The segments: task after task, and within a task by time.
     pub segments: SegmentList,
     ghost names_differ: { NamesDiffer name_of segments },
     ghost together: { TasksStandTogether task_of segments },

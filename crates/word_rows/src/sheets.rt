@@ -1,6 +1,7 @@
 ghost use Rattle.std.specs.Prelude.{◌≡◌, ◌<◌, ◌↔◌, [], ◌∷◌, length, IfOk, IsTrue, OnErr, OnOk};
 ghost use Rattle.word_rows.specs.Rows.{below};
-ghost use Rattle.word_rows.specs.Words.{AreWords, IsCommon, IsMeet, bit_of, full_words, widened_words};
+ghost use Rattle.word_rows.specs.Words.{AreWords, IsCommon, IsMeet, bit_of, full_words};
+ghost use Rattle.word_rows.specs.Words.{widened_words};
 
 use crate::{Entry, Row};
 use std::alloc::{AllocError, Global};

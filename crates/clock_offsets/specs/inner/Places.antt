@@ -8,7 +8,8 @@ use Rattle.trace_types.specs.declared.event.Event.{Event}
 use Rattle.trace_types.specs.Events.{sends_of, receipts_of}
 use Rattle.trace_types.specs.Repeats.{IsLineOfRepeat}
 use Rattle.clock_offsets.specs.declared.clock_fault.ClockFault.{ClockFault}
-use Rattle.clock_offsets.specs.declared.clock_fault.ClockFault.TheVariants.{RepeatedSend, RepeatedRecv}
+use Rattle.clock_offsets.specs.declared.clock_fault.ClockFault.TheVariants.{RepeatedSend}
+use Rattle.clock_offsets.specs.declared.clock_fault.ClockFault.TheVariants.{RepeatedRecv}
 use Rattle.clock_offsets.specs.declared.first_events.Field.{Field}
 use Rattle.clock_offsets.specs.declared.first_events.Field.TheVariants.{Machine, Task}
 use Rattle.clock_offsets.specs.declared.places.End.{End}
@@ -35,16 +36,16 @@ repeat_at Sending line = RepeatedSend line
 repeat_at Receipt line = RepeatedRecv line
 
 -- the index that a map has for a text
-abbrev pub place_in : BTreeMap (Bor (List ℕ)) ℕ → List ℕ → Option ℕ
-place_in places text = get_by (λ k. slice_cmp nat_cmp text k.now) places
+abbrev pub index_in : BTreeMap (Bor (List ℕ)) ℕ → List ℕ → Option ℕ
+index_in places text = get_by (λ k. slice_cmp nat_cmp text k.now) places
 
 -- the map has the indices of the first n keys, which differ
-pub record ArePlaces (keys : List (Option (List ℕ))) (n : ℕ)
+pub record AreIndices (keys : List (Option (List ℕ))) (n : ℕ)
     (places : BTreeMap (Bor (List ℕ)) ℕ) : Type 0 where
-  pub right : (text : List ℕ) (p : ℕ) → place_in places text ≡ Some p → (p < n)
+  pub right : (text : List ℕ) (p : ℕ) → index_in places text ≡ Some p → (p < n)
       × (slice_index_or keys p None ≡ Some text)
   pub all : (text : List ℕ) (p : ℕ) → p < n → slice_index_or keys p None ≡ Some text
-      → place_in places text ≡ Some p
+      → index_in places text ≡ Some p
 
 -- the fault is that a message occurs twice at an end, on the first such line
 abbrev pub IsRepeatAt : List Event → End → ClockFault → Type 0

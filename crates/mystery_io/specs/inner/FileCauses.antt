@@ -6,8 +6,8 @@ use Rattle.mystery_io.specs.declared.reading.ReadFault.{ReadFault}
 use Rattle.mystery_io.specs.declared.reading.ReadFault.TheVariants.{Memory, File, TooBig}
 
 -- after so many bytes, the content passes the limit, where it is told
-abbrev pub PassesLimit : ℕ → Option (List ℕ) → Type 0
-PassesLimit count content = IfSome content (λ bytes. input_limit < count + length bytes)
+abbrev pub PassesInputLimit : ℕ → Option (List ℕ) → Type 0
+PassesInputLimit count content = IfSome content (λ bytes. input_limit < count + length bytes)
 
 -- after so many bytes, all of the content but what is left is within the limit
 abbrev pub FitsBefore : ℕ → Option (List ℕ) → Option (List ℕ) → Type 0
@@ -18,14 +18,14 @@ FitsBefore count content left =
 abbrev pub HasFileCause : ℕ → ℕ → Option (List ℕ) → Option (List ℕ) → ReadFault → Type 0
 HasFileCause index count content left Memory = ⊤
 HasFileCause index count content left (File i) = (i ≡ index) × FitsBefore count content left
-HasFileCause index count content left TooBig = PassesLimit count content
+HasFileCause index count content left TooBig = PassesInputLimit count content
 
 -- the same where the content ends its last line, and the file may not have been opened
 abbrev pub HasEndedCause : ℕ → ℕ → Option (List ℕ) → Option (List ℕ) → Bool → ReadFault → Type 0
 HasEndedCause index count content left is_open Memory = ⊤
 HasEndedCause index count content left is_open (File i) =
     (i ≡ index) × (is_open ≡ true → FitsBefore count content left)
-HasEndedCause index count content left is_open TooBig = PassesLimit count (option_map ended content)
+HasEndedCause index count content left is_open TooBig = PassesInputLimit count (option_map ended content)
 
 -- the line feed that ends the bytes passes the limit
 abbrev pub IsPassedByFeed : List ℕ → ReadFault → Type 0

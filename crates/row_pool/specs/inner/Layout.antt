@@ -1,7 +1,9 @@
 -- How the rows of a pool lie in its block, and what one step changes there.
-use Rattle.std.specs.Prelude.{◌≡◌, ℕ, zero, suc, ◌+◌, ◌-◌, ◌*◌, ◌^◌, ◌<◌, ◌≤◌, Bool, true, false, not, ◌&&◌, ◌||◌, ◌==◌, nat_lt, cond, ◌⊎◌, List, [], ◌∷◌, length, take, drop, get_or}
+use Rattle.std.specs.Prelude.{◌≡◌, ℕ, zero, suc, ◌+◌, ◌-◌, ◌*◌, ◌^◌, ◌<◌, ◌≤◌, Bool, true, false}
+use Rattle.std.specs.Prelude.{not, ◌&&◌, ◌||◌, ◌==◌, nat_lt, cond, ◌⊎◌, List, [], ◌∷◌, length, take}
+use Rattle.std.specs.Prelude.{drop, get_or}
 use Rattle.std.specs.FinMap.{empty, insert, len}
-use Rattle.word_rows.specs.Words.{widened, IsCommon}
+use Rattle.word_rows.specs.Words.{widened_words as widened, IsCommon}
 use Rattle.row_pool.specs.Pools.{LiveRows, Pool, pool}
 use Rattle.row_pool.specs.declared.pool.RowPool.TheInside.{Inside}
 
@@ -41,7 +43,7 @@ pub record Changes (w i : ℕ) (ws vs : List ℕ) : Type 0 where
   pub others : (k d : ℕ) → (k < i * w) ⊎ (i * w + w ≤ k) → get_or vs k d ≡ get_or ws k d
 
 -- the row i is now xs, and no other word differs
-pub record Writes (w i : ℕ) (ws vs xs : List ℕ) : Type 0 where
+pub record WritesRow (w i : ℕ) (ws vs xs : List ℕ) : Type 0 where
   pub changes : Changes w i ws vs
   pub is : row_in vs w i ≡ xs
 
@@ -56,7 +58,7 @@ pub record Widens (old new n : ℕ) (ws vs : List ℕ) : Type 0 where
   pub row : (q : ℕ) → q < n → row_in vs new q ≡ widened (row_in ws old q) (new - old)
 
 -- `total` rows of w words, of which `spare` are free, linked from the row `next` on
-pub record IsSound (ws : List ℕ) (w total next spare : ℕ) : Type 0 where
+pub record IsSoundPool (ws : List ℕ) (w total next spare : ℕ) : Type 0 where
   pub wide : 0 < w
   pub sized : total * w ≤ length ws
   pub short : total < 2 ^ 32
@@ -72,4 +74,4 @@ pool_of a =
 
 -- the fields of a pool fit together
 abbrev pub IsPool : Inside → Type 0
-IsPool a = IsSound a.storage a.width a.total a.next a.spare
+IsPool a = IsSoundPool a.storage a.width a.total a.next a.spare

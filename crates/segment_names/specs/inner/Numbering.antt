@@ -1,5 +1,6 @@
 -- Segments whose names, tasks and elements are numbered.
-use Rattle.std.specs.Prelude.{◌≡◌, ℕ, ◌<◌, nat_eq, Option, Some, None, List, length, slice_get, slice_index_or, ⊤}
+use Rattle.std.specs.Prelude.{◌≡◌, ℕ, ◌<◌, nat_eq, Option, Some, None, List, length, slice_get}
+use Rattle.std.specs.Prelude.{slice_index_or, ⊤}
 use Rattle.std.specs.List.{filter_map}
 use Rattle.trace_types.specs.declared.named_segment.NamedSegment.{NamedSegment}
 use Rattle.trace_types.specs.declared.segment.Segment.{Segment}

@@ -1,6 +1,6 @@
 use Rattle.std.proofs.Common.{◌≡◌, ◌++◌, ◌∷◌, take}
 use Rattle.std.specs.List.{flat_map}
-use Rattle.mystery_cli.specs.Rows.{field_text}
+use Rattle.mystery_cli.specs.inner.Fields.{field_text}
 use Rattle.mystery_cli.proofs.printing.put_rest.Given as goal
 
 -- the fields so far

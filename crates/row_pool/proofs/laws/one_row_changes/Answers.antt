@@ -1,5 +1,5 @@
 use Rattle.std.proofs.Common.{ap}
-use Rattle.word_rows.specs.Words.{full}
+use Rattle.word_rows.specs.Words.{full_words as full}
 use Rattle.row_pool.specs.Pools.{row_at, words_or_none}
 use Rattle.row_pool.proofs.CallerLemmas.{row_at-same}
 use Rattle.row_pool.proofs.MapLemmas.{get-insert_same, get-remove_same}

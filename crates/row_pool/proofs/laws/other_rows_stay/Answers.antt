@@ -1,4 +1,4 @@
-use Rattle.word_rows.specs.Words.{full}
+use Rattle.word_rows.specs.Words.{full_words as full}
 use Rattle.row_pool.proofs.MapLemmas.{get-insert_other, get-remove_other}
 use Rattle.row_pool.proofs.laws.other_rows_stay.Goals as goal
 

@@ -1,6 +1,6 @@
 use Rattle.std.proofs.Common.{◌≡◌, ◌∙◌, ◌+◌, ◌-◌, ◌*◌, ◌++◌, ◌≤◌, ap, arith, length-append, length-take, length-drop, length, take, drop, List, ℕ}
 use Rattle.std.proofs.lemmas.List.{length-replicate}
-use Rattle.word_rows.specs.Words.{full}
+use Rattle.word_rows.specs.Words.{full_words as full}
 use Rattle.row_pool.specs.inner.Layout.{row_in}
 use Rattle.row_pool.proofs.RowLemmas.{length-row_in}
 use Rattle.row_pool.proofs.WidthLemmas.{writes_mid}

@@ -1,6 +1,6 @@
 use Rattle.std.proofs.Common.{ap}
 use Rattle.std.specs.FinMap.{insert}
-use Rattle.word_rows.specs.Words.{full}
+use Rattle.word_rows.specs.Words.{full_words as full}
 use Rattle.row_pool.proofs.PoolLemmas.{live_in, within_live, written, seen_at}
 use Rattle.row_pool.proofs.pool.RowPool.fill.Goals as goal
 

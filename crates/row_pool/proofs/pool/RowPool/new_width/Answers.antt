@@ -1,7 +1,7 @@
 use Rattle.std.proofs.Common.{◌∙◌, ◌-◌, ◌≤◌, ap, refl, arith}
 use Rattle.std.specs.FinMap.{get}
 use Rattle.std.specs.Option.{option_map}
-use Rattle.word_rows.specs.Words.{widened as with_full}
+use Rattle.word_rows.specs.Words.{widened_words as with_full}
 use Rattle.row_pool.proofs.WidthLemmas.{widened}
 use Rattle.row_pool.proofs.pool.RowPool.new_width.Goals as goal
 

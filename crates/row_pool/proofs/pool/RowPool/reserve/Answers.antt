@@ -1,6 +1,6 @@
 use Rattle.std.proofs.Common.{◌≡◌, ◌+◌, ◌-◌, ◌*◌, ◌<◌, ◌≤◌, ℕ, List, arith, ap, sym, refl, length, length-set, subst, max, length-append}
 use Rattle.std.proofs.lemmas.List.{length-replicate}
-use Rattle.row_pool.specs.inner.Layout.{IsSound}
+use Rattle.row_pool.specs.inner.Layout.{IsSoundPool}
 use Rattle.row_pool.proofs.PoolLemmas.{grown, added, made}
 use Rattle.row_pool.proofs.RowLemmas.{row_within}
 use Rattle.row_pool.proofs.pool.RowPool.reserve.Goals as goal
@@ -21,7 +21,7 @@ rows-init c =
 pub invariant_of-self-in-rows : goal.invariant_of-self-in-rows
 invariant_of-self-in-rows c =
     let i = c.rows.invariant in
-    subst (λ w. IsSound c.rows.self-inside.storage w c.rows.self-inside.total c.rows.self-inside.next c.rows.self-inside.spare) (sym i.width) i.has.sound
+    subst (λ w. IsSoundPool c.rows.self-inside.storage w c.rows.self-inside.total c.rows.self-inside.next c.rows.self-inside.spare) (sym i.width) i.has.sound
 
 pub set-requires : goal.set-requires
 set-requires c = at_row c.rows.self-inside.storage c.self.inside.width c.rows.self-inside.total _ c.rows.invariant.has.sound.wide (omega arith) c.rows.invariant.room

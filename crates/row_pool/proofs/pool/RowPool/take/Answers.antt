@@ -1,6 +1,6 @@
 use Rattle.std.proofs.Common.{◌∙◌, arith, ap, sym, ◌-◌}
 use Rattle.std.specs.FinMap.{insert, get}
-use Rattle.word_rows.specs.Words.{full}
+use Rattle.word_rows.specs.Words.{full_words as full}
 use Rattle.row_pool.proofs.PoolLemmas.{within_next, taken, seen_at}
 use Rattle.row_pool.proofs.pool.RowPool.take.Goals as goal
 

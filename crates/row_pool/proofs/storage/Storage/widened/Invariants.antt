@@ -1,5 +1,5 @@
 use Rattle.std.proofs.Common.{◌≡◌, ◌-◌, ◌++◌, ◌<◌, ◌≤◌, ◌*◌, ℕ, length}
-use Rattle.word_rows.specs.Words.{full}
+use Rattle.word_rows.specs.Words.{full_words as full}
 use Rattle.row_pool.specs.inner.Layout.{row_in}
 use Rattle.row_pool.proofs.storage.Storage.widened.Given as goal
 
