@@ -1,11 +1,13 @@
 -- Where the bit of a relation stands. Words and bits count from 0.
-use Rattle.std.specs.Prelude.{◌≢◌, ℕ, ◌+◌, ◌-◌, ◌*◌, ◌/◌, ◌%◌, ◌<◌, nat_lt, if◌then◌else◌}
+use Rattle.std.specs.Prelude.{◌≢◌, ◌<◌, nat_lt, if◌then◌else◌}
+use Rattle.std.specs.Prelude.{ℕ, ◌+◌, ◌-◌, ◌*◌, ◌/◌, ◌%◌}
 use Rattle.hypothesis_index.specs.declared.relation.Relation.{Relation}
 use Rattle.hypothesis_index.specs.declared.relation.Relation.TheVariants.{Before, Exclusive, Apart}
 use Rattle.hypothesis_index.specs.declared.relation.Relation.TheVariants.{Pipe, Unshared}
 use Rattle.hypothesis_index.specs.declared.bit_place.BitPlace.{BitPlace}
 
--- the two numbers differ and are in range, and where their order does not matter the lesser is first
+-- the two numbers differ and are in range, and where their order does not matter the lesser is
+-- first
 abbrev pub IsRelation : Relation → Type 0
 IsRelation (Before a b) = (a ≢ b) × (a < 512) × (b < 512)
 IsRelation (Exclusive a b) = (a < b) × (b < 512)
@@ -31,9 +33,11 @@ pair_number i j = pairs_below j + i
 
 -- each pair has four bits, one a kind, and sixteen pairs fill a word, from this word on
 abbrev pub place_in : ℕ → ℕ → ℕ → ℕ → BitPlace
-place_in begin i j kind = record { word = begin + pair_number i j / 16; bit = 4 * (pair_number i j % 16) + kind }
+place_in begin i j kind =
+    record { word = begin + pair_number i j / 16; bit = 4 * (pair_number i j % 16) + kind }
 
--- the pairs of tasks fill the words 0 to 125, and the pairs of names stand from word 126 on; the last bit of a pair of tasks is no relation's
+-- the pairs of tasks fill the words 0 to 125, and the pairs of names stand from word 126 on; the
+-- last bit of a pair of tasks is no relation's
 abbrev pub place_of : Relation → BitPlace
 place_of (Before a b) = if nat_lt a b then place_in 126 a b 0 else place_in 126 b a 1
 place_of (Exclusive a b) = place_in 126 a b 2

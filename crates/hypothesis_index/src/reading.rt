@@ -14,7 +14,8 @@ fn task_relation(low: u32, high: u32, kind: u32) -> Option<Relation>
     requires rises { low < high }
     requires small { high < 64 }
     requires one { kind < 4 }
-    ensures { MatchOption result (kind ≡ 3) (λ r. IsRelation r × (place_of r ≡ place_in 0 low high kind)) }
+    ensures { MatchOption result (kind ≡ 3)
+        (λ r. IsRelation r × (place_of r ≡ place_in 0 low high kind)) }
 {
     match kind {
         0 => Some(Relation::Pipe {

@@ -1,4 +1,5 @@
--- What a catalogue knows: names and tasks in the order of first sight. The number of each is its place in its list.
+-- What a catalogue knows: names and tasks in the order of first sight. The number of each is its
+-- place in its list.
 use Rattle.std.specs.Prelude.{ℕ, List, ◌++◌, Bool, ◌&&◌, Option, map, position, flat_map}
 use Rattle.std.specs.Str.{bytes_eq}
 use Rattle.trace_types.specs.declared.segment.Segment.{Segment}

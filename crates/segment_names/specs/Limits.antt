@@ -18,11 +18,14 @@ pub record IsKept (known : Known) : Type 0 where
   pub names_differ : AllPairs (λ a b. a ≢ b) known.names
   pub tasks_differ : AllPairs (λ a b. a ≢ b) known.tasks
 
--- the limit that is passed, with how many names there are where those are too many, and else how many tasks
+-- the limit that is passed, with how many names there are where those are too many, and else how
+-- many tasks
 abbrev pub IsPassed : Known → NameFault → Type 0
 IsPassed known Memory = ⊥
-IsPassed known (TooManyNames count) = (most_names < length known.names) × (count ≡ length known.names)
-IsPassed known (TooManyTasks count) = (length known.names ≤ most_names) × (most_tasks < length known.tasks) × (count ≡ length known.tasks)
+IsPassed known (TooManyNames count) = (most_names < length known.names)
+    × (count ≡ length known.names)
+IsPassed known (TooManyTasks count) = (length known.names ≤ most_names)
+    × (most_tasks < length known.tasks) × (count ≡ length known.tasks)
 
 -- some trace of the list is the first after which a limit is passed, and it is this one
 abbrev pub PassesLimit : Known → List Trace → NameFault → Type 0

@@ -11,20 +11,25 @@ use Rattle.segment_names.specs.declared.name_one.NameOne.{NameOne}
 use Rattle.segment_names.specs.declared.name_one.NameOne.TheVariants.{Memory, Unknown}
 use Rattle.segment_names.specs.Known.{Known, name_number}
 
--- the same trace, segment by segment: a name and a task have their numbers in the catalogue, elements are matched one
--- to one with numbers, and the grace is 0
+-- the same trace, segment by segment: a name and a task have their numbers in the catalogue,
+-- elements are matched one to one with numbers, and the grace is 0
 abbrev pub IsNamed : Known → NamedTrace → Trace → Type 0
-IsNamed known named trace = IsTraceRenamed by_number by_text (enumerate_from 0 known.names) (enumerate_from 0 known.tasks) named trace
+IsNamed known named trace = IsTraceRenamed by_number by_text (enumerate_from 0 known.names)
+    (enumerate_from 0 known.tasks) named trace
 
 -- the segment at this index has a name that is not in the catalogue
 abbrev pub IsUnknownAt : Known → List Segment → ℕ → Type 0
-IsUnknownAt known segments k = (s : Segment) × (slice_get segments k ≡ Some s) × (name_number known (name_of s) ≡ None)
+IsUnknownAt known segments k = (s : Segment) × (slice_get segments k ≡ Some s)
+    × (name_number known (name_of s) ≡ None)
 
 -- it is the first such segment
 abbrev pub IsFirstUnknown : Known → List Segment → ℕ → Type 0
-IsFirstUnknown known segments k = IsUnknownAt known segments k × ((j : ℕ) → j < k → IsUnknownAt known segments j → ⊥)
+IsFirstUnknown known segments k = IsUnknownAt known segments k × ((j : ℕ) → j < k
+    → IsUnknownAt known segments j → ⊥)
 
--- the trace is given back; it was not named because memory ran out, or because this segment is the first that is not known
+-- the trace is given back; it was not named because memory ran out, or because this segment is the
+-- first that is not known
 abbrev pub IsRefused : Known → Trace → NameOne → Type 0
 IsRefused known trace (Memory back) = back ≡ trace
-IsRefused known trace (Unknown back segment) = (back ≡ trace) × IsFirstUnknown known trace.segments segment
+IsRefused known trace (Unknown back segment) = (back ≡ trace)
+    × IsFirstUnknown known trace.segments segment

@@ -46,7 +46,8 @@ impl Catalogue {
         requires { length trace.now.segments ≤ 4096 }
         ensures added { OnOk result (self.new ≡ with_segments self.old trace.now.segments) }
         ensures fits { OnOk result (Fits self.new) }
-        ensures cause { IfErr result (HasCause (IsPassed (with_segments self.old trace.now.segments))) }
+        ensures cause { IfErr result (HasCause (IsPassed
+            (with_segments self.old trace.now.segments))) }
         ensures unchanged { OnErr result (self.new ≡ self.old) }
     {
         let marks = self.tables.marks();
@@ -57,12 +58,13 @@ impl Catalogue {
         added
     }
 
-    /// Adds the names and the tasks of traces, one trace after another. After an error the catalogue
-    /// is unchanged.
+    /// Adds the names and the tasks of traces, one trace after another. After an error the
+    /// catalogue is unchanged.
     pub fn add_all(&mut self, alloc: Global, traces: &[Trace]) -> Result<(), NameFault>
         requires { All (λ (t : Trace). length t.segments ≤ 4096) traces.now }
         ensures added { OnOk result (self.new ≡ with_traces self.old traces.now) }
-        ensures none { OnOk result ((fault : NameFault) → PassesLimit self.old traces.now fault → ⊥) }
+        ensures none { OnOk result ((fault : NameFault) → PassesLimit self.old traces.now fault
+            → ⊥) }
         ensures cause { IfErr result (HasCause (PassesLimit self.old traces.now)) }
         ensures unchanged { OnErr result (self.new ≡ self.old) }
     {

@@ -29,7 +29,8 @@ fn number_element(
     requires few { length elements.old.keys < 2 ^ 32 - 1 }
     ensures differ { AreDifferent elements.new.keys }
     ensures grown { (more : List (List ℕ)) × (elements.new.keys ≡ elements.old.keys ++ more) }
-    ensures keys { OnOk result (elements.new.keys ≡ firsts_of bytes_eq (elements.old.keys ++ option_to_list element.now)) }
+    ensures keys { OnOk result (elements.new.keys
+        ≡ firsts_of bytes_eq (elements.old.keys ++ option_to_list element.now)) }
     ensures number { IfOk result (λ number. IsElementAt elements.new.keys number element.now) }
 {
     match element {
@@ -44,10 +45,14 @@ fn number_element(
 /// Gives the numbers of a segment's name and of its task.
 fn numbers(tables: &Tables, segment: &Segment) -> Option<(u32, u32)>
     requires { Fits (known_in tables.now) }
-    ensures absent { IfNone result (name_number (known_in tables.now) (name_of segment.now) ≡ None) }
-    ensures number { IfSome result (λ r. name_number (known_in tables.now) (name_of segment.now) ≡ Some r.0) }
-    ensures name { IfSome result (λ r. slice_get (known_in tables.now).names r.0 ≡ Some (name_of segment.now)) }
-    ensures task { IfSome result (λ r. slice_get (known_in tables.now).tasks r.1 ≡ Some segment.now.task) }
+    ensures absent { IfNone result (name_number (known_in tables.now) (name_of segment.now)
+        ≡ None) }
+    ensures number { IfSome result (λ r. name_number (known_in tables.now) (name_of segment.now)
+        ≡ Some r.0) }
+    ensures name { IfSome result (λ r. slice_get (known_in tables.now).names r.0
+        ≡ Some (name_of segment.now)) }
+    ensures task { IfSome result (λ r. slice_get (known_in tables.now).tasks r.1
+        ≡ Some segment.now.task) }
     ensures below { IfSome result (λ r. (r.0 < most_names) × (r.1 < most_tasks)) }
 {
     let (name, task) = tables.look_up(&segment.task, &segment.start_event, &segment.end_event)?;
@@ -99,8 +104,8 @@ fn name_segments(
 }
 
 impl Catalogue {
-    /// Names the segments of a trace by the catalogue's numbers, and its elements by their own, from 0
-    /// by first sight. The grace is 0.
+    /// Names the segments of a trace by the catalogue's numbers, and its elements by their own,
+    /// from 0 by first sight. The grace is 0.
     pub fn name(&self, alloc: Global, trace: Trace) -> Result<NamedTrace, NameOne>
         requires { length trace.segments ≤ 4096 }
         ensures request { IfOk result (λ named. named.request ≡ trace.request) }

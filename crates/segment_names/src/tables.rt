@@ -38,7 +38,12 @@ impl Model for Tables {
 
     ghost Value = { Filed };
 
-    ghost view = { λ t. record { tasks = t.tasks.keys; events = t.events.keys; names = t.names.entries } };
+    ghost view = { λ t. record {
+      tasks = t.tasks.keys;
+      events = t.events.keys;
+      names =
+          t.names.entries;
+    } };
 
     ghost invariant = { λ t. IsFiled t.tasks.keys t.events.keys t.names.entries };
 }
@@ -52,7 +57,8 @@ pub(crate) fn intern(
     requires { AreDifferent texts.old.keys }
     ensures differ { AreDifferent texts.new.keys }
     ensures grown { (more : List (List ℕ)) × (texts.new.keys ≡ texts.old.keys ++ more) }
-    ensures keys { OnOk result (texts.new.keys ≡ firsts_of bytes_eq (texts.old.keys ++ text.now ∷ [])) }
+    ensures keys { OnOk result (texts.new.keys
+        ≡ firsts_of bytes_eq (texts.old.keys ++ text.now ∷ [])) }
     ensures index { IfOk result (λ i. slice_get texts.new.keys i ≡ Some text.now) }
 {
     match texts.get_index_of(text) {
@@ -88,8 +94,10 @@ fn intern_name(
     ensures events_differ { AreDifferent events.new.keys }
     ensures tasks_grown { (more : List (List ℕ)) × (tasks.new.keys ≡ tasks.old.keys ++ more) }
     ensures events_grown { (more : List (List ℕ)) × (events.new.keys ≡ events.old.keys ++ more) }
-    ensures tasks { OnOk result (tasks.new.keys ≡ firsts_of bytes_eq (tasks.old.keys ++ segment.now.task ∷ [])) }
-    ensures filed { IfOk result (λ key. IsFiledAs tasks.new.keys events.new.keys key (name_of segment.now)) }
+    ensures tasks { OnOk result (tasks.new.keys
+        ≡ firsts_of bytes_eq (tasks.old.keys ++ segment.now.task ∷ [])) }
+    ensures filed { IfOk result (λ key. IsFiledAs tasks.new.keys events.new.keys key
+        (name_of segment.now)) }
 {
     let task = intern(alloc, tasks, &segment.task)?;
     let start = intern(alloc, events, &segment.start_event)?;
@@ -120,9 +128,12 @@ impl Tables {
 
     /// Looks up a name by its three texts, and gives its number and that of its task.
     pub(crate) fn look_up(&self, task: &Text, start: &Text, end: &Text) -> Option<(usize, usize)>
-        ensures absent { IfNone result (name_number (known_in self.now) (task.now, start.now, end.now) ≡ None) }
-        ensures name { IfSome result (λ r. name_number (known_in self.now) (task.now, start.now, end.now) ≡ Some r.0) }
-        ensures task { IfSome result (λ r. slice_get (known_in self.now).tasks r.1 ≡ Some task.now) }
+        ensures absent { IfNone result (name_number (known_in self.now)
+            (task.now, start.now, end.now) ≡ None) }
+        ensures name { IfSome result (λ r. name_number (known_in self.now)
+            (task.now, start.now, end.now) ≡ Some r.0) }
+        ensures task { IfSome result (λ r. slice_get (known_in self.now).tasks r.1
+            ≡ Some task.now) }
     {
         let task_index = self.tasks.get_index_of(task)?;
         let start_index = self.events.get_index_of(start)?;
@@ -177,7 +188,8 @@ impl Tables {
     fn note(&mut self, alloc: Global, segment: &Segment) -> Result<(), AllocError>
         ensures filed { AreFiled self.new }
         ensures grown { Grows self.old self.new }
-        ensures noted { OnOk result (known_in self.new ≡ with_segments (known_in self.old) (segment.now ∷ [])) }
+        ensures noted { OnOk result (known_in self.new
+            ≡ with_segments (known_in self.old) (segment.now ∷ [])) }
     {
         if self
             .look_up(&segment.task, &segment.start_event, &segment.end_event)
@@ -196,7 +208,8 @@ impl Tables {
         requires { AreFiled self.old }
         ensures filed { AreFiled self.new }
         ensures grown { Grows self.old self.new }
-        ensures noted { OnOk result (known_in self.new ≡ with_segments (known_in self.old) segments.now) }
+        ensures noted { OnOk result (known_in self.new
+            ≡ with_segments (known_in self.old) segments.now) }
     {
         for segment in segments {
             self.note(alloc, segment)?;
@@ -208,7 +221,8 @@ impl Tables {
     fn check_limits(&self) -> Result<(), NameFault>
         requires names { length (known_in self.now).names < 2 ^ 32 }
         requires tasks { length (known_in self.now).tasks < 2 ^ 32 }
-        ensures { MatchResult result (λ _. Fits (known_in self.now)) (IsPassed (known_in self.now)) }
+        ensures { MatchResult result (λ _. Fits (known_in self.now)) (IsPassed
+            (known_in self.now)) }
     {
         let names = self.name_count() as u32;
         if names > MOST_NAMES {
@@ -232,9 +246,11 @@ impl Tables {
         requires few { length segments.now ≤ 4096 }
         ensures filed { AreFiled self.new }
         ensures grown { Grows self.old self.new }
-        ensures noted { OnOk result (known_in self.new ≡ with_segments (known_in self.old) segments.now) }
+        ensures noted { OnOk result (known_in self.new
+            ≡ with_segments (known_in self.old) segments.now) }
         ensures fits { OnOk result (Fits (known_in self.new)) }
-        ensures cause { IfErr result (HasCause (IsPassed (with_segments (known_in self.old) segments.now))) }
+        ensures cause { IfErr result (HasCause (IsPassed (with_segments
+            (known_in self.old) segments.now))) }
     {
         self.note_all(alloc, segments)?;
         self.check_limits()
@@ -247,9 +263,11 @@ impl Tables {
         requires few { All (λ (t : Trace). length t.segments ≤ 4096) traces.now }
         ensures filed { AreFiled self.new }
         ensures grown { Grows self.old self.new }
-        ensures noted { OnOk result (known_in self.new ≡ with_traces (known_in self.old) traces.now) }
+        ensures noted { OnOk result (known_in self.new
+            ≡ with_traces (known_in self.old) traces.now) }
         ensures fits { OnOk result (Fits (known_in self.new)) }
-        ensures none { OnOk result ((fault : NameFault) → PassesLimit (known_in self.old) traces.now fault → ⊥) }
+        ensures none { OnOk result ((fault : NameFault)
+            → PassesLimit (known_in self.old) traces.now fault → ⊥) }
         ensures cause { IfErr result (HasCause (PassesLimit (known_in self.old) traces.now)) }
     {
         for trace in traces {

@@ -1,90 +1,81 @@
-ghost use Rattle.std.specs.Prelude.{◌≡◌, IfOk, length};
+ghost use Rattle.std.specs.Prelude.{◌≡◌, length};
 
 use crate::{Catalogue, NameFault, NameOne};
-use std::alloc::{AllocError, Global};
 use std::process::Abort;
 use std::rt::HostRuntime;
-use std::test::Fail;
 use trace_types::{NameText, Segment, SegmentList, Text, Trace};
 
-/// A trace of one segment.
-fn single(alloc: Global, task: &str, start: &str, end: &str) -> Result<Trace, AllocError>
-    ensures { IfOk result (λ trace. length trace.segments ≡ 1) }
-{
-    let mut segments = Vec::with_capacity(alloc, 1)?;
-    segments.push_reserved(Segment {
-        task: Text::new(alloc, task)?,
-        start_event: Text::new(alloc, start)?,
-        end_event: Text::new(alloc, end)?,
-        start: 5,
-        end: 9,
-        element: Some(Text::new(alloc, "page")?),
-    });
-    Ok(Trace {
-        request: Text::new(alloc, "r1")?,
-        day: 3,
-        latency: 4,
-        segments: SegmentList::of(segments),
-    })
+fn text(rt: &(impl Abort + AllocGlobal), text: &str) -> Text {
+    Text::new(rt.alloc(), text).expect(rt, "memory")
 }
 
-fn name(alloc: Global, task: &str, start: &str, end: &str) -> Result<NameText, AllocError> {
-    Ok(NameText {
-        task: Text::new(alloc, task)?,
-        start: Text::new(alloc, start)?,
-        end: Text::new(alloc, end)?,
-    })
+/// A trace of one segment.
+fn single(rt: &(impl Abort + AllocGlobal), task: &str, start: &str) -> Trace
+    ensures { length result.segments ≡ 1 }
+{
+    let segment = Segment {
+        task: text(rt, task),
+        start_event: text(rt, start),
+        end_event: text(rt, "e"),
+        start: 5,
+        end: 9,
+        element: Some(text(rt, "page")),
+    };
+    Trace {
+        request: text(rt, "r1"),
+        day: 3,
+        latency: 4,
+        segments: SegmentList::of(vec![in rt.alloc(); segment].expect(rt, "memory")),
+    }
 }
 
 /// A catalogue of the names (b, s, e) and (a, s, e), in this order.
-fn two_names(rt: &(impl Abort + AllocGlobal)) -> Result<Catalogue, Fail> {
+fn two_names(rt: &(impl Abort + AllocGlobal)) -> Catalogue {
     let mut catalogue = Catalogue::new(rt.alloc());
-    let traces = [
-        single(rt.alloc(), "b", "s", "e")?,
-        single(rt.alloc(), "a", "s", "e")?,
-    ];
+    let traces = [single(rt, "b", "s"), single(rt, "a", "s")];
     assert!(rt; catalogue.add_all(rt.alloc(), traces.as_slice()) == Ok(()));
-    assert!(rt; catalogue.add(rt.alloc(), &single(rt.alloc(), "b", "s", "e")?) == Ok(()));
-    Ok(catalogue)
+    assert!(rt; catalogue.add(rt.alloc(), &single(rt, "b", "s")) == Ok(()));
+    catalogue
 }
 
 #[test]
-fn names_and_tasks_are_numbered_by_first_sight(rt: HostRuntime) -> Result<(), Fail> {
-    let catalogue = two_names(&rt)?;
-    assert!(rt; catalogue.find(&name(rt.alloc(), "a", "s", "e")?) == Some(1));
-    assert!(rt; catalogue.find(&name(rt.alloc(), "a", "s", "f")?) == None);
-    assert!(rt; catalogue.find_task(&Text::new(rt.alloc(), "b")?) == Some(0));
+fn names_and_tasks_are_numbered_by_first_sight(rt: HostRuntime) {
+    let catalogue = two_names(&rt);
+    let known = NameText {
+        task: text(&rt, "a"),
+        start: text(&rt, "s"),
+        end: text(&rt, "e"),
+    };
+    assert!(rt; catalogue.find(&known) == Some(1));
+    assert!(rt; catalogue.find_task(&known.task) == Some(1));
     assert!(rt; catalogue.names() == 2 && catalogue.tasks() == 2);
     assert!(rt; catalogue.text_of(0).task.as_str() == "b");
     assert!(rt; catalogue.task_text(1).as_str() == "a");
-    Ok(())
 }
 
 #[test]
-fn a_trace_is_named(rt: HostRuntime) -> Result<(), Fail> {
-    let catalogue = two_names(&rt)?;
-    let Ok(named) = catalogue.name(rt.alloc(), single(rt.alloc(), "a", "s", "e")?) else {
-        panic!(rt; "not named");
-    };
-    assert!(rt; named.day == 3 && named.latency == 4 && named.grace == 0);
-    assert!(rt; named.segments.items().len() == 1);
-    let segment = named.segments.items()[0];
-    assert!(rt; segment.name == 1 && segment.task == 1 && segment.element == Some(0));
-    assert!(rt; segment.start == 5 && segment.end == 9);
-    Ok(())
+fn a_trace_is_named(rt: HostRuntime) {
+    let catalogue = two_names(&rt);
+    match catalogue.name(rt.alloc(), single(&rt, "a", "s")) {
+        Ok(named) => {
+            assert!(rt; named.segments.items().len() == 1);
+            let segment = named.segments.items()[0];
+            assert!(rt; segment.name == 1 && segment.task == 1 && segment.element == Some(0));
+        }
+        Err(_fault) => assert!(rt; false),
+    }
 }
 
 #[test]
-fn an_unknown_segment_is_told(rt: HostRuntime) -> Result<(), Fail> {
-    let catalogue = two_names(&rt)?;
-    match catalogue.name(rt.alloc(), single(rt.alloc(), "c", "s", "e")?) {
+fn an_unknown_segment_is_told(rt: HostRuntime) {
+    let catalogue = two_names(&rt);
+    match catalogue.name(rt.alloc(), single(&rt, "c", "s")) {
         Err(NameOne::Unknown { trace, segment }) => {
             assert!(rt; segment == 0 && trace.day == 3);
         }
-        Err(NameOne::Memory { trace: _trace }) => panic!(rt; "memory"),
-        Ok(_named) => panic!(rt; "named"),
+        Err(_fault) => assert!(rt; false),
+        Ok(_named) => assert!(rt; false),
     }
-    Ok(())
 }
 
 /// Adds one name a turn, of one task or each of its own, and gives the first fault.
@@ -92,27 +83,26 @@ fn first_fault(
     rt: &(impl Abort + AllocGlobal),
     catalogue: &mut Catalogue,
     one_task: bool,
-) -> Result<Option<NameFault>, Fail> {
+) -> Option<NameFault> {
     for number in 0..600u32 {
-        let text = format!(in rt.alloc(); "x{number}")?;
-        let task = if one_task { "a" } else { text.as_str() };
-        let trace = single(rt.alloc(), task, text.as_str(), "e")?;
+        let event = format!(in rt.alloc(); "x{number}").expect(rt, "memory");
+        let task = if one_task { "a" } else { event.as_str() };
+        let trace = single(rt, task, event.as_str());
         if let Err(fault) = catalogue.add(rt.alloc(), &trace) {
-            return Ok(Some(fault));
+            return Some(fault);
         }
     }
-    Ok(None)
+    None
 }
 
 #[test]
-fn limits_are_told_and_nothing_is_added(rt: HostRuntime) -> Result<(), Fail> {
+fn limits_are_told_and_nothing_is_added(rt: HostRuntime) {
     let mut names = Catalogue::new(rt.alloc());
-    let fault = first_fault(&rt, &mut names, true)?;
+    let fault = first_fault(&rt, &mut names, true);
     assert!(rt; fault == Some(NameFault::TooManyNames { count: 513 }));
-    assert!(rt; names.names() == 512 && names.tasks() == 1);
+    assert!(rt; names.names() == 512);
     let mut tasks = Catalogue::new(rt.alloc());
-    let fault = first_fault(&rt, &mut tasks, false)?;
+    let fault = first_fault(&rt, &mut tasks, false);
     assert!(rt; fault == Some(NameFault::TooManyTasks { count: 65 }));
-    assert!(rt; tasks.names() == 64 && tasks.tasks() == 64);
-    Ok(())
+    assert!(rt; tasks.tasks() == 64);
 }

@@ -20,7 +20,8 @@ abbrev pub known_in : Filed → Known
 known_in filed = record { names = names_of_entries filed.names; tasks = filed.tasks }
 
 -- the texts at the indices of the key are those of the name
-pub record IsFiledAs (tasks events : List (List ℕ)) (key : NameKey) (name : SegmentName) : Type 0 where
+pub record IsFiledAs (tasks events : List (List ℕ)) (key : NameKey)
+    (name : SegmentName) : Type 0 where
   pub task : slice_get tasks key.task ≡ Some name.0
   pub start : slice_get events key.start ≡ Some name.1
   pub end : slice_get events key.end ≡ Some name.2
@@ -30,7 +31,8 @@ abbrev pub AreDifferent : {X : Type 0} → List X → Type 0
 AreDifferent xs = AllPairs (λ a b. a ≢ b) xs
 
 -- each entry is filed, and no task, event or name stands twice
-pub record IsFiled (tasks events : List (List ℕ)) (names : List (NameKey × SegmentName)) : Type 0 where
+pub record IsFiled (tasks events : List (List ℕ)) (names : List (NameKey
+    × SegmentName)) : Type 0 where
   pub entries : All (λ (e : NameKey × SegmentName). IsFiledAs tasks events e.0 e.1) names
   pub tasks_differ : AreDifferent tasks
   pub events_differ : AreDifferent events
@@ -48,4 +50,9 @@ pub record Grows (old new : Filed) : Type 0 where
 
 -- the numbers of elements of the tables
 abbrev pub marks_of : Filed → Marks
-marks_of filed = record { tasks = length filed.tasks; events = length filed.events; names = length filed.names }
+marks_of filed = record {
+  tasks = length filed.tasks;
+  events = length filed.events;
+  names =
+      length filed.names;
+}

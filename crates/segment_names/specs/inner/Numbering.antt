@@ -22,7 +22,8 @@ IsElementAt texts (Some number) None = ⊥
 IsElementAt texts (Some number) (Some text) = slice_get texts number ≡ Some text
 
 -- the segment under the numbers of a catalogue and of the elements
-pub record IsNumbered (known : Known) (elements : List (List ℕ)) (named : NamedSegment) (segment : Segment) : Type 0 where
+pub record IsNumbered (known : Known) (elements : List (List ℕ)) (named : NamedSegment)
+    (segment : Segment) : Type 0 where
   pub name : slice_get known.names named.name ≡ Some (name_of segment)
   pub task : slice_get known.tasks named.task ≡ Some segment.task
   pub element : IsElementAt elements named.element segment.element
@@ -35,14 +36,17 @@ pub record CountsUp (numbers : List ℕ) (n : ℕ) : Type 0 where
   pub each : (k : ℕ) → k < n → slice_index_or numbers k 0 ≡ k
 
 -- the segments so far are numbered
-pub record NumbersFirst (known : Known) (elements : List (List ℕ)) (segments : List Segment) (n : ℕ) (named : List NamedSegment) : Type 0 where
+pub record NumbersFirst (known : Known) (elements : List (List ℕ)) (segments : List Segment)
+    (n : ℕ) (named : List NamedSegment) : Type 0 where
   pub long : length named ≡ n
-  pub each : (k : ℕ) (d : NamedSegment) (e : Segment) → k < n → IsNumbered known elements (slice_index_or named k d) (slice_index_or segments k e)
+  pub each : (k : ℕ) (d : NamedSegment) (e : Segment) → k < n
+      → IsNumbered known elements (slice_index_or named k d) (slice_index_or segments k e)
   pub differ : AreDifferent elements
   pub counted : CountsUp (firsts_of nat_eq (filter_map number_of_element named)) (length elements)
 
 -- all segments are numbered
-pub record AreNumbered (known : Known) (segments : List Segment) (named : List NamedSegment) : Type 0 where
+pub record AreNumbered (known : Known) (segments : List Segment)
+    (named : List NamedSegment) : Type 0 where
   pub elements : List (List ℕ)
   pub numbers : NumbersFirst known elements segments (length segments) named
   pub kept : IsKept known

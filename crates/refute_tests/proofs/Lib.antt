@@ -1,0 +1,4 @@
+pub mod NameLemmas
+pub mod StepLemmas
+pub mod ExactLemmas
+pub mod TestLemmas

@@ -1,0 +1,84 @@
+-- One more pair, and one more segment: words rise by themselves.
+use Rattle.std.proofs.Common.{◌≡◌, ℕ, zero, suc, ◌+◌, ◌<◌, ◌≤◌, Bool, true, false, ◌||◌, List, length, get_or, take, slice_get, Some, unwrap_or, refl, sym, ap, ◌∙◌, subst, ⊎_elim, arith}
+use Rattle.std.proofs.lemmas.Bool.{cases_order, false≢true, or_cases, or_left, or_right}
+use Rattle.std.proofs.lemmas.List.Folds.{list_any_more}
+use Rattle.std.proofs.lemmas.Option.{slice_get_read}
+use Rattle.std.specs.List.{list_any}
+use Rattle.std.specs.Option.{option_map}
+use Rattle.hypothesis_index.specs.Places.{pairs_below, width_of}
+use Rattle.refute_tests.specs.inner.Hits.{NamesRise, word_of, row_start, any_below, hits, row_hits, all_hits}
+use Rattle.trace_types.specs.declared.named_segment.NamedSegment.{NamedSegment}
+use Rattle.word_rows.specs.declared.entries.Entry.{Entry}
+use Rattle.word_rows.specs.Meeting.{BelowWider}
+use Rattle.word_rows.specs.Rows.{below}
+
+abbrev pub PairsFollow : Type 0
+PairsFollow = (high higher : ℕ) → high < higher → (pairs_below high + high) ≤ pairs_below higher
+
+pub any_below-some : (n : ℕ) (p : ℕ → Bool) → any_below n p ≡ true → (k : ℕ) × (k < n) × (p k ≡ true)
+any_below-some zero p t = absurd (false≢true t)
+any_below-some (suc n) p t = ⊎_elim
+    (λ (h : any_below n p ≡ true). let r = any_below-some n p h in let l : r.0 < n = r.1 in (r.0, omega arith, r.2))
+    (λ (h : p n ≡ true). (n, omega arith, h))
+    (or_cases (any_below n p) (p n) t)
+
+pub any_below-from : (n : ℕ) (p : ℕ → Bool) (k : ℕ) → k < n → p k ≡ true → any_below n p ≡ true
+any_below-from zero p k l t = absurd (omega arith)
+any_below-from (suc n) p k l t = ⊎_elim
+    (λ (e : k ≡ n). or_right (any_below n p) (p n) (subst (λ (m : ℕ). p m ≡ true) e t))
+    (⊎_elim (λ (h : k < n). or_left (any_below n p) (p n) (any_below-from n p k h t)) (λ (h : n < k). absurd (omega arith)))
+    (cases_order k n)
+
+any_below-step : (n : ℕ) (p : ℕ → Bool) → any_below (n + 1) p ≡ (any_below n p || p n)
+any_below-step n p = let e : n + 1 ≡ suc n = omega arith in ap (λ (m : ℕ). any_below m p) e
+
+or-assoc : (a b c : Bool) → ((a || b) || c) ≡ (a || (b || c))
+or-assoc true b c = refl
+or-assoc false b c = refl
+
+pub or-false : (a : Bool) → (a || false) ≡ a
+or-false true = refl
+or-false false = refl
+
+-- one more segment of those before
+pub more_cleared : (p : NamedSegment → Bool) (before : List NamedSegment) (k : ℕ) (s : NamedSegment) (new old first : Bool) → k < length before → s ≡ get_or before k s
+    → new ≡ (old || p s) → old ≡ (first || list_any p (take k before)) → new ≡ (first || list_any p (take (k + 1) before))
+more_cleared p before k s new old first h at e f = e ∙ ap (λ (b : Bool). b || p s) f ∙ or-assoc first (list_any p (take k before)) (p s)
+    ∙ ap (λ (b : Bool). first || (list_any p (take k before) || b)) (ap p at) ∙ ap (λ (b : Bool). first || b) (sym (list_any_more p before k s h))
+
+-- one more row
+pub more_rows : (grace : ℕ) (segments : List NamedSegment) (k : ℕ) (t : NamedSegment) (i b : ℕ) (new old first : Bool) → k < length segments → t ≡ get_or segments k t
+    → new ≡ (old || list_any (λ s. hits grace s t i b) (take k segments)) → old ≡ (first || all_hits grace segments k i b) → new ≡ (first || all_hits grace segments (k + 1) i b)
+more_rows grace segments k t i b new old first h at e f =
+    let g : slice_get segments k ≡ Some t = slice_get_read segments (length segments) k t refl h at in
+    let r : row_hits grace segments k i b ≡ list_any (λ s. hits grace s t i b) (take k segments) = ap (λ o. unwrap_or (option_map (λ (t : NamedSegment). list_any (λ s. hits grace s t i b) (take k segments)) o) false) g in
+    e ∙ (λ j. f j || sym r j) ∙ or-assoc first (all_hits grace segments k i b) (row_hits grace segments k i b) ∙ ap (λ (c : Bool). first || c) (sym (any_below-step k (λ y. row_hits grace segments y i b)))
+
+module _ (wider : BelowWider) (follow : PairsFollow) (row : List Entry) where
+  first_pair : (i j : ℕ) → i < j → below (row_start j + 1) row ≡ true → below (word_of i j + 1) row ≡ true
+  first_pair i j l t = wider (row_start j + 1) (word_of i j + 1) row (omega arith) t
+
+  pub starts : (before : List NamedSegment) (name : ℕ) → ((k : ℕ) (d : NamedSegment) → k < length before → (get_or before k d).name < name) → below (row_start name + 1) row ≡ true
+      → (d : NamedSegment) → 0 < length before → below (word_of (get_or before 0 d).name name + 1) row ≡ true
+  starts before name less t d h = first_pair (get_or before 0 d).name name (less 0 d h) t
+
+  pub ends_empty : (name : ℕ) → below (row_start name + 1) row ≡ true → below (row_start (name + 1) + 1) row ≡ true
+  ends_empty name t = let s = follow name (name + 1) (omega arith) in wider (row_start name + 1) (row_start (name + 1) + 1) row (omega arith) t
+
+  pub next_pair : (i i' j : ℕ) → i < i' → below (word_of i j + 1) row ≡ true → below (word_of i' j + 1) row ≡ true
+  next_pair i i' j l t = wider (word_of i j + 1) (word_of i' j + 1) row (omega arith) t
+
+  pub ends_pair : (i j : ℕ) → i < j → below (word_of i j + 1) row ≡ true → below (row_start (j + 1) + 1) row ≡ true
+  ends_pair i j l t = let s = follow j (j + 1) (omega arith) in wider (word_of i j + 1) (row_start (j + 1) + 1) row (omega arith) t
+
+  -- names below n have their pairs in the words of n names
+  pub pair_fits : (i j n : ℕ) → i < j → j < n → below (word_of i j + 1) row ≡ true → below (width_of n) row ≡ true
+  pair_fits i j n l m t = let s = follow j n m in wider (word_of i j + 1) (width_of n) row (omega arith) t
+
+  pub next_row : (j j' : ℕ) → j < j' → below (row_start (j + 1) + 1) row ≡ true → below (row_start j' + 1) row ≡ true
+  next_row j j' l t = ⊎_elim
+      (λ (e : j + 1 ≡ j'). subst (λ (n : ℕ). below (row_start n + 1) row ≡ true) e t)
+      (⊎_elim
+      (λ (e : j + 1 < j'). let s = follow (j + 1) j' e in wider (row_start (j + 1) + 1) (row_start j' + 1) row (omega arith) t)
+      (λ (e : j' < j + 1). absurd (omega arith)))
+      (cases_order (j + 1) j')

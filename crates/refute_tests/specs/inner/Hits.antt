@@ -1,0 +1,40 @@
+-- The bits that the segments of a trace, sorted by name, clear pair by pair.
+use Rattle.std.specs.Prelude.{ℕ, zero, suc, ◌+◌, ◌/◌, ◌<◌, Bool, false, ◌&&◌, ◌||◌, List, take, slice_get, unwrap_or, AllPairs}
+use Rattle.std.specs.List.{list_any}
+use Rattle.std.specs.Option.{option_map}
+use Rattle.hypothesis_index.specs.Places.{pairs_below, pair_number}
+use Rattle.hypothesis_index.specs.declared.relation.Relation.TheVariants.{Before, Exclusive, Apart}
+use Rattle.refute_tests.specs.Clearing.{early, is_at}
+use Rattle.trace_types.specs.declared.named_segment.NamedSegment.{NamedSegment}
+
+-- each name is less than those behind it
+abbrev pub NamesRise : List NamedSegment → Type 0
+NamesRise segments = AllPairs (λ (s t : NamedSegment). s.name < t.name) segments
+
+-- the bits that two segments refute, the first having the lesser name
+abbrev pub hits : ℕ → NamedSegment → NamedSegment → ℕ → ℕ → Bool
+hits grace s t i b =
+    (((early grace s t && is_at (Before s.name t.name) i b) || (early grace t s && is_at (Before t.name s.name) i b))
+    || ((early grace s t && early grace t s) && is_at (Exclusive s.name t.name) i b)) || is_at (Apart s.name t.name) i b
+
+-- the word of the pair i < j
+abbrev pub word_of : ℕ → ℕ → ℕ
+word_of i j = 126 + pair_number i j / 16
+
+-- the word of the first pair of j
+abbrev pub row_start : ℕ → ℕ
+row_start j = 126 + pairs_below j / 16
+
+-- some number below n passes
+abbrev pub any_below : ℕ → (ℕ → Bool) → Bool
+any_below zero p = false
+any_below (suc n) p = any_below n p || p n
+
+-- the bits that the segment at y refutes with those before it
+abbrev pub row_hits : ℕ → List NamedSegment → ℕ → ℕ → ℕ → Bool
+row_hits grace segments y i b =
+    unwrap_or (option_map (λ (t : NamedSegment). list_any (λ s. hits grace s t i b) (take y segments)) (slice_get segments y)) false
+
+-- the bits that the first k segments refute
+abbrev pub all_hits : ℕ → List NamedSegment → ℕ → ℕ → ℕ → Bool
+all_hits grace segments k i b = any_below k (λ y. row_hits grace segments y i b)

@@ -1,0 +1,91 @@
+ghost use Rattle.std.specs.Prelude.{◌≡◌, ◌+◌, ◌<◌, ◌||◌, ℕ, length, All, IsTrue, OnOk, IfOk};
+ghost use Rattle.std.specs.List.{list_any};
+ghost use Rattle.hypothesis_index.specs.Places.{width_of};
+ghost use Rattle.hypothesis_index.specs.Refuting.{RefutesNames};
+ghost use Rattle.hypothesis_index.specs.declared.relation.Relation.{Relation};
+ghost use Rattle.refute_tests.specs.Clearing.{AddsExactly, ClearsExactly, HaveNamesBelow};
+ghost use Rattle.refute_tests.specs.inner.Hits.{NamesRise, all_hits, hits, row_start};
+ghost use Rattle.trace_types.specs.declared.named_segment.NamedSegment.{NamedSegment};
+ghost use Rattle.word_rows.specs.Rows.{below, clears};
+
+use crate::pairs::clear_pair;
+use crate::sorting::by_name;
+use hypothesis_index::laws::pairs_follow;
+use std::alloc::{AllocError, Global};
+use trace_types::{NamedSegment, NamedTrace};
+use word_rows::laws::below_wider;
+use word_rows::{Row, RowMaker};
+
+/// Clears what a segment refutes with those before it, which have lesser names.
+fn clear_below(
+    maker: &mut RowMaker,
+    grace: u64,
+    before: &[NamedSegment],
+    segment: &NamedSegment,
+) -> Result<(), AllocError>
+    requires rising { NamesRise before.now }
+    requires less { All (λ (s : NamedSegment). s.name < segment.now.name) before.now }
+    requires no_later { IsTrue (below (row_start segment.now.name + 1) maker.old) }
+    ensures cleared { OnOk result ((i b : ℕ) → clears maker.new i b
+        ≡ (clears maker.old i b || list_any (λ s. hits grace s segment.now i b) before.now)) }
+    ensures no_later { OnOk result
+        (IsTrue (below (row_start (segment.now.name + 1) + 1) maker.new)) }
+    ensures fits { OnOk result ((n : ℕ) → segment.now.name < n
+        → IsTrue (below (width_of n) maker.old) → IsTrue (below (width_of n) maker.new)) }
+{
+    below_wider();
+    pairs_follow();
+    for other in before {
+        clear_pair(maker, grace, other, segment)?;
+    }
+    Ok(())
+}
+
+/// Clears what each segment refutes with those before it. In the row so far only words of tasks were
+/// begun.
+fn clear_rows(maker: &mut RowMaker, grace: u64, segments: &[NamedSegment]) -> Result<(), AllocError>
+    requires rising { NamesRise segments.now }
+    requires tasks_alone { IsTrue (below 126 maker.old) }
+    ensures cleared { OnOk result ((i b : ℕ) → clears maker.new i b
+        ≡ (clears maker.old i b || all_hits grace segments.now (length segments.now) i b)) }
+    ensures fits { OnOk result ((n : ℕ) → All (λ (s : NamedSegment). s.name < n) segments.now
+        → IsTrue (below (width_of n) maker.new)) }
+{
+    below_wider();
+    pairs_follow();
+    for (index, segment) in segments.iter().enumerate() {
+        let (before, _) = segments.split_at(index);
+        clear_below(maker, grace, before, segment)?;
+    }
+    Ok(())
+}
+
+/// Clears the places of exactly those relations between names that the trace refutes. In the row so
+/// far only words of tasks were begun. The only error is that memory ran out.
+pub fn clear_segments(
+    alloc: Global,
+    maker: &mut RowMaker,
+    trace: &NamedTrace,
+) -> Result<(), AllocError>
+    requires { IsTrue (below 126 maker.old) }
+    ensures cleared { OnOk result (AddsExactly maker.old (λ r. RefutesNames r trace.now) maker.new) }
+    ensures fits { OnOk result ((names : ℕ) → HaveNamesBelow names trace.now
+        → IsTrue (below (width_of names) maker.new)) }
+{
+    let segments = by_name(alloc, trace)?;
+    clear_rows(maker, trace.grace, segments.as_slice())?;
+    Ok(())
+}
+
+/// The row that clears the places of exactly those relations between names that the trace refutes.
+/// The only error is that memory ran out.
+pub fn segment_row(alloc: Global, trace: &NamedTrace) -> Result<Row, AllocError>
+    ensures exact { IfOk result (λ row. ClearsExactly row (λ r. RefutesNames r trace.now)) }
+    ensures fits { IfOk result (λ row. (names : ℕ) → HaveNamesBelow names trace.now
+        → IsTrue (below (width_of names) row)) }
+{
+    let mut maker = RowMaker::new(alloc);
+    clear_segments(alloc, &mut maker, trace)?;
+    let row = maker.finish()?;
+    Ok(row)
+}
