@@ -7,8 +7,7 @@ use Rattle.word_rows.specs.Words.{IsMeet, full_words}
 use Rattle.word_rows.specs.Accounts.{LackOnly}
 use Rattle.word_rows.specs.Changes.{is_idle}
 use Rattle.word_rows.specs.Sound.{IsSound}
-use Rattle.word_rows.specs.Machine.{StepState, StepEvent, IsSoundState, HasRow, HaveRows}
-use Rattle.word_rows.specs.Machine.{opening_state, step, after}
+use Rattle.word_rows.specs.Machine.{StepState, StepEvent, IsSoundState, HasRow, HaveRows, opening_state, step, after}
 
 -- the state at opening is sound
 abbrev pub OpeningIsSound : Type 0

@@ -1,21 +1,15 @@
 -- The step machine: words, the number of shares at opening, and a view for each seat; what each
 -- event does to them, which fault it has, and its reply.
-use Rattle.std.specs.Prelude.{◌≡◌, ℕ, Bool, true, false, not, ◌||◌, ◌==◌, nat_lt, if◌then◌else◌}
-use Rattle.std.specs.Prelude.{Option, Some, None, Result, Ok, Err, List, [], ◌∷◌, ◌++◌, map, length}
-use Rattle.std.specs.Prelude.{slice_index, slice_index_or, slice_set}
+use Rattle.std.specs.Prelude.{◌≡◌, ℕ, Bool, true, false, not, ◌||◌, ◌==◌, nat_lt, if◌then◌else◌, Option, Some, None, Result, Ok, Err, List, [], ◌∷◌, ◌++◌, map, length, slice_index, slice_index_or, slice_set}
 use Rattle.word_rows.specs.declared.entries.Entry.{Entry}
 use Rattle.word_rows.specs.declared.views.View.{View}
 pub use Rattle.word_rows.specs.declared.events.StepEvent.{StepEvent}
-pub use Rattle.word_rows.specs.declared.events.StepEvent.TheVariants.{Clear as clear, Load as load}
-pub use Rattle.word_rows.specs.declared.events.StepEvent.TheVariants.{Split as split, Join as join}
-pub use Rattle.word_rows.specs.declared.events.StepEvent.TheVariants.{Close as close}
+pub use Rattle.word_rows.specs.declared.events.StepEvent.TheVariants.{Clear as clear, Load as load, Split as split, Join as join, Close as close}
 pub use Rattle.word_rows.specs.declared.replies.Reply.{Reply}
-pub use Rattle.word_rows.specs.declared.replies.Reply.TheVariants.{Cleared, Loaded, Split, Joined}
-pub use Rattle.word_rows.specs.declared.replies.Reply.TheVariants.{Closed}
+pub use Rattle.word_rows.specs.declared.replies.Reply.TheVariants.{Cleared, Loaded, Split, Joined, Closed}
 use Rattle.word_rows.specs.Rows.{is_row, below, same_row}
 use Rattle.word_rows.specs.Words.{AreWords, full_words, without_entry}
-use Rattle.word_rows.specs.Changes.{first_view, empty_view, is_idle, next_view, with_reading}
-use Rattle.word_rows.specs.Changes.{left_view, new_view, joined_view}
+use Rattle.word_rows.specs.Changes.{first_view, empty_view, is_idle, next_view, with_reading, left_view, new_view, joined_view}
 use Rattle.word_rows.specs.Sound.{IsSound}
 
 -- seats are numbered from 0 in the order in which they are made, and so are their views; a seat is

@@ -1,6 +1,5 @@
 -- What is promised of rows and meets, over the definitions alone.
-use Rattle.std.specs.Prelude.{◌≡◌, ℕ, ◌^◌, ◌<◌, ◌≤◌, true, ◌&&◌, ◌||◌, ◌==◌, nat_lt, List, [], ◌++◌}
-use Rattle.std.specs.Prelude.{length, IsPermutation, bit_and, slice_index}
+use Rattle.std.specs.Prelude.{◌≡◌, ℕ, ◌^◌, ◌<◌, ◌≤◌, true, ◌&&◌, ◌||◌, ◌==◌, nat_lt, List, [], ◌++◌, length, IsPermutation, bit_and, slice_index}
 use Rattle.std.specs.Int.{bit_not, w64}
 use Rattle.word_rows.specs.declared.entries.Entry.{Entry}
 use Rattle.word_rows.specs.declared.views.Reading.{Reading}

@@ -3,8 +3,7 @@ use Rattle.std.specs.Prelude.{◌≡◌, ℕ, ◌<◌, ◌⊎◌, true, List, []
 use Rattle.word_rows.specs.declared.views.View.{View}
 use Rattle.word_rows.specs.Rows.{rows_clear, below, rows_below}
 use Rattle.word_rows.specs.Words.{bit_of}
-use Rattle.word_rows.specs.Accounts.{Each, view_clears, views_clear, lacks, readings_below}
-use Rattle.word_rows.specs.Accounts.{total_shares, AreZero}
+use Rattle.word_rows.specs.Accounts.{Each, view_clears, views_clear, lacks, readings_below, total_shares, AreZero}
 use Rattle.word_rows.specs.Changes.{is_idle}
 
 -- no row is in progress, or one of which at least one entry is cleared and at least one is not

@@ -1,6 +1,5 @@
 -- Lists of words of 64 bits, and what is left of them.
-use Rattle.std.specs.Prelude.{◌≡◌, ℕ, ◌^◌, ◌<◌, min, if◌then◌else◌, List, ◌++◌, length, replicate}
-use Rattle.std.specs.Prelude.{bit_and, bit_xor, slice_index, slice_set}
+use Rattle.std.specs.Prelude.{◌≡◌, ℕ, ◌^◌, ◌<◌, min, if◌then◌else◌, List, ◌++◌, length, replicate, bit_and, bit_xor, slice_index, slice_set}
 use Rattle.std.specs.Int.{bit_at}
 use Rattle.word_rows.specs.declared.entries.Entry.{Entry}
 use Rattle.word_rows.specs.Rows.{rows_clear}

@@ -1,12 +1,7 @@
 //! What follows from the definitions alone. Each law is the contract of a function that does
 //! nothing.
-ghost use Rattle.word_rows.specs.Keeping.{EventsKeepSound, OpeningIsSound, StepKeepsSound};
-ghost use Rattle.word_rows.specs.Keeping.{WholeShareKnowsAll};
-ghost use Rattle.word_rows.specs.Meeting.{BelowWider, BlockLacks, ClearsAppend, ClearsBelow};
-ghost use Rattle.word_rows.specs.Meeting.{CommonByAnd, CommonIsMeet, ComplementClears, LacksAppend};
-ghost use Rattle.word_rows.specs.Meeting.{MeetBegins, MeetByBits, MeetIsUnique, MeetsFollow};
-ghost use Rattle.word_rows.specs.Meeting.{OrderIsFree, RowIsSame, RowsClearAppend, SameRowIsOne};
-ghost use Rattle.word_rows.specs.Meeting.{WidenedMeet};
+ghost use Rattle.word_rows.specs.Keeping.{EventsKeepSound, OpeningIsSound, StepKeepsSound, WholeShareKnowsAll};
+ghost use Rattle.word_rows.specs.Meeting.{BelowWider, BlockLacks, ClearsAppend, ClearsBelow, CommonByAnd, CommonIsMeet, ComplementClears, LacksAppend, MeetBegins, MeetByBits, MeetIsUnique, MeetsFollow, OrderIsFree, RowIsSame, RowsClearAppend, SameRowIsOne, WidenedMeet};
 
 /// The state of the step machine at opening is sound.
 pub fn opening_is_sound()

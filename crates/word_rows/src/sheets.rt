@@ -1,7 +1,6 @@
 ghost use Rattle.std.specs.Prelude.{◌≡◌, ◌<◌, ◌↔◌, [], ◌∷◌, length, IfOk, IsTrue, OnErr, OnOk};
 ghost use Rattle.word_rows.specs.Rows.{below};
-ghost use Rattle.word_rows.specs.Words.{AreWords, IsCommon, IsMeet, bit_of, full_words};
-ghost use Rattle.word_rows.specs.Words.{widened_words};
+ghost use Rattle.word_rows.specs.Words.{AreWords, IsCommon, IsMeet, bit_of, full_words, widened_words};
 
 use crate::{Entry, Row};
 use std::alloc::{AllocError, Global};

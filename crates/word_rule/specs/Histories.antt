@@ -1,15 +1,13 @@
 -- Histories: lists of events of the step machine, of which the calls of all threads speak. A past
 -- is a list of events that begins the history of a table; a pass knows some pasts.
-use Rattle.std.specs.Prelude.{◌≡◌, ℕ, ◌==◌, true, if◌then◌else◌, Ok, List, [], ◌∷◌, ◌++◌, length}
-use Rattle.std.specs.Prelude.{take}
+use Rattle.std.specs.Prelude.{◌≡◌, ℕ, ◌==◌, true, if◌then◌else◌, Ok, List, [], ◌∷◌, ◌++◌, length, take}
 use mathlib.Core.Option.{some}
 use mathlib.Core.List.{IsPrefix}
 use lib.ListN.{get_elem?}
 use Rattle.word_rows.specs.declared.entries.Entry.{Entry}
 use Rattle.word_rows.specs.declared.views.View.{View}
 use Rattle.word_rows.specs.declared.events.StepEvent.{StepEvent}
-use Rattle.word_rows.specs.declared.events.StepEvent.TheVariants.{Clear as clear, Load as load}
-use Rattle.word_rows.specs.declared.events.StepEvent.TheVariants.{Close as close}
+use Rattle.word_rows.specs.declared.events.StepEvent.TheVariants.{Clear as clear, Load as load, Close as close}
 use Rattle.word_rows.specs.declared.replies.Reply.{Reply}
 use Rattle.word_rows.specs.declared.replies.Reply.TheVariants.{Cleared, Loaded, Closed}
 use Rattle.word_rows.specs.Accounts.{views_clear}

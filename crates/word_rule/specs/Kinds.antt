@@ -1,17 +1,13 @@
 -- Each kind of atomic step that changes a word or a view, and the end of the table, is a step of
 -- the step machine; the other loads change nothing.
-use Rattle.std.specs.Prelude.{◌≡◌, ◌≢◌, ℕ, ◌^◌, ◌<◌, ◌≤◌, true, false, IsTrue, Ok, List, [], ◌∷◌}
-use Rattle.std.specs.Prelude.{◌++◌, length, map, bit_and, slice_index, slice_set}
+use Rattle.std.specs.Prelude.{◌≡◌, ◌≢◌, ℕ, ◌^◌, ◌<◌, ◌≤◌, true, false, IsTrue, Ok, List, [], ◌∷◌, ◌++◌, length, map, bit_and, slice_index, slice_set}
 use Rattle.std.specs.Int.{bit_not, w64}
 use mathlib.Core.Option.{none, some}
 use lib.ListN.{get_elem?}
 use Rattle.atomic_table.specs.Table.{step as base_step, keeps, stepped}
 use Rattle.word_rows.specs.declared.entries.Entry.{Entry}
-use Rattle.word_rows.specs.declared.events.StepEvent.TheVariants.{Clear as clear, Load as load}
-use Rattle.word_rows.specs.declared.events.StepEvent.TheVariants.{Split as split, Join as join}
-use Rattle.word_rows.specs.declared.events.StepEvent.TheVariants.{Close as close}
-use Rattle.word_rows.specs.declared.replies.Reply.TheVariants.{Cleared, Loaded, Split, Joined}
-use Rattle.word_rows.specs.declared.replies.Reply.TheVariants.{Closed}
+use Rattle.word_rows.specs.declared.events.StepEvent.TheVariants.{Clear as clear, Load as load, Split as split, Join as join, Close as close}
+use Rattle.word_rows.specs.declared.replies.Reply.TheVariants.{Cleared, Loaded, Split, Joined, Closed}
 use Rattle.word_rows.specs.Rows.{below}
 use Rattle.word_rows.specs.Changes.{is_idle}
 use Rattle.word_rows.specs.Sound.{IsSound}
@@ -19,8 +15,7 @@ use Rattle.word_rows.specs.Machine.{StepState, step, can_clear, entry_at}
 use Rattle.word_rule.specs.declared.rule.Plan.{Plan}
 use Rattle.word_rule.specs.declared.rule.Knowledge.{Knowledge}
 use Rattle.word_rule.specs.Rule.{TableState, SeatState, HasHistory, machine_state, view_of}
-use Rattle.word_rule.specs.Plays.{ClearPlay, SkipPlay, LoadPlay, TellPlay, left_knowledge}
-use Rattle.word_rule.specs.Plays.{new_knowledge, joined_knowledge, no_knowledge}
+use Rattle.word_rule.specs.Plays.{ClearPlay, SkipPlay, LoadPlay, TellPlay, left_knowledge, new_knowledge, joined_knowledge, no_knowledge}
 
 -- the table with other seats
 abbrev pub with_seats : TableState → List Knowledge → TableState

@@ -3,8 +3,7 @@ use Rattle.std.specs.Prelude.{◌≡◌, ℕ, ◌^◌, ◌<◌, ◌≤◌, ◌==
 use Rattle.std.specs.Int.{bit_at}
 use Rattle.atomic_table.specs.Table.{Step}
 use Rattle.word_rows.specs.declared.entries.Entry.{Entry}
-use Rattle.word_rows.specs.Changes.{empty_view, next_view, with_reading, left_view, new_view}
-use Rattle.word_rows.specs.Changes.{joined_view}
+use Rattle.word_rows.specs.Changes.{empty_view, next_view, with_reading, left_view, new_view, joined_view}
 use Rattle.word_rows.specs.Machine.{entry_at}
 use Rattle.word_rule.specs.declared.rule.Plan.{Plan}
 use Rattle.word_rule.specs.declared.rule.Knowledge.{Knowledge}

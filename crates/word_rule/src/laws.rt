@@ -1,8 +1,6 @@
 //! What the rule of the table means, over the definitions alone. Each law is the contract of a
 //! function that does nothing.
-ghost use Rattle.word_rule.specs.Kinds.{ClearIsStep, CloseIsStep, JoinIsStep, LoadIsStep};
-ghost use Rattle.word_rule.specs.Kinds.{LookIsNoStep, RuleIsSound, SkipIsStep, SplitIsStep};
-ghost use Rattle.word_rule.specs.Kinds.{TellIsNoStep};
+ghost use Rattle.word_rule.specs.Kinds.{ClearIsStep, CloseIsStep, JoinIsStep, LoadIsStep, LookIsNoStep, RuleIsSound, SkipIsStep, SplitIsStep, TellIsNoStep};
 
 use word_rows::laws::{complement_clears, events_keep_sound};
 

@@ -2,8 +2,7 @@
 ghost use Rattle.std.specs.Prelude.{ℕ, List, []};
 ghost use Rattle.word_rows.specs.declared.entries.Entry.{Entry};
 ghost use Rattle.word_rule.specs.declared.rule.Plan.{Plan};
-ghost use Rattle.word_rule.specs.Plays.{ClearPlay, LoadPlay, SkipPlay, TellPlay, joined_knowledge};
-ghost use Rattle.word_rule.specs.Plays.{left_knowledge, new_knowledge, no_knowledge};
+ghost use Rattle.word_rule.specs.Plays.{ClearPlay, LoadPlay, SkipPlay, TellPlay, joined_knowledge, left_knowledge, new_knowledge, no_knowledge};
 
 use crate::rule::Knowledge;
 use atomic_table::{Join, Play, Split};

@@ -6,8 +6,7 @@ ghost use Rattle.word_rows.specs.Changes.{is_idle, readings_from, with_readings}
 ghost use Rattle.word_rule.specs.Holdings.{IsOf};
 ghost use Rattle.word_rule.specs.inner.Keeping.{IsSeated};
 ghost use Rattle.word_rule.specs.Shown.{shows};
-ghost use Rattle.word_rule.specs.Histories.{ArePrefixes, IsLoadBetween, IsOnePast, KnowsMore};
-ghost use Rattle.word_rule.specs.Histories.{WasCleared, read_until};
+ghost use Rattle.word_rule.specs.Histories.{ArePrefixes, IsLoadBetween, IsOnePast, KnowsMore, WasCleared, read_until};
 
 use crate::passes::Pass;
 use crate::rule::{Knowledge, OneHistory, Plan};

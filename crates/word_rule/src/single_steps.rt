@@ -6,8 +6,7 @@ ghost use Rattle.word_rows.specs.Rows.{below, is_row};
 ghost use Rattle.word_rows.specs.Changes.{is_idle};
 ghost use Rattle.word_rows.specs.Machine.{can_clear};
 ghost use Rattle.word_rule.specs.inner.Keeping.{IsSeated};
-ghost use Rattle.word_rule.specs.Plays.{Clears, Loads, joined_knowledge, left_knowledge};
-ghost use Rattle.word_rule.specs.Plays.{new_knowledge};
+ghost use Rattle.word_rule.specs.Plays.{Clears, Loads, joined_knowledge, left_knowledge, new_knowledge};
 
 use crate::plays::{Clear, Counted, JoinUp, Load, Offered, Planned, Skip, SplitOff, Tell};
 use crate::rule::{Knowledge, OneHistory, Plan};
