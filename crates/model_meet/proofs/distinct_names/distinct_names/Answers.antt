@@ -14,6 +14,6 @@ loop-trace-preserved c = AddsDistinct-more_lists (λ (t : Trace). t.segments) na
 pub returns-clause-lists : goal.returns-clause-lists
 returns-clause-lists c =
     let all : take c.loop-trace.trace-index c.args.traces.now ≡ c.args.traces.now = take_all c.loop-trace.trace-index c.args.traces.now (omega arith) in
-    names_listed (segments_of by_text c.args.traces.now) c.loop-trace.names.items c.sort.new.self.items
+    names_listed (segments_of by_text c.args.traces.now) c.loop-trace.names.items c.sort_unstable.new.self.items
     (subst (λ (l : List Trace). AddsDistinct (map name_of (segments_of by_text l)) [] (c.loop-trace.names.items)) all c.loop-trace.invariant)
-    c.in_ok-sort.ensures.permutation c.in_ok-sort.ensures.sorted
+    c.sort_unstable.ensures.permutation c.sort_unstable.ensures.sorted
