@@ -3,6 +3,7 @@
 #![tactic(auto)]
 
 mod catalogue;
+pub mod laws;
 mod name_fault;
 mod name_key;
 mod name_one;
