@@ -13,12 +13,13 @@ use Rattle.word_rows.specs.Machine.{StepState, StepEvent, IsSoundState, HasRow, 
 abbrev pub OpeningIsSound : Type 0
 OpeningIsSound = (width all : ℕ) → IsSoundState (opening_state width all)
 
--- an event, with or without a fault, keeps a state sound
+-- an event whose row has the form of a row, with or without a fault, keeps a state sound
 abbrev pub StepKeepsSound : Type 0
 StepKeepsSound = (s : StepState) (e : StepEvent) → IsSoundState s → HasRow e
     → IsSoundState (step s e).0
 
--- whatever the width, the number of shares and the events are, the state after them is sound
+-- whatever the width, the number of shares and the events are, as long as each row has the form of
+-- a row, the state after them is sound
 abbrev pub EventsKeepSound : Type 0
 EventsKeepSound = (width all : ℕ) (events : List StepEvent) → HaveRows events
     → IsSoundState (after width all events).0

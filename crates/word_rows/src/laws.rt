@@ -8,12 +8,13 @@ pub fn opening_is_sound()
     ensures { OpeningIsSound }
 {}
 
-/// Each event, with or without a fault, keeps the state sound.
+/// Each event whose row has the form of a row, with or without a fault, keeps the state sound.
 pub fn step_keeps_sound()
     ensures { StepKeepsSound }
 {}
 
-/// Whatever the width, the number of shares and the events are, the state after them is sound.
+/// Whatever the width, the number of shares and the events are, as long as each row has the form of
+/// a row, the state after them is sound.
 pub fn events_keep_sound()
     ensures { EventsKeepSound }
 {}

@@ -37,7 +37,7 @@ pub record MayClear (plan : Plan) (k : Knowledge) (row : List Entry) (e : Entry)
   pub below_width : below plan.width row ≡ true
   pub next : entry_at row k.view.cleared ≡ e
 
--- between any two atomic steps the words and all views are sound
+-- a table that meets the rule has sound words and views
 abbrev pub RuleIsSound : Type 0
 RuleIsSound =
     (plan : Plan) (s : TableState)

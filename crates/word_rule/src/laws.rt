@@ -4,7 +4,7 @@ ghost use Rattle.word_rule.specs.Kinds.{ClearIsStep, CloseIsStep, JoinIsStep, Lo
 
 use word_rows::laws::{complement_clears, events_keep_sound};
 
-/// Between any two atomic steps the words and all views are sound.
+/// A table that meets the rule has sound words and views.
 pub fn rule_is_sound()
     ensures { RuleIsSound }
 {

@@ -9,7 +9,7 @@
 //!   shares, a note one without. The shares of all passes add up to the number at opening.
 //! - done rows, seen rows, readings: the rows that a pass offered, those that it was told of, and
 //!   the values that it read.
-//! - past: a prefix of the history that a pass knows: all events up to its last step.
+//! - past: a prefix of the history that a pass knows: all events up to its last offer or read.
 //!
 //! Example: a table of one word is opened with 2 shares and split. The first pass offers the row
 //! that clears bit 0 of word 0, and the second reads 0xfffffffffffffffe. The first then knows the

@@ -63,7 +63,8 @@ impl MeetTable {
         ensures more { KnowsMore pass.old.pasts pass.new.pasts }
         ensures one { IsOnePast pass.new.pasts }
 
-        // In every such history some view had cleared each bit that is 0 before it was read.
+        // In every such history this word is loaded with this value when some view has cleared each
+        // bit that is 0.
         ensures cleared { (i b : ℕ) → i < length into.new → b < 64 → bit_of into.new i b ≡ 0
             → (history : List StepEvent) → ArePrefixes pass.new.pasts history
             → WasCleared self.now.width self.now.all history i (slice_index into.new i) b }

@@ -11,8 +11,8 @@ pub struct Plan {
     pub all: u32,
 }
 
-/// What a seat did and was told, and the pasts that it knows: the events up to its last step, or
-/// after a join those of both seats. No value of it is made.
+/// What a seat did and was told, and the pasts that it knows: the events up to its last offer
+/// or read, or after a join those of both seats. No value of it is made.
 pub struct Knowledge {
     pub view: View,
     pub pasts: LinkedList<LinkedList<StepEvent>>,
