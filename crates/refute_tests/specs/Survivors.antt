@@ -1,0 +1,14 @@
+-- Which relations no trace of a list refutes, as bits of words.
+use Rattle.std.specs.Prelude.{◌≡◌, ℕ, ◌<◌, ◌↔◌, List, length}
+use Rattle.hypothesis_index.specs.Refuting.{IsPlaceOfSome, Refutes}
+use Rattle.hypothesis_index.specs.declared.relation.Relation.{Relation}
+use Rattle.trace_types.specs.declared.named_trace.NamedTrace.{NamedTrace}
+use Rattle.trace_types.specs.Surviving.{IsRefuted}
+use Rattle.word_rows.specs.Words.{AreWords, bit_of}
+
+-- words of 64 bits in which a bit is 0 exactly where it is the place of a relation that some trace
+-- of the list refutes
+pub record AreSurvivors (traces : List NamedTrace) (words : List ℕ) : Type 0 where
+  pub bound : AreWords words
+  pub bits : (i b : ℕ) → i < length words → b < 64 → (bit_of words i b ≡ 0)
+      ↔ IsPlaceOfSome (λ (r : Relation). IsRefuted (Refutes r) traces) i b
