@@ -1,3 +1,4 @@
+pub mod BelowLemmas
 pub mod FirstLemmas
 pub mod FindLemmas
 pub mod TextLemmas

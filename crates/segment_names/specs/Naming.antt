@@ -1,6 +1,7 @@
 -- A trace under the numbers of a catalogue, and why a trace is not named.
-use Rattle.std.specs.Prelude.{◌≡◌, ℕ, ◌<◌, Some, None, List, slice_get}
+use Rattle.std.specs.Prelude.{◌≡◌, ℕ, ◌<◌, All, Some, None, List, length, slice_get}
 use Rattle.std.specs.List.{enumerate_from}
+use Rattle.trace_types.specs.declared.named_segment.NamedSegment.{NamedSegment}
 use Rattle.trace_types.specs.declared.named_trace.NamedTrace.{NamedTrace}
 use Rattle.trace_types.specs.declared.segment.Segment.{Segment}
 use Rattle.trace_types.specs.declared.trace.Trace.{Trace}
@@ -16,6 +17,11 @@ use Rattle.segment_names.specs.Known.{Known, name_number}
 abbrev pub IsNamed : Known → NamedTrace → Trace → Type 0
 IsNamed known named trace = IsTraceRenamed by_number by_text (enumerate_from 0 known.names)
     (enumerate_from 0 known.tasks) named trace
+
+-- each name and each task of the trace is a number of the catalogue
+abbrev pub IsBelow : Known → NamedTrace → Type 0
+IsBelow known named = All (λ (s : NamedSegment). (s.name < length known.names)
+    × (s.task < length known.tasks)) named.segments
 
 -- the segment at this index has a name that is not in the catalogue
 abbrev pub IsUnknownAt : Known → List Segment → ℕ → Type 0
