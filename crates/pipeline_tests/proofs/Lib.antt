@@ -1,0 +1,8 @@
+pub mod SurvivorLemmas
+pub mod ElementLemmas
+pub mod StayLemmas
+pub mod GroupLemmas
+pub mod MeetingLemmas
+pub mod SharingLemmas
+pub mod TaskLemmas
+pub mod TestLemmas

@@ -1,0 +1,44 @@
+-- What is promised of the words that traces leave, over the definitions alone.
+use Rattle.std.specs.Prelude.{◌≡◌, ℕ, ◌≤◌, List, [], ◌++◌, length, All, IsPermutation}
+use Rattle.hypothesis_index.specs.Places.{width_of}
+use Rattle.pipeline_tests.specs.Rows.{AreWholeRows}
+use Rattle.refute_tests.specs.Clearing.{HaveNamesBelow}
+use Rattle.refute_tests.specs.Survivors.{AreSurvivors}
+use Rattle.trace_types.specs.declared.named_trace.NamedTrace.{NamedTrace}
+use Rattle.word_rows.specs.Words.{AreWords, IsCommon, IsMeet, full_words, widened_words}
+use Rattle.word_rows.specs.declared.entries.Entry.{Entry}
+
+-- full words met by one whole row of each trace are the survivors of the traces
+abbrev pub MetRowsSurvive : Type 0
+MetRowsSurvive = (traces : List NamedTrace) (rows : List (List Entry)) (width : ℕ)
+    (words : List ℕ) → AreWholeRows traces rows → IsMeet (full_words width) rows words
+    → AreWords words → AreSurvivors traces words
+
+-- full words are the survivors of no trace
+abbrev pub FullWordsSurvive : Type 0
+FullWordsSurvive = (width : ℕ) → AreSurvivors [] (full_words width)
+
+-- what the survivors of two lists of traces have in common are those of the one list after the
+-- other
+abbrev pub CommonSurvives : Type 0
+CommonSurvives = (traces others : List NamedTrace) (words other common : List ℕ)
+    → AreSurvivors traces words → AreSurvivors others other → length words ≡ length other
+    → IsCommon words other common → AreWords common → AreSurvivors (traces ++ others) common
+
+-- the survivors of traces in one order are those of the traces in every order
+abbrev pub OrderOfTracesIsFree : Type 0
+OrderOfTracesIsFree = (traces others : List NamedTrace) (words : List ℕ)
+    → IsPermutation traces others → AreSurvivors traces words → AreSurvivors others words
+
+-- where all names of the traces are below a number, more words behind those of so many names stay
+-- full
+abbrev pub WidenedSurvive : Type 0
+WidenedSurvive = (traces : List NamedTrace) (words : List ℕ) (names more : ℕ) → names ≤ 512
+    → All (HaveNamesBelow names) traces → width_of names ≤ length words
+    → AreSurvivors traces words → AreSurvivors traces (widened_words words more)
+
+-- traces have one list of survivors of each width
+abbrev pub SurvivorsAreUnique : Type 0
+SurvivorsAreUnique = (traces : List NamedTrace) (words others : List ℕ)
+    → AreSurvivors traces words → AreSurvivors traces others → length words ≡ length others
+    → words ≡ others

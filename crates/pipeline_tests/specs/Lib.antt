@@ -1,0 +1,4 @@
+pub mod DayLaws
+pub mod DaySheets
+pub mod Rows
+pub mod inner

@@ -1,0 +1,43 @@
+//! Laws over the definitions alone: each function does nothing, and its contract is the law.
+ghost use Rattle.pipeline_tests.specs.DayLaws.{CommonSurvives, FullWordsSurvive, MetRowsSurvive};
+ghost use Rattle.pipeline_tests.specs.DayLaws.{OrderOfTracesIsFree, SurvivorsAreUnique};
+ghost use Rattle.pipeline_tests.specs.DayLaws.{WidenedSurvive};
+
+use hypothesis_index::laws::places_fit;
+use word_rows::laws::{meet_begins, meet_is_unique};
+
+/// Full words met by one whole row of each trace are the survivors of the traces.
+pub fn met_rows_survive()
+    ensures { MetRowsSurvive }
+{}
+
+/// Full words are the survivors of no trace.
+pub fn full_words_survive()
+    ensures { FullWordsSurvive }
+{}
+
+/// What the survivors of two lists of traces have in common are those of the one list after the
+/// other.
+pub fn common_survives()
+    ensures { CommonSurvives }
+{}
+
+/// The survivors of traces do not depend on their order.
+pub fn order_of_traces_is_free()
+    ensures { OrderOfTracesIsFree }
+{}
+
+/// Survivors of traces whose names fit the words stay survivors when full words are appended.
+pub fn widened_survive()
+    ensures { WidenedSurvive }
+{
+    places_fit();
+}
+
+/// Traces have one list of survivors of each width.
+pub fn survivors_are_unique()
+    ensures { SurvivorsAreUnique }
+{
+    meet_begins();
+    meet_is_unique();
+}
