@@ -1,8 +1,13 @@
 pub mod AnswerLemmas
+pub mod CountLemmas
+pub mod CountingLemmas
 pub mod DecisionLemmas
 pub mod ElementLemmas
 pub mod GrowingLemmas
+pub mod LineLemmas
 pub mod NameLemmas
 pub mod OrderLemmas
 pub mod PairLemmas
+pub mod PairLineLemmas
 pub mod RefuterLemmas
+pub mod TellingLemmas

@@ -1,53 +1,231 @@
-ghost use Rattle.std.specs.Prelude.{◌<◌, ◌^◌, length, map, IfOk};
-ghost use Rattle.trace_types.specs.Listing.{ListsExactly, CountsDistinct};
-ghost use Rattle.trace_types.specs.NameOrder.{name_cmp, pair_cmp};
-ghost use Rattle.trace_types.specs.Parts.{by_text, segments_of};
-ghost use Rattle.trace_types.specs.Relations.{HappensBefore, ExcludesUnordered};
-ghost use Rattle.trace_types.specs.Segments.{name_of, task_of};
+ghost use Rattle.std.specs.Prelude.{◌≡◌, min, max};
 
-use crate::PlainPairList;
-use crate::distinct_names::distinct_names;
-use crate::distinct_tasks::distinct_tasks;
-use crate::pair_lists::pair_lists;
-use std::alloc::{AllocError, Global};
-use trace_types::Trace;
+use crate::counts::{Counts, count_names, count_pipes};
+use crate::laws::words_tell;
+use crate::pair_lines::lines_between;
+use hypothesis_index::laws::places_fit;
+use hypothesis_index::{Relation, place};
+use trace_types::laws::relations_are_symmetric;
+use trace_types::{NamedSegment, NamedTrace};
 
-/// The relations between the names of its segments that a list of traces leaves (Chow et al., "The
-/// Mystery Machine", OSDI 2014, section 3.2).
+/// The words of the relations between some number of names and between 64 tasks, borrowed. A bit is
+/// 1 where its relation survives. It is seen as the words and the number of names.
 #[derive(Debug, Drop)]
-pub struct PlainModel {
-    /// The number of different names of the segments.
-    pub names: u32,
-    /// The number of their different tasks.
-    pub tasks: u32,
-    /// The pairs of which the first happens before the second, in rising order.
-    pub hb: PlainPairList,
-    /// The pairs that are mutually exclusive with no fixed order, the lesser name first, by rising
-    /// pair.
-    pub mx: PlainPairList,
+pub struct Model<'a> {
+    words: &'a [u64],
+    names: u32,
 }
 
-/// Finds the model of a list of traces. It asks every trace for each pair of names, so its time
-/// grows with the square of their number; its memory with the names and the pairs alone. The only
-/// error is out of memory.
-pub fn plain_model(alloc: Global, traces: &[Trace]) -> Result<PlainModel, AllocError>
-    requires { length (segments_of by_text traces.now) < 2 ^ 32 }
-    ensures names { IfOk result (λ model.
-        CountsDistinct model.names (map name_of (segments_of by_text traces.now))) }
-    ensures tasks { IfOk result (λ model.
-        CountsDistinct model.tasks (map task_of (segments_of by_text traces.now))) }
-    ensures hb { IfOk result (λ model. ListsExactly (pair_cmp name_cmp)
-        (λ pair. HappensBefore by_text traces.now pair.0 pair.1) model.hb) }
-    ensures mx { IfOk result (λ model. ListsExactly (pair_cmp name_cmp)
-        (λ pair. ExcludesUnordered by_text name_cmp traces.now pair.0 pair.1) model.mx) }
+impl<'a> std::marker::Model for Model<'a> {
+    ghost use Rattle.std.specs.Prelude.{◌≡◌, ◌≤◌, length};
+    ghost use Rattle.hypothesis_index.specs.Places.{width_of};
+    ghost use Rattle.model_meet.specs.ModelStates.{ModelState};
+
+    ghost Value = { ModelState };
+
+    ghost view = { λ m. record { words = m.words.now; names = m.names } };
+
+    ghost invariant = { λ m. (m.names ≤ 512) × (length m.words.now ≡ width_of m.names) };
+}
+
+/// Gives the two numbers, the lesser first.
+fn rising(a: u32, b: u32) -> (u32, u32)
+    ensures low { result.0 ≡ min a b }
+    ensures high { result.1 ≡ max a b }
 {
-    let names = distinct_names(alloc, traces)?;
-    let tasks = distinct_tasks(alloc, &names)?;
-    let lists = pair_lists(alloc, traces, &names)?;
-    Ok(PlainModel {
-        names: names.len() as u32,
-        tasks: tasks.len() as u32,
-        hb: PlainPairList::of(lists.before),
-        mx: PlainPairList::of(lists.exclusive),
-    })
+    if a < b { (a, b) } else { (b, a) }
+}
+
+impl<'a> Model<'a> {
+    ghost use Rattle.std.specs.Prelude.{◌≡◌, ◌≢◌, ◌≤◌, ◌<◌, ◌↔◌, ℕ, List, length, IsTrue};
+    ghost use Rattle.hypothesis_index.specs.Places.{IsRelation, NamesBelow, width_of};
+    ghost use Rattle.hypothesis_index.specs.declared.relation.Relation.TheVariants.{Apart, Before};
+    ghost use Rattle.hypothesis_index.specs.declared.relation.Relation.TheVariants.{Exclusive};
+    ghost use Rattle.hypothesis_index.specs.declared.relation.Relation.TheVariants.{Pipe, Unshared};
+    ghost use Rattle.std.specs.declared.cmp.Ordering.{Ordering};
+    ghost use Rattle.std.specs.declared.cmp.Ordering.TheVariants.{Less};
+    ghost use Rattle.model_meet.specs.LineCounts.{AreCounts, AreCountsOfBits};
+    ghost use Rattle.model_meet.specs.Pipes.{IsPipeline};
+    ghost use Rattle.model_meet.specs.RelationBits.{bit_between, relation_bit};
+    ghost use Rattle.model_meet.specs.RelationBits.{HasExclusion, HasOrder, HasPipe};
+    ghost use Rattle.model_meet.specs.Telling.{TellsOf};
+    ghost use Rattle.refute_tests.specs.Survivors.{AreSurvivors};
+    ghost use Rattle.trace_types.specs.Parts.{by_number};
+    ghost use Rattle.trace_types.specs.Pipelines.{RefutesPipe, RefutesUnshared};
+    ghost use Rattle.trace_types.specs.Refuting.{RefutesBefore, RefutesExclusive, RefutesApart};
+    ghost use Rattle.trace_types.specs.Relations.{ExcludesUnordered, HappensBefore};
+    ghost use Rattle.trace_types.specs.Surviving.{IsRefuted, Survives};
+    ghost use Rattle.trace_types.specs.declared.named_trace.NamedTrace.{NamedTrace};
+
+    /// Makes the model of these words, of which there are `width(names)`; names are at most 512. It
+    /// takes no memory.
+    pub fn new(words: &'a [u64], names: u32) -> Model<'a>
+        requires few { names ≤ 512 }
+        requires width { length words.now ≡ width_of names }
+        ensures { result ≡ record { words = words.now; names = names } }
+    {
+        Model { words, names }
+    }
+
+    /// Gives the number of names.
+    pub(crate) fn names(&self) -> u32
+        ensures value { result ≡ self.now.names }
+        ensures few { result ≤ 512 }
+    {
+        self.names
+    }
+
+    /// Reads the bit of a relation between names below the model's, or between tasks.
+    fn bit(&self, relation: Relation) -> u64
+        requires relation { self.now.names ≤ 512 → IsRelation relation }
+        requires names { NamesBelow self.now.names relation }
+        ensures value { result ≡ relation_bit self.now.words relation }
+        ensures told { (traces : List NamedTrace) → AreSurvivors traces self.now.words
+            → TellsOf self.now.words traces relation }
+    {
+        words_tell();
+        places_fit();
+        let words = self.words;
+        let place = place(relation);
+        (words[place.word as usize] >> place.bit) & 1
+    }
+
+    /// Tells whether no trace refutes that the first of two names happens before the second. Also
+    /// true where no trace has both; see `lists_order`. It takes no memory.
+    pub fn happens_before(&self, first: u32, second: u32) -> bool
+        requires differ { first ≢ second }
+        requires first { first < self.now.names }
+        requires second { second < self.now.names }
+        ensures bit { IsTrue result ↔ (relation_bit self.now.words (Before first second) ≡ 1) }
+        ensures told { (traces : List NamedTrace) → AreSurvivors traces self.now.words
+            → IsTrue result ↔ Survives (RefutesBefore by_number first second) traces }
+    {
+        self.bit(Relation::Before { first, second }) == 1
+    }
+
+    /// Tells whether some trace refutes that the first of two names happens before the second.
+    pub(crate) fn is_order_refuted(&self, first: u32, second: u32) -> bool
+        requires differ { first ≢ second }
+        requires first { first < self.now.names }
+        requires second { second < self.now.names }
+        ensures bit { IsTrue result ↔ (relation_bit self.now.words (Before first second) ≡ 0) }
+        ensures told { (traces : List NamedTrace) → AreSurvivors traces self.now.words
+            → IsTrue result ↔ IsRefuted (RefutesBefore by_number first second) traces }
+    {
+        self.bit(Relation::Before { first, second }) == 0
+    }
+
+    /// Tells whether no trace refutes that two names are mutually exclusive. Also true where no
+    /// trace has both; see `lists_exclusion`. It takes no memory.
+    pub fn exclusive(&self, a: u32, b: u32) -> bool
+        requires differ { a ≢ b }
+        requires first { a < self.now.names }
+        requires second { b < self.now.names }
+        ensures bit { IsTrue result ↔ (bit_between self.now.words Exclusive a b ≡ 1) }
+        ensures told { (traces : List NamedTrace) → AreSurvivors traces self.now.words
+            → IsTrue result ↔ Survives (RefutesExclusive by_number a b) traces }
+    {
+        relations_are_symmetric::<NamedTrace, NamedSegment, u32, u32, u32>();
+        let (low, high) = rising(a, b);
+        self.bit(Relation::Exclusive { low, high }) == 1
+    }
+
+    /// Tells whether some trace has both names. It takes no memory.
+    pub fn together(&self, a: u32, b: u32) -> bool
+        requires differ { a ≢ b }
+        requires first { a < self.now.names }
+        requires second { b < self.now.names }
+        ensures bit { IsTrue result ↔ (bit_between self.now.words Apart a b ≡ 0) }
+        ensures told { (traces : List NamedTrace) → AreSurvivors traces self.now.words
+            → IsTrue result ↔ IsRefuted (RefutesApart by_number a b) traces }
+    {
+        relations_are_symmetric::<NamedTrace, NamedSegment, u32, u32, u32>();
+        let (low, high) = rising(a, b);
+        self.bit(Relation::Apart { low, high }) == 0
+    }
+
+    /// Tells whether no trace refutes that elements pass from the one task to the other, first in,
+    /// first out. Also true where no trace has an element in both; see `lists_pipe`. It takes no
+    /// memory.
+    pub fn pipe(&self, from: u32, to: u32) -> bool
+        requires differ { from ≢ to }
+        requires first { from < 64 }
+        requires second { to < 64 }
+        ensures bit { IsTrue result ↔ (relation_bit self.now.words (Pipe from to) ≡ 1) }
+        ensures told { (traces : List NamedTrace) → AreSurvivors traces self.now.words
+            → IsTrue result ↔ Survives (RefutesPipe by_number from to) traces }
+    {
+        self.bit(Relation::Pipe { from, to }) == 1
+    }
+
+    /// Tells whether some trace has an element in both tasks. It takes no memory.
+    pub fn shared(&self, a: u32, b: u32) -> bool
+        requires differ { a ≢ b }
+        requires first { a < 64 }
+        requires second { b < 64 }
+        ensures bit { IsTrue result ↔ (bit_between self.now.words Unshared a b ≡ 0) }
+        ensures told { (traces : List NamedTrace) → AreSurvivors traces self.now.words
+            → IsTrue result ↔ IsRefuted (RefutesUnshared by_number a b) traces }
+    {
+        relations_are_symmetric::<NamedTrace, NamedSegment, u32, u32, u32>();
+        let (low, high) = rising(a, b);
+        self.bit(Relation::Unshared { low, high }) == 0
+    }
+
+    /// Tells whether the model lists that the first of two names happens before the second: some
+    /// trace has both, and none refutes it. It takes no memory.
+    pub fn lists_order(&self, first: u32, second: u32) -> bool
+        requires differ { first ≢ second }
+        requires first { first < self.now.names }
+        requires second { second < self.now.names }
+        ensures bits { IsTrue result ↔ HasOrder self.now.words first second }
+        ensures told { (traces : List NamedTrace) → AreSurvivors traces self.now.words
+            → IsTrue result ↔ HappensBefore by_number traces first second }
+    {
+        self.together(first, second) && self.happens_before(first, second)
+    }
+
+    /// Tells whether the model lists that two names are mutually exclusive with no fixed order:
+    /// some trace has both, none refutes that they are mutually exclusive, and each order is
+    /// refuted. It takes no memory.
+    pub fn lists_exclusion(&self, a: u32, b: u32) -> bool
+        requires differ { a ≢ b }
+        requires first { a < self.now.names }
+        requires second { b < self.now.names }
+        ensures bits { IsTrue result ↔ HasExclusion self.now.words a b }
+        ensures told { (traces : List NamedTrace) (cmp : ℕ → ℕ → Ordering)
+            → AreSurvivors traces self.now.words → cmp a b ≡ Less
+            → IsTrue result ↔ ExcludesUnordered by_number cmp traces a b }
+    {
+        lines_between(self, a, b).exclusive
+    }
+
+    /// Tells whether the model lists a pipe from the one task to the other: some trace has an
+    /// element in both, and none refutes it. It takes no memory.
+    pub fn lists_pipe(&self, from: u32, to: u32) -> bool
+        requires differ { from ≢ to }
+        requires first { from < 64 }
+        requires second { to < 64 }
+        ensures bits { IsTrue result ↔ HasPipe self.now.words from to }
+        ensures told { (traces : List NamedTrace) → AreSurvivors traces self.now.words
+            → IsTrue result ↔ IsPipeline by_number traces from to }
+    {
+        self.shared(from, to) && self.pipe(from, to)
+    }
+
+    /// Counts the lines of the model's names, and of this many tasks. It visits each pair once, and
+    /// takes no memory.
+    pub fn counts(&self, tasks: u32) -> Counts
+        requires { tasks ≤ 64 }
+        ensures bits { AreCountsOfBits self.now tasks result }
+        ensures told { (traces : List NamedTrace) → AreSurvivors traces self.now.words
+            → AreCounts traces self.now.names tasks result }
+    {
+        let lines = count_names(self);
+        Counts {
+            hb: lines.hb,
+            mx: lines.mx,
+            pipe: count_pipes(self, tasks),
+        }
+    }
 }

@@ -9,7 +9,7 @@ use Rattle.trace_types.specs.Parts.{by_text, segments_of}
 use Rattle.trace_types.specs.Relations.{HappensBefore, ExcludesUnordered}
 use Rattle.model_meet.proofs.NameLemmas.{names_counted, tasks_counted}
 use Rattle.model_meet.proofs.NameLemmas.{task_in}
-use Rattle.model_meet.proofs.model.plain_model.Goals as goal
+use Rattle.model_meet.proofs.plain.plain_model.Goals as goal
 
 pub pair_lists-requires : goal.pair_lists-requires
 pair_lists-requires c =
