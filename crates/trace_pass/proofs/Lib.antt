@@ -1,0 +1,10 @@
+pub mod RowLemmas
+pub mod CountLemmas
+pub mod PlaceLemmas
+pub mod WatchLemmas
+pub mod HalvingLemmas
+pub mod BlockLemmas
+pub mod FlatLemmas
+pub mod LawLemmas
+pub mod TestLemmas
+pub mod Worked

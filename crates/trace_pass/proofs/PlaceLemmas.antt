@@ -1,0 +1,115 @@
+-- The relations of the bits that are 0.
+use Rattle.std.proofs.Common.{◌≡◌, ◌≢◌, ℕ, ◌+◌, ◌*◌, ◌/◌, ◌%◌, ◌<◌, ◌≤◌, true, List, [], ◌∷◌, ⊎_elim, length, get_or, refl, ap, ◌∙◌, arith}
+use Rattle.std.proofs.lemmas.Bool.{and_parts, cases_eq, eq-eqb, eqb-true, false≢true, or_cases}
+use Rattle.std.specs.List.{All, AllPairs}
+use Rattle.hypothesis_index.specs.Places.{IsRelation, NamesBelow, pairs_below, place_of, width_of}
+use Rattle.hypothesis_index.specs.Refuting.{Refutes}
+use Rattle.hypothesis_index.specs.declared.bit_place.BitPlace.{BitPlace}
+use Rattle.hypothesis_index.specs.declared.relation.Relation.{Relation}
+use Rattle.hypothesis_index.specs.declared.relation.Relation.TheVariants.{Before, Exclusive, Apart, Pipe, Unshared}
+use Rattle.trace_types.specs.Surviving.{IsRefuted}
+use Rattle.trace_types.specs.declared.named_trace.NamedTrace.{NamedTrace}
+use Rattle.word_rows.specs.declared.entries.Entry.{Entry}
+use Rattle.word_rows.specs.Accounts.{AreZero}
+use Rattle.word_rows.specs.Meeting.{ClearsBelow}
+use Rattle.word_rows.specs.Rows.{below, clears, rows_below, rows_clear}
+use Rattle.word_rows.specs.Words.{AreWords, bit_of}
+use Rattle.trace_pass.specs.Counts.{IsAtLeastRefuted, IsAtMostRefuted, zeros}
+use Rattle.trace_pass.specs.Rows.{AreRowsWithin, IsRefutedPlace}
+use Rattle.trace_pass.proofs.CountLemmas.{chosen, is_zero, pigeons, zeros_count}
+use Rattle.trace_pass.proofs.RowLemmas.{refuted_to}
+
+-- what the laws on places say
+abbrev pub PlacesDiffer : Type 0
+PlacesDiffer = (r s : Relation) → IsRelation r → IsRelation s → place_of r ≡ place_of s → r ≡ s
+
+abbrev pub PlacesFit : Type 0
+PlacesFit = (names : ℕ) (r : Relation) → names ≤ 512 → IsRelation r → NamesBelow names r → ((place_of r).word < width_of names) × ((place_of r).bit < 64)
+
+abbrev pub number_of : Relation → ℕ
+number_of r = 64 * (place_of r).word + (place_of r).bit
+
+below_most : (r : Relation) → IsRelation r → NamesBelow 512 r
+below_most (Before a b) h = (h.1, h.2)
+below_most (Exclusive a b) h = h.1
+below_most (Apart a b) h = h.1
+below_most (Pipe t u) h = tt
+below_most (Unshared t u) h = tt
+
+pub bit_fits : PlacesFit → (r : Relation) → IsRelation r → (place_of r).bit < 64
+bit_fits fit r h = (fit 512 r (omega arith) h (below_most r h)).1
+
+numbers_differ : PlacesDiffer → PlacesFit → (r s : Relation) → IsRelation r → IsRelation s → number_of r ≡ number_of s → r ≡ s
+numbers_differ differ fit r s hr hs e = let p = place_of r in let q = place_of s in
+    let br : p.bit < 64 = bit_fits fit r hr in let bs : q.bit < 64 = bit_fits fit s hs in
+    let w : p.word ≡ q.word = omega arith in let b : p.bit ≡ q.bit = omega arith in
+    let same : place_of r ≡ place_of s = λ k. record { word = w k; bit = b k } in differ r s hr hs same
+
+pub rows_clear_below : ClearsBelow → (n : ℕ) (rows : List (List Entry)) (i b : ℕ) → rows_below n rows ≡ true → rows_clear rows i b ≡ true → i < n
+rows_clear_below law n [] i b t c = absurd (false≢true c)
+rows_clear_below law n (row ∷ rows) i b t c = let p = and_parts (below n row) (rows_below n rows) t in ⊎_elim
+    (λ (h : clears row i b ≡ true). law n row i b p.0 h)
+    (λ (h : rows_clear rows i b ≡ true). rows_clear_below law n rows i b p.1 h)
+    (or_cases (clears row i b) (rows_clear rows i b) c)
+
+-- words that lack the bits of all refuted relations have at least as many zeros
+pub least_from : PlacesDiffer → PlacesFit → (ts : List NamedTrace) (words : List ℕ) → AreWords words
+    → ((r : Relation) → IsRelation r → IsRefuted (Refutes r) ts → ((place_of r).word < length words) × (bit_of words (place_of r).word (place_of r).bit ≡ 0)) → IsAtLeastRefuted ts (zeros words)
+least_from differ fit ts words bound clear rs are =
+    let z = zeros_count words bound in
+    let most : length rs ≤ _ = pigeons number_of (is_zero words) (64 * length words) rs apart inside in omega arith
+  where
+    relation : (k : ℕ) (d : Relation) → k < length rs → IsRelation (get_or rs k d)
+    relation k d l = (are.refuted k d l).0
+
+    apart : AllPairs (λ r s. number_of r ≢ number_of s) rs
+    apart i j d l h e = are.differ i j d l h (numbers_differ differ fit _ _ (relation i d (omega arith)) (relation j d h) e)
+
+    inside : All (λ r. (number_of r < 64 * length words) × (is_zero words (number_of r) ≡ true)) rs
+    inside k d l =
+        let r = get_or rs k d in let at = are.refuted k d l in let p : BitPlace = place_of r in
+        let bit : p.bit < 64 = bit_fits fit r at.0 in
+        let here = clear r at.0 at.1 in let within : p.word < length words = here.0 in
+        let q : number_of r / 64 ≡ p.word = omega arith in let m : number_of r % 64 ≡ p.bit = omega arith in
+        (omega arith, eq-eqb _ 0 (ap (λ (i : ℕ). bit_of words i (number_of r % 64)) q ∙ ap (bit_of words p.word) m ∙ here.1))
+
+-- words that lack all bits of the whole rows have at least as many zeros as there are refuted relations
+pub least_refuted : PlacesDiffer → PlacesFit → ClearsBelow → (names : ℕ) (ts : List NamedTrace) (rows : List (List Entry)) (words : List ℕ) → AreRowsWithin names ts rows → length words ≡ width_of names → AreWords words → AreZero words (rows_clear rows) → IsAtLeastRefuted ts (zeros words)
+least_refuted differ fit law names ts rows words have wide bound clear = least_from differ fit ts words bound cleared
+  where
+    cleared : (r : Relation) → IsRelation r → IsRefuted (Refutes r) ts → ((place_of r).word < length words) × (bit_of words (place_of r).word (place_of r).bit ≡ 0)
+    cleared r h f =
+        let p : BitPlace = place_of r in
+        let place : IsRefutedPlace ts p.word p.bit = (r, h, refl, f) in
+        let c : rows_clear rows p.word p.bit ≡ true = refuted_to ts rows p.word p.bit have.whole place in
+        let word : p.word < width_of names = rows_clear_below law (width_of names) rows p.word p.bit have.within c in
+        let within : p.word < length words = omega arith in
+        (within, clear p.word p.bit within (bit_fits fit r h) c)
+
+-- words that lack only bits of refuted relations have at most as many zeros
+pub most_refuted : (ts : List NamedTrace) (words : List ℕ) → AreWords words → ((i b : ℕ) → i < length words → b < 64 → bit_of words i b ≡ 0 → IsRefutedPlace ts i b) → IsAtMostRefuted ts (zeros words)
+most_refuted ts words bound only =
+    let z = zeros_count words bound in
+    let c = chosen number_of (λ r. IsRelation r × IsRefuted (Refutes r) ts) (is_zero words) (64 * length words) pick in
+    let long : length c.0 ≡ _ = c.3 in
+    (c.0, record { differ = c.1; refuted = λ k d l. (c.2 k d l).1 }, omega arith)
+  where
+    pick : (k : ℕ) → k < 64 * length words → is_zero words k ≡ true → (r : Relation) × (number_of r ≡ k) × (IsRelation r × IsRefuted (Refutes r) ts)
+    pick k l h =
+        let p = only (k / 64) (k % 64) (omega arith) (omega arith) (eqb-true _ 0 h) in
+        let w : (place_of p.0).word ≡ k / 64 = ap (λ (q : BitPlace). q.word) p.2 in let b : (place_of p.0).bit ≡ k % 64 = ap (λ (q : BitPlace). q.bit) p.2 in
+        (p.0, omega arith, (p.1, p.3))
+
+abbrev pub PairsFollow : Type 0
+PairsFollow = (high higher : ℕ) → high < higher → (pairs_below high + high) ≤ pairs_below higher
+
+most_pairs : pairs_below 512 ≡ 130816
+unfolding pairs_below
+most_pairs = refl
+
+-- the words of at most 512 names are few
+pub few_words : PairsFollow → (names : ℕ) → names ≤ 512 → width_of names ≤ 8302
+few_words follow names h = let top = most_pairs in ⊎_elim
+    (λ (e : names ≡ 512). let p : pairs_below names ≡ pairs_below 512 = ap pairs_below e in let r : width_of names ≤ 8302 = omega arith in r)
+    (λ (ne : names ≡ 512 → ⊥). let p = follow names 512 (omega arith) in let r : width_of names ≤ 8302 = omega arith in r)
+    (cases_eq names 512)

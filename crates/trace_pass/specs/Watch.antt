@@ -1,0 +1,56 @@
+-- Watch lines, and the readings from which their numbers are taken.
+use Rattle.std.specs.Prelude.{◌≡◌, ℕ, ◌+◌, ◌%◌, ◌≤◌, Bool, not, ◌&&◌, ◌==◌, List, [], ◌∷◌, ◌++◌, length, map, take}
+use Rattle.std.specs.List.{All, AllPairs, filter, flat_map, range_with_len}
+use Rattle.trace_types.specs.declared.named_trace.NamedTrace.{NamedTrace}
+use Rattle.word_rows.specs.Changes.{readings_from}
+use Rattle.word_rows.specs.Words.{AreWords}
+use Rattle.trace_pass.specs.Counts.{IsAtLeastRefuted, IsWithinRefuted, zeros}
+use Rattle.trace_pass.specs.Halving.{share_at, share_of, shares_of}
+use Rattle.trace_pass.specs.States.{RecordingState}
+use Rattle.trace_pass.specs.declared.watch_lines.WatchLine.{WatchLine}
+
+-- the number is a multiple of this one, which is not 0
+abbrev pub is_multiple : ℕ → ℕ → Bool
+is_multiple every n = not (every == 0) && (n % every == 0)
+
+-- after how many of its traces a worker with so many takes a number
+abbrev pub watch_counts : ℕ → ℕ → List ℕ
+watch_counts every traces = filter (is_multiple every) (range_with_len 1 traces)
+
+-- which lines workers with these shares write, of whom this one is the first: by worker, and then
+-- by how many of its traces it had offered
+abbrev pub watch_marks : ℕ → ℕ → List (List NamedTrace) → List (ℕ × ℕ)
+watch_marks every worker [] = []
+watch_marks every worker (share ∷ shares) =
+    map (λ (n : ℕ). (worker, n)) (watch_counts every (length share))
+    ++ watch_marks every (worker + 1) shares
+
+-- the lines of workers with these shares, and the readings from which their numbers were taken
+pub record HasWatched (every width : ℕ) (shares : List (List NamedTrace))
+    (old new : RecordingState) (lines : List WatchLine) : Type 0 where
+  pub marks : map (λ (l : WatchLine). (l.worker, l.done)) lines ≡ watch_marks every 0 shares
+  -- the new readings are one block of all words for each line, in the order of the lines
+  pub blocks : List (List ℕ)
+  pub readings : new.pass.view.readings ≡
+      old.pass.view.readings ++ flat_map (readings_from 0) blocks
+  pub wide : All (λ (b : List ℕ). (length b ≡ width) × AreWords b) blocks
+  -- each number counts the bits that are 0 in its line's block
+  pub numbers : map (λ (l : WatchLine). l.refuted) lines ≡ map zeros blocks
+  -- it is at least the number of relations that the worker's traces until then refute
+  pub least : All (λ (l : WatchLine).
+      IsAtLeastRefuted (take l.done (share_at shares l.worker)) l.refuted) lines
+  -- and it never falls along a worker
+  pub rising : AllPairs (λ (k : WatchLine) (l : WatchLine).
+      k.worker ≡ l.worker → k.refuted ≤ l.refuted) lines
+
+-- the watch lines of traces that so many workers offered: by worker and then by how many of its
+-- traces; each number is between what these refute and what all traces refute, and never falls
+-- along a worker
+pub record AreWatchLines (every workers : ℕ) (traces : List NamedTrace)
+    (lines : List WatchLine) : Type 0 where
+  pub marks : map (λ (l : WatchLine). (l.worker, l.done)) lines ≡
+      watch_marks every 0 (shares_of traces workers)
+  pub within : All (λ (l : WatchLine).
+      IsWithinRefuted (take l.done (share_of traces workers l.worker)) traces l.refuted) lines
+  pub rising : AllPairs (λ (k : WatchLine) (l : WatchLine).
+      k.worker ≡ l.worker → k.refuted ≤ l.refuted) lines

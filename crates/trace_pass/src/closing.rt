@@ -1,0 +1,99 @@
+ghost use Rattle.std.specs.Prelude.{◌≡◌, ◌≤◌, length, IfErr, IfOk};
+ghost use Rattle.refute_tests.specs.Survivors.{AreSurvivors};
+ghost use Rattle.word_rule.specs.Histories.{EndsWith};
+ghost use Rattle.trace_pass.specs.Faults.{IsRecorderFault};
+ghost use Rattle.trace_pass.specs.Rows.{LackOnlyRefuted};
+ghost use Rattle.trace_pass.specs.States.{IsOfRecorder};
+
+use crate::recorders::Recorder;
+use crate::recordings::Recording;
+use pipeline_tests::DaySheet;
+use word_rule::CloseFault;
+
+/// Why a recorder was not closed. The recorder and the recording are unchanged.
+#[derive(Drop)]
+pub enum RecorderFault {
+    /// Memory for the words ran out.
+    Memory {
+        recorder: Recorder,
+        recording: Recording,
+    },
+    /// The recording has fewer than all shares.
+    PassesOut {
+        recorder: Recorder,
+        recording: Recording,
+        have: u32,
+        all: u32,
+    },
+}
+
+impl Recorder {
+    /// Ends the recorder, where the recording has all shares, and gives the sheet of exactly the
+    /// recorded traces.
+    pub fn close(self, recording: Recording) -> Result<DaySheet, RecorderFault>
+        requires { IsOfRecorder self recording }
+        ensures whole { IfOk result (λ _. recording.pass.view.shares ≡ self.table.all) }
+        ensures traces { IfOk result (λ d. d.traces ≡ recording.traces) }
+        ensures words { IfOk result (λ d. AreSurvivors recording.traces d.words) }
+        ensures width { IfOk result (λ d. length d.words ≡ self.table.width) }
+
+        // Each bit that a reading of the recording lacks is one of the recorded traces' rows.
+        ensures readings { IfOk result
+            (λ _. LackOnlyRefuted recording.pass.view.readings recording.traces) }
+
+        // One history goes on from all that the pass knows, ends with these words, and is sound.
+        ensures ends { IfOk result (λ d. EndsWith self.table.width self.table.all
+            recording.pass.pasts recording.pass.view d.words) }
+        ensures fault { IfErr result (IsRecorderFault self recording) }
+    {
+        let Recorder {
+            table,
+            names,
+            alloc,
+        } = self;
+        let Recording {
+            pass,
+            traces,
+            names: _,
+        } = recording;
+        match table.close(alloc, pass) {
+            Ok(closed) => {
+                let _bound = closed.words.words();
+                Ok(DaySheet::of_words(traces, closed.words))
+            }
+            Err(CloseFault::Memory { table, pass }) => Err(RecorderFault::Memory {
+                recorder: Recorder {
+                    table,
+                    names,
+                    alloc,
+                },
+                recording: Recording {
+                    pass,
+                    traces,
+                    names,
+                },
+            }),
+            Err(
+                CloseFault::PassesOut {
+                    table,
+                    pass,
+                    have,
+                    all,
+                },
+            ) => Err(RecorderFault::PassesOut {
+                recorder: Recorder {
+                    table,
+                    names,
+                    alloc,
+                },
+                recording: Recording {
+                    pass,
+                    traces,
+                    names,
+                },
+                have,
+                all,
+            }),
+        }
+    }
+}

@@ -1,0 +1,311 @@
+ghost use Rattle.std.specs.Prelude.{◌≡◌, ◌≢◌, ◌^◌, ◌<◌, ◌≤◌, ◌≤ℤ◌, All, length, IfOk, None};
+ghost use Rattle.refute_tests.specs.Clearing.{HaveNamesBelow};
+
+use crate::{Recorder, RecorderFault, WatchLine, WatchLines, offer_all};
+use mystery_io::{Gate, OpenGate};
+use pipeline_tests::DaySheet;
+use std::alloc::{AllocError, Global};
+use std::sync::atomic::{AtomicU64, Ordering};
+use std::test::Fail;
+use std::thread::{self, Threads};
+use trace_types::{NamedSegment, NamedSegmentList, NamedTrace, Text};
+
+/// The word of the pairs of two names when a touching and a swapped trace were offered.
+const LEFT: u64 = 0xffff_ffff_ffff_fff4;
+
+/// Makes a segment that is alone in its task and has no element.
+fn segment(name: u32, start: i64, end: i64) -> NamedSegment
+    requires name { name ≤ 1 }
+    requires ordered { start ≤ℤ end }
+    ensures name { result.name ≡ name }
+    ensures task { result.task ≡ name }
+    ensures element { result.element ≡ None }
+{
+    NamedSegment {
+        name,
+        task: name,
+        element: None,
+        start,
+        end,
+    }
+}
+
+/// Makes a trace of two such segments.
+fn pair(alloc: Global, first: NamedSegment, second: NamedSegment) -> Result<NamedTrace, AllocError>
+    requires names { first.name ≢ second.name }
+    requires below { (first.name < 2) × (second.name < 2) }
+    requires tasks { first.task ≢ second.task }
+    requires one { first.element ≡ None }
+    requires other { second.element ≡ None }
+    ensures { IfOk result (HaveNamesBelow 2) }
+{
+    let request = Text::new(alloc, "r1")?;
+    let segments = Vec::from_array(alloc, [first, second])?;
+    Ok(NamedTrace {
+        request,
+        day: 0,
+        latency: 30,
+        grace: 0,
+        segments: NamedSegmentList::of(segments),
+    })
+}
+
+/// Makes a trace in which the segment 0 ends where the segment 1 starts: it refutes two relations.
+fn touching(alloc: Global) -> Result<NamedTrace, AllocError>
+    ensures { IfOk result (HaveNamesBelow 2) }
+{
+    pair(alloc, segment(0, 0, 10), segment(1, 10, 30))
+}
+
+/// Makes a trace in which the segment 1 comes first: it refutes two relations, one of them another.
+fn swapped(alloc: Global) -> Result<NamedTrace, AllocError>
+    ensures { IfOk result (HaveNamesBelow 2) }
+{
+    pair(alloc, segment(1, 0, 5), segment(0, 5, 9))
+}
+
+/// Makes a touching trace, or a swapped one.
+fn one_of(alloc: Global, touch: bool) -> Result<NamedTrace, AllocError>
+    ensures { IfOk result (HaveNamesBelow 2) }
+{
+    if touch {
+        touching(alloc)
+    } else {
+        swapped(alloc)
+    }
+}
+
+/// Makes so many traces, of which so many first ones are touching and the others are swapped.
+fn day_of(alloc: Global, touch: u32, count: u32) -> Result<Vec<NamedTrace>, AllocError>
+    ensures names { IfOk result (λ v. All (HaveNamesBelow 2) v.items) }
+    ensures few { IfOk result (λ v. length v.items < 2 ^ 32) }
+{
+    let mut traces = Vec::with_capacity(alloc, count as usize)?;
+    for k in 0..count {
+        let trace = one_of(alloc, k < touch)?;
+        traces.push(trace)?;
+    }
+    Ok(traces)
+}
+
+/// Offers such a day by so many workers and closes. Gives nothing where memory ran out.
+fn sheet_by<R: Threads + Sync>(
+    rt: &R,
+    alloc: Global,
+    workers: u32,
+    traces: Vec<NamedTrace>,
+    every: u32,
+) -> Option<(DaySheet, WatchLines)>
+    requires some { 0 < workers }
+    requires names { All (HaveNamesBelow 2) traces.items }
+    requires few { length traces.items < 2 ^ 32 }
+{
+    let Ok((recorder, recording)) = Recorder::open(alloc, 2, workers) else {
+        return None;
+    };
+    let Ok((recording, lines)) = offer_all(rt, &recorder, recording, traces, every, &OpenGate)
+    else {
+        return None;
+    };
+    match recorder.close(recording) {
+        Ok(sheet) => Some((sheet, lines)),
+        Err(_) => None,
+    }
+}
+
+/// Waits for a turn that another worker marks, for so many rounds. Answers whether it came.
+fn comes(turn: &AtomicU64) -> bool {
+    for _ in 0..10_000_000u64 {
+        if turn.load(Ordering::SeqCst) == 1 {
+            return true;
+        }
+        thread::yield_now();
+    }
+    false
+}
+
+/// Holds turn 0 of each of two workers until turn 0 of the other has come.
+#[derive(Drop)]
+struct BothFirst {
+    zero: AtomicU64,
+    one: AtomicU64,
+    failed: AtomicU64,
+}
+
+impl Gate for BothFirst {
+    fn turn(&self, worker: u32, _trace: u32) {
+        let (mine, other) = if worker == 0 {
+            (&self.zero, &self.one)
+        } else {
+            (&self.one, &self.zero)
+        };
+        mine.store(1, Ordering::SeqCst);
+        if !comes(other) {
+            self.failed.store(1, Ordering::SeqCst);
+        }
+    }
+}
+
+/// Holds turn 0 of worker 0 until turn 1 of worker 1 has come, and that turn until turn 1 of worker
+/// 0 has come.
+#[derive(Drop)]
+struct OneBeforeZero {
+    zero: AtomicU64,
+    one: AtomicU64,
+    failed: AtomicU64,
+}
+
+impl Gate for OneBeforeZero {
+    fn turn(&self, worker: u32, trace: u32) {
+        let came = match (worker, trace) {
+            (0, 0) => comes(&self.one),
+            (0, 1) => {
+                self.zero.store(1, Ordering::SeqCst);
+                true
+            }
+            (1, 1) => {
+                self.one.store(1, Ordering::SeqCst);
+                comes(&self.zero)
+            }
+            _ => true,
+        };
+        if !came {
+            self.failed.store(1, Ordering::SeqCst);
+        }
+    }
+}
+
+#[test]
+fn two_recordings_become_one_sheet(rt: HostRuntime) -> Result<(), Fail> {
+    let alloc = rt.alloc();
+    let (recorder, mut first) = Recorder::open(alloc, 2, 2)?;
+    let mut second = recorder.split(&mut first, 1);
+    let Ok(()) = recorder.offer(&mut first, touching(alloc)?) else {
+        return Err(Fail::from("memory"));
+    };
+    let Ok(()) = recorder.offer(&mut second, swapped(alloc)?) else {
+        return Err(Fail::from("memory"));
+    };
+    let Err(
+        RecorderFault::PassesOut {
+            recorder,
+            recording: mut first,
+            have,
+            all,
+        },
+    ) = recorder.close(first)
+    else {
+        return Err(Fail::from("closed"));
+    };
+    assert_eq!(rt; (have, all), (1, 2));
+    let note = recorder.note(&mut first);
+    recorder.meet(&mut second, note);
+    let mut into = Vec::from_elem(alloc, 0u64, recorder.width() as usize)?;
+    recorder.read(&mut second, into.as_mut_slice());
+    assert_eq!(rt; into.len(), 127);
+    assert_eq!(rt; into[126] & 10, 0);
+    let Ok(()) = recorder.join(&mut first, second) else {
+        return Err(Fail::from("memory"));
+    };
+    assert_eq!(rt; (first.shares(), first.traces().len()), (2, 2));
+    let Ok(sheet) = recorder.close(first) else {
+        return Err(Fail::from("not closed"));
+    };
+    let words = sheet.words().words();
+    assert_eq!(rt; (sheet.traces().len(), words.len()), (2, 127));
+    assert_eq!(rt; words[126], LEFT);
+    Ok(())
+}
+
+#[test]
+fn two_workers_run_beside_each_other(rt: HostRuntime) -> Result<(), Fail> {
+    let alloc = rt.alloc();
+    let gate = BothFirst {
+        zero: AtomicU64::new(0),
+        one: AtomicU64::new(0),
+        failed: AtomicU64::new(0),
+    };
+    let (recorder, recording) = Recorder::open(alloc, 2, 2)?;
+    let traces = day_of(alloc, 1, 2)?;
+    let Ok((recording, _lines)) = offer_all(&rt, &recorder, recording, traces, 0, &gate) else {
+        return Err(Fail::from("memory"));
+    };
+    assert_eq!(rt; recording.shares(), 2);
+    let turns = (
+        gate.zero.load(Ordering::SeqCst),
+        gate.one.load(Ordering::SeqCst),
+        gate.failed.load(Ordering::SeqCst),
+    );
+    assert_eq!(rt; turns, (1, 1, 0));
+    Ok(())
+}
+
+#[test]
+fn workers_share_one_table(rt: HostRuntime) -> Result<(), Fail> {
+    let alloc = rt.alloc();
+    let gate = OneBeforeZero {
+        zero: AtomicU64::new(0),
+        one: AtomicU64::new(0),
+        failed: AtomicU64::new(0),
+    };
+    let (recorder, recording) = Recorder::open(alloc, 2, 2)?;
+    let traces = day_of(alloc, 2, 4)?;
+    let Ok((_recording, lines)) = offer_all(&rt, &recorder, recording, traces, 1, &gate) else {
+        return Err(Fail::from("memory"));
+    };
+    assert_eq!(rt; gate.failed.load(Ordering::SeqCst), 0);
+    let expected = [(0, 1, 3), (0, 2, 3), (1, 1, 2), (1, 2, 3)];
+    assert_eq!(rt; lines.items().len(), 4);
+    for (line, (worker, done, refuted)) in lines.items().iter().zip(expected) {
+        assert_eq!(rt;
+            (line.worker, line.done, line.refuted),
+            (worker, done, refuted)
+        );
+    }
+    Ok(())
+}
+
+#[test]
+fn every_number_of_workers_gives_one_sheet(rt: HostRuntime) -> Result<(), Fail> {
+    let alloc = rt.alloc();
+    for workers in [1, 2, 3, 4, 7, 64] {
+        let Some((sheet, lines)) = sheet_by(&rt, alloc, workers, day_of(alloc, 3, 8)?, 2) else {
+            return Err(Fail::from("memory"));
+        };
+        let words = sheet.words().words();
+        assert_eq!(rt; (sheet.traces().len(), words.len()), (8, 127));
+        assert_eq!(rt; words[126], LEFT);
+        assert!(rt; lines.items().len() <= 4);
+    }
+    Ok(())
+}
+
+#[test]
+fn few_traces_or_none_leave_workers_idle(rt: HostRuntime) -> Result<(), Fail> {
+    let alloc = rt.alloc();
+    for (count, every, left) in [(1, 1, LEFT | 1), (1, 0, LEFT | 1), (0, 1, u64::MAX)] {
+        let Some((sheet, lines)) = sheet_by(&rt, alloc, 4, day_of(alloc, 1, count)?, every) else {
+            return Err(Fail::from("memory"));
+        };
+        let words = sheet.words().words();
+        assert_eq!(rt; (sheet.traces().len(), words.len()), (count as usize, 127));
+        assert_eq!(rt; words[126], left);
+        let due = if every == 0 { 0 } else { count as usize };
+        assert_eq!(rt; lines.items().len(), due);
+        let lines = WatchLines::of(lines.into_items());
+        assert_eq!(rt; lines.items().first().copied(), first_line(due));
+    }
+    Ok(())
+}
+
+/// The line of a touching trace that worker 3 of 4 takes, where one is due.
+fn first_line(due: usize) -> Option<WatchLine> {
+    if due == 0 {
+        return None;
+    }
+    Some(WatchLine {
+        worker: 3,
+        done: 1,
+        refuted: 2,
+    })
+}
