@@ -1,0 +1,5 @@
+pub mod Batches
+pub mod Books
+pub mod Faults
+pub mod Kept
+pub mod inner
