@@ -1,0 +1,86 @@
+-- What an event that has no fault can rely on.
+use Rattle.std.proofs.Common.{◌≡◌, ◌≢◌, ℕ, zero, suc, ◌<◌, Bool, true, false, not, ◌||◌, ◌==◌, nat_lt, cond, List, [], ◌∷◌, length, get_or, refl, subst, ⊎_elim, arith}
+use Rattle.std.specs.Prelude.{Option, Some, None}
+use Rattle.std.proofs.lemmas.Bool.{not-false, eqb-false, eqb-true, ltb-true, or_cases, or_parts, and_parts, false≢true}
+use Rattle.word_rows.specs.declared.entries.Entry.{Entry}
+use Rattle.word_rows.specs.declared.events.StepEvent.TheVariants.{Clear as clear, Load as load, Split as split, Join as join}
+use Rattle.word_rows.specs.declared.views.View.{View}
+use Rattle.word_rows.specs.Rows.{is_row, below, same_row}
+use Rattle.word_rows.specs.Changes.{is_idle}
+use Rattle.word_rows.specs.Meeting.{SameRowIsOne}
+use Rattle.word_rows.specs.Sound.{IsPartWay}
+use Rattle.word_rows.specs.Machine.{StepState, Fault, fault_of, is_live, view_at, can_clear, no_seat, row_open, bad_share, bad_word}
+
+-- a test that finds no fault is false, and so are those after it
+passed : (b : Bool) (fault : Fault) (next : Option Fault) → ◌≡◌ {A = Option Fault} (cond b (Some fault) next) None → (b ≡ false) × (next ≡ None)
+passed true fault next e = cc
+passed false fault next e = (refl, e)
+
+live_inside : (l : List Bool) (i : ℕ) → get_or l i false ≡ true → i < length l
+live_inside [] i t = absurd (false≢true t)
+live_inside (b ∷ bs) zero t = omega arith
+live_inside (b ∷ bs) (suc i) t = let h = live_inside bs i t in omega arith
+
+-- the seat of an event that has no fault is one of those that were made
+pub inside : (s : StepState) (seat : ℕ) → length s.live ≡ length s.views → is_live s seat ≡ true → seat < length s.views
+inside s seat e t = subst (λ (n : ℕ). seat < n) e (live_inside s.live seat t)
+
+module _ (s : StepState) (seat : ℕ) where
+  abbrev v : View
+  v = view_at s seat
+
+  pub clear_allowed : (row : List Entry) → fault_of s (clear seat row) ≡ None → (is_live s seat ≡ true) × (can_clear v row ≡ true) × (below (length s.words) row ≡ true)
+  clear_allowed row none =
+      let a = passed (not (is_live s seat)) (no_seat seat) _ none in
+      let b = passed (not (can_clear v row)) (row_open seat) _ a.1 in
+      let c = passed (v.shares == 0) (bad_share 0 1) _ b.1 in
+      let d = passed (not (below (length s.words) row)) _ None c.1 in
+      (not-false _ a.0, not-false _ b.0, not-false _ d.0)
+
+  pub load_allowed : (word : ℕ) → fault_of s (load seat word) ≡ None → (is_live s seat ≡ true) × (word < length s.words)
+  load_allowed word none =
+      let a = passed (not (is_live s seat)) (no_seat seat) _ none in
+      let b = passed (not (is_idle v)) (row_open seat) _ a.1 in
+      let c = passed (not (nat_lt word (length s.words))) (bad_word word (length s.words)) None b.1 in
+      (not-false _ a.0, ltb-true _ _ (not-false _ c.0))
+
+  pub split_allowed : (n : ℕ) → fault_of s (split seat n) ≡ None → (is_live s seat ≡ true) × (is_idle v ≡ true) × (n < v.shares)
+  split_allowed n none =
+      let a = passed (not (is_live s seat)) (no_seat seat) _ none in
+      let b = passed (not (is_idle v)) (row_open seat) _ a.1 in
+      let c = passed (not (nat_lt n v.shares)) (bad_share v.shares n) None b.1 in
+      (not-false _ a.0, not-false _ b.0, ltb-true _ _ (not-false _ c.0))
+
+  pub join_allowed : (other : ℕ) → fault_of s (join seat other) ≡ None → (is_live s seat ≡ true) × (is_live s other ≡ true) × (seat ≢ other)
+  join_allowed other none =
+      let w : View = view_at s other in
+      let a = passed (not (is_live s seat)) (no_seat seat) _ none in
+      let b = passed (not (is_live s other) || (seat == other)) (no_seat other) _ a.1 in
+      let p = or_parts (not (is_live s other)) (seat == other) b.0 in
+      (not-false _ a.0, not-false _ p.0, eqb-false _ _ p.1)
+
+-- an entry is left of the row that is cleared
+row_long : (row : List Entry) → is_row row ≡ true → 0 < length row
+row_long [] t = absurd (false≢true t)
+row_long (e ∷ es) t = omega arith
+
+idle_cleared : (v : View) → is_idle v ≡ true → v.cleared ≡ 0
+idle_cleared v t = eqb-true v.cleared 0 (and_parts (length v.row == 0) (v.cleared == 0) t).1
+
+pub some_left : SameRowIsOne → (v : View) (row : List Entry) → IsPartWay v → is_row row ≡ true → can_clear v row ≡ true → v.cleared < length row
+some_left one v row p r o =
+    let long = row_long row r in
+    ⊎_elim
+    (λ (i : is_idle v ≡ true). let z = idle_cleared v i in let h : v.cleared < length row = omega arith in h)
+    (λ (i : same_row v.row row ≡ true). let same : v.row ≡ row = one v.row row i in
+    ⊎_elim
+    (λ (j : is_idle v ≡ true). let z = idle_cleared v j in let h : v.cleared < length row = omega arith in h)
+    (λ (h : (0 < v.cleared) × (v.cleared < length v.row)). subst (λ (l : List Entry). v.cleared < length l) same h.1)
+    p)
+    (or_cases _ _ o)
+
+-- its word is one of the words
+pub entry_below : (width : ℕ) (row : List Entry) (i : ℕ) (d : Entry) → below width row ≡ true → i < length row → (get_or row i d).word < width
+entry_below width [] i d b h = absurd (omega arith)
+entry_below width (e ∷ es) zero d b h = ltb-true _ _ (and_parts (nat_lt e.word width) (below width es) b).0
+entry_below width (e ∷ es) (suc i) d b h = entry_below width es i d (and_parts (nat_lt e.word width) (below width es) b).1 (omega arith)

@@ -1,0 +1,10 @@
+pub mod AllowedLemmas
+pub mod BriefLemmas
+pub mod CuttingLemmas
+pub mod DigitLemmas
+pub mod FileLemmas
+pub mod FollowLemmas
+pub mod KeptLemmas
+pub mod MadeLemmas
+pub mod PlainLemmas
+pub mod WordLemmas

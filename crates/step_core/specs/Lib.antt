@@ -1,0 +1,5 @@
+pub mod Numbers
+pub mod StepFaults
+pub mod StepFiles
+pub mod StepLines
+pub mod inner

@@ -1,0 +1,4 @@
+-- What private contracts alone cite.
+pub mod Briefs
+pub mod Cutting
+pub mod Naming
