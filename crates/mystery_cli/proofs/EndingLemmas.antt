@@ -1,22 +1,24 @@
 -- How the outcome of an input that was read is that of the run.
 use Rattle.std.proofs.Common.{◌≡◌, ℕ, zero, suc, ◌+◌, ◌∷◌, ◌<◌, ◌≤◌, List, [], length, take, Bool, true, false, Option, Some, None, arith, refl, sym, ◌∙◌, ap, subst, inl, inr}
 use Rattle.std.specs.Prelude.{nat_lt, if◌then◌else◌, IfSome, Result, Ok, Err, ◌⊎◌}
+use Rattle.std.specs.Option.{option_map_or}
 use Rattle.std.specs.Io.KnownBytes.{append_known}
 use Rattle.std.proofs.lemmas.List.{take_all, length-append, append-nil}
 use Rattle.std.proofs.lemmas.Bool.{lt-ltb, le-ltb, ltb-true}
-use Rattle.event_lines.specs.declared.why.Why.{Why}
 use Rattle.event_lines.specs.declared.line.Line.{Line}
 use Rattle.event_lines.specs.InputLines.{LineFault, lines_said}
+use Rattle.step_core.specs.declared.step_file.StepFile.{StepFile}
+use Rattle.step_core.specs.StepFiles.{file_said}
 use Rattle.mystery_io.specs.Prefixes.{AppendsPrefix}
 use Rattle.mystery_io.specs.Input.{input_limit, input_of, ended}
 use Rattle.mystery_io.specs.ReadFaults.{append_names, OpensFirst, FailedAt, PassedAt}
 use Rattle.mystery_cli.specs.declared.outcome.Outcome.{Outcome}
 use Rattle.mystery_cli.specs.declared.outcome.Outcome.TheVariants.{Done, Memory, Arguments, BadLine, File, Write, Size}
-use Rattle.mystery_cli.specs.CommandLines.{Call, call_of, is_in_grammar, files_of}
-use Rattle.mystery_cli.specs.Endings.{ending_of, ending_of_lines}
+use Rattle.mystery_cli.specs.declared.reason.Reason.{Reason}
+use Rattle.mystery_cli.specs.CommandLines.{Action, Call, model, replay, call_of, is_in_grammar, files_of, files_of_action}
+use Rattle.mystery_cli.specs.Endings.{ending_of, ending_of_action, ending_of_lines, ending_of_steps}
 use Rattle.mystery_cli.specs.Messages.{status_of}
-use Rattle.mystery_cli.specs.Texts.{IsText, batch_of}
-use Rattle.mystery_cli.specs.ModelTexts.{IsModelText}
+use Rattle.mystery_cli.specs.Texts.{IsActionText, IsText}
 use Rattle.mystery_cli.specs.Runs.{Seen, OfInput, ReadsAll, EndsAs, HasCauseOf, Writes, WritesText, WritesPrefix}
 use Rattle.mystery_cli.specs.inner.InputEnds.{InputEnds, PrintsPrefix}
 
@@ -24,7 +26,7 @@ use Rattle.mystery_cli.specs.inner.InputEnds.{InputEnds, PrintsPrefix}
 pub in_grammar : (words : List (List ℕ)) (call : Call) → Some call ≡ call_of words → is_in_grammar words ≡ true
 in_grammar words call e = rw (← e) refl
 
-pub files_named : (words : List (List ℕ)) (call : Call) → Some call ≡ call_of words → files_of words ≡ call.files
+pub files_named : (words : List (List ℕ)) (call : Call) → Some call ≡ call_of words → files_of words ≡ files_of_action call.action
 files_named words call e = rw (← e) refl
 
 -- a fact of one told input
@@ -32,15 +34,15 @@ of_input : (contents : Option (List ℕ → List ℕ)) (words : List (List ℕ))
 of_input None words P Q f h = tt
 of_input (Some c) words P Q f h = f (input_of c (files_of words)) h
 
-ending_too_big : (words : List (List ℕ)) (input : List ℕ) → is_in_grammar words ≡ true → input_limit < length input → ending_of words input ≡ Size
-ending_too_big words input g lt =
+ending_too_big : (words : List (List ℕ)) (call : Call) (input : List ℕ) → Some call ≡ call_of words → input_limit < length input → ending_of words input ≡ Size
+ending_too_big words call input known lt =
     let b : nat_lt input_limit (length input) ≡ true = lt-ltb input_limit (length input) lt in
-    rw (g, b) refl
+    rw (← known, b) refl
 
-ending_read : (words : List (List ℕ)) (input : List ℕ) → is_in_grammar words ≡ true → length input ≤ input_limit → ending_of words input ≡ ending_of_lines (lines_said input)
-ending_read words input g le =
+ending_read : (words : List (List ℕ)) (call : Call) (input : List ℕ) → Some call ≡ call_of words → length input ≤ input_limit → ending_of words input ≡ ending_of_action call.action input
+ending_read words call input known le =
     let b : nat_lt input_limit (length input) ≡ false = le-ltb input_limit (length input) le in
-    rw (g, b) refl
+    rw (← known, b) refl
 
 -- the input of some files is no longer than that of all
 prefix_length : (c : List ℕ → List ℕ) (names : List (List ℕ)) (i : ℕ) → length (input_of c (take i names)) ≤ length (input_of c names)
@@ -49,57 +51,68 @@ prefix_length c [] (suc i) = omega arith
 prefix_length c (x ∷ xs) zero = omega arith
 prefix_length c (x ∷ xs) (suc i) = omega (arith, prefix_length c xs i, length-append (ended (c x)) (input_of c (take i xs)), length-append (ended (c x)) (input_of c xs))
 
-too_big : (contents : Option (List ℕ → List ℕ)) (words files : List (List ℕ)) (i : ℕ) → is_in_grammar words ≡ true → files_of words ≡ files → IfSome contents (λ c. input_limit < length (input_of c (take (i + 1) files))) → OfInput contents words (λ input. ending_of words input ≡ Size)
-too_big None words files i g e h = tt
-too_big (Some c) words files i g e h = ending_too_big words (input_of c (files_of words)) g (rw e (omega (arith, h, prefix_length c files (i + 1))))
+too_big : (contents : Option (List ℕ → List ℕ)) (words : List (List ℕ)) (call : Call) (i : ℕ) → Some call ≡ call_of words → IfSome contents (λ c. input_limit < length (input_of c (take (i + 1) (files_of_action call.action)))) → OfInput contents words (λ input. ending_of words input ≡ Size)
+too_big None words call i known h = tt
+too_big (Some c) words call i known h =
+    ending_too_big words call (input_of c (files_of words)) known (rw (files_named words call known) (omega (arith, h, prefix_length c (files_of_action call.action) (i + 1))))
 
 -- the size is passed where the run ends so
-pub cause_too_big : (s : Seen) (files : List (List ℕ)) → is_in_grammar s.words ≡ true → files_of s.words ≡ files → (index : ℕ) × PassedAt s.files files index → HasCauseOf Size s
-cause_too_big s files g e p = (g, rw e p, too_big s.files.contents s.words files p.0 g e p.1.passes)
+pub cause_too_big : (s : Seen) (call : Call) → Some call ≡ call_of s.words → (index : ℕ) × PassedAt s.files (files_of_action call.action) index → HasCauseOf Size s
+cause_too_big s call known p = (in_grammar s.words call known, rw (files_named s.words call known) p, too_big s.files.contents s.words call p.0 known p.1.passes)
 
-ends_as : (o : Outcome) (s : Seen) (input : List ℕ) → is_in_grammar s.words ≡ true → length input ≤ input_limit → OfInput s.files.contents s.words (λ i. input ≡ i) → ending_of_lines (lines_said input) ≡ o → EndsAs o s
-ends_as o s input g le told e = of_input s.files.contents s.words (λ i. input ≡ i) (λ i. ending_of s.words i ≡ o) (λ i same. rw (← same) (ending_read s.words input g le ∙ e)) told
+-- the call of the arguments is known, and so is the input, which is within the limit
+module _ (s : Seen) (call : Call) (input : List ℕ) (known : Some call ≡ call_of s.words) (le : length input ≤ input_limit) (told : OfInput s.files.contents s.words (λ i. input ≡ i)) where
+  abbrev ending : Outcome
+  ending = ending_of_action call.action input
 
-pub cause_of_ends : (o : Outcome) (s : Seen) (input : List ℕ) → is_in_grammar s.words ≡ true → ReadsAll s.files (files_of s.words) → length input ≤ input_limit → OfInput s.files.contents s.words (λ i. input ≡ i)
-    → InputEnds o input s.written_before s.written_now → HasCauseOf o s
-cause_of_ends Done s input g all le told h = (g, all, ends_as Done s input g le told h.0)
-cause_of_ends Memory s input g all le told h = (g, (length (files_of s.words), all.opened))
-cause_of_ends Arguments s input g all le told h = absurd h
-cause_of_ends (BadLine line why) s input g all le told h = (g, all, ends_as (BadLine line why) s input g le told h.0)
-cause_of_ends (File index) s input g all le told h = absurd h
-cause_of_ends Write s input g all le told h = (g, all, ends_as Done s input g le told h.0)
-cause_of_ends Size s input g all le told h = absurd h
+  abbrev Ends : Outcome → Type 0
+  Ends o = InputEnds o (ending_of_action call.action input) (IsActionText call.action input) s.written_before s.written_now
 
--- the text of an input that is done is that of its model
-done_text : (words : List (List ℕ)) (input text : List ℕ) → ending_of words input ≡ Done → IsModelText (batch_of input) text → IsText words input text
-done_text words input text e m = record { done = e; model = m }
+  -- a fact of the input that was read is one of the told input
+  of_read : (P : List ℕ → Type 0) → P input → OfInput s.files.contents s.words P
+  of_read P p = of_input s.files.contents s.words (λ i. input ≡ i) P (λ i same. subst P same p) told
 
--- a fact of the input that was read is one of the told input
-of_read : (s : Seen) (input : List ℕ) (P : List ℕ → Type 0) → OfInput s.files.contents s.words (λ i. input ≡ i) → P input → OfInput s.files.contents s.words P
-of_read s input P told p = of_input s.files.contents s.words (λ i. input ≡ i) P (λ i same. subst P same p) told
+  ends_as : (o : Outcome) → ending_of_action call.action input ≡ o → EndsAs o s
+  ends_as o e = of_read (λ i. ending_of s.words i ≡ o) (ending_read s.words call input known le ∙ e)
 
-writes_text : (s : Seen) (input text : List ℕ) → is_in_grammar s.words ≡ true → length input ≤ input_limit → OfInput s.files.contents s.words (λ i. input ≡ i) → ending_of_lines (lines_said input) ≡ Done → IsModelText (batch_of input) text
-    → s.written_now ≡ append_known s.written_before text → WritesText s
-writes_text s input text g le told e m w =
-    of_read s input (λ i. (t : List ℕ) × IsText s.words i t × (s.written_now ≡ append_known s.written_before t)) told (text, done_text s.words input text (ending_read s.words input g le ∙ e) m, w)
+  -- the outcome has its cause
+  pub cause_of_ends : (o : Outcome) → ReadsAll s.files (files_of s.words) → Ends o → HasCauseOf o s
+  cause_of_ends Done all h = (in_grammar s.words call known, all, ends_as Done h.0)
+  cause_of_ends Memory all h = (in_grammar s.words call known, (length (files_of s.words), all.opened))
+  cause_of_ends Arguments all h = absurd h
+  cause_of_ends (BadLine line why) all h = (in_grammar s.words call known, all, ends_as (BadLine line why) h.0)
+  cause_of_ends (File index) all h = absurd h
+  cause_of_ends Write all h = (in_grammar s.words call known, all, ends_as Done h.0)
+  cause_of_ends Size all h = absurd h
 
-writes_prefix : (s : Seen) (input : List ℕ) → is_in_grammar s.words ≡ true → length input ≤ input_limit → OfInput s.files.contents s.words (λ i. input ≡ i) → PrintsPrefix input s.written_before s.written_now → WritesPrefix s
-writes_prefix s input g le told h =
-    inr (of_read s input (λ i. (t : List ℕ) × IsText s.words i t × AppendsPrefix s.written_before s.written_now t) told (h.1, done_text s.words input h.1 (ending_read s.words input g le ∙ h.0) h.2, h.3))
+  -- the text of an input that is done is one of the arguments and the input
+  done_text : (text : List ℕ) → ending_of_action call.action input ≡ Done → IsActionText call.action input text → IsText s.words input text
+  done_text text e m = record {
+    done = ending_read s.words call input known le ∙ e;
+    call = call;
+    asked = known;
+    text = m;
+  }
 
-some_prefix : (s : Seen) (input : List ℕ) → is_in_grammar s.words ≡ true → length input ≤ input_limit → OfInput s.files.contents s.words (λ i. input ≡ i) → (s.written_now ≡ s.written_before) ⊎ PrintsPrefix input s.written_before s.written_now → WritesPrefix s
-some_prefix s input g le told (inl same) = inl same
-some_prefix s input g le told (inr h) = writes_prefix s input g le told h
+  writes_text : (text : List ℕ) → ending_of_action call.action input ≡ Done → IsActionText call.action input text → s.written_now ≡ append_known s.written_before text → WritesText s
+  writes_text text e m w = of_read (λ i. (t : List ℕ) × IsText s.words i t × (s.written_now ≡ append_known s.written_before t)) (text, done_text text e m, w)
 
-pub writes_of_ends : (o : Outcome) (s : Seen) (input : List ℕ) → is_in_grammar s.words ≡ true → length input ≤ input_limit → OfInput s.files.contents s.words (λ i. input ≡ i)
-    → InputEnds o input s.written_before s.written_now → Writes o s
-writes_of_ends Done s input g le told h = writes_text s input h.1 g le told h.0 h.2 h.3
-writes_of_ends Memory s input g le told h = some_prefix s input g le told h
-writes_of_ends Arguments s input g le told h = absurd h
-writes_of_ends (BadLine line why) s input g le told h = h.1
-writes_of_ends (File index) s input g le told h = absurd h
-writes_of_ends Write s input g le told h = writes_prefix s input g le told h
-writes_of_ends Size s input g le told h = absurd h
+  writes_prefix : PrintsPrefix (ending_of_action call.action input) (IsActionText call.action input) s.written_before s.written_now → WritesPrefix s
+  writes_prefix h = inr (of_read (λ i. (t : List ℕ) × IsText s.words i t × AppendsPrefix s.written_before s.written_now t) (h.1, done_text h.1 h.0 h.2, h.3))
+
+  some_prefix : (s.written_now ≡ s.written_before) ⊎ PrintsPrefix (ending_of_action call.action input) (IsActionText call.action input) s.written_before s.written_now → WritesPrefix s
+  some_prefix (inl same) = inl same
+  some_prefix (inr h) = writes_prefix h
+
+  -- the outcome wrote what it should
+  pub writes_of_ends : (o : Outcome) → Ends o → Writes o s
+  writes_of_ends Done h = writes_text h.1 h.0 h.2 h.3
+  writes_of_ends Memory h = some_prefix h
+  writes_of_ends Arguments h = absurd h
+  writes_of_ends (BadLine line why) h = h.1
+  writes_of_ends (File index) h = absurd h
+  writes_of_ends Write h = writes_prefix h
+  writes_of_ends Size h = absurd h
 
 whole_prefix : (s : Seen) (contents : Option (List ℕ → List ℕ)) → OfInput contents s.words (λ i. (t : List ℕ) × IsText s.words i t × (s.written_now ≡ append_known s.written_before t))
     → OfInput contents s.words (λ i. (t : List ℕ) × IsText s.words i t × AppendsPrefix s.written_before s.written_now t)
@@ -121,13 +134,21 @@ lines_not_size : (r : Result (List Line) LineFault) → ending_of_lines r ≡ Si
 lines_not_size (Ok lines) e = cc
 lines_not_size (Err fault) e = cc
 
+steps_not_size : (r : Result StepFile ℕ) → ending_of_steps r ≡ Size → ⊥
+steps_not_size (Ok file) e = cc
+steps_not_size (Err line) e = cc
+
+not_size : (action : Action) (input : List ℕ) → ending_of_action action input ≡ Size → ⊥
+not_size (model files) input e = lines_not_size (lines_said input) e
+not_size (replay file) input e = steps_not_size (file_said input) e
+
 size_passed : (words : List (List ℕ)) (input : List ℕ) → ending_of words input ≡ Size → input_limit < length input
-size_passed words input e = by_tests (is_in_grammar words) (nat_lt input_limit (length input)) refl e
+size_passed words input e = by_tests (call_of words) (nat_lt input_limit (length input)) refl e
   where
-    by_tests : (g big : Bool) → nat_lt input_limit (length input) ≡ big → (if g then (if big then Size else ending_of_lines (lines_said input)) else Arguments) ≡ Size → input_limit < length input
-    by_tests true true b e = ltb-true input_limit (length input) b
-    by_tests true false b e = absurd (lines_not_size (lines_said input) e)
-    by_tests false big b e = cc
+    by_tests : (call : Option Call) (big : Bool) → nat_lt input_limit (length input) ≡ big → option_map_or (λ call. if big then Size else ending_of_action call.action input) call Arguments ≡ Size → input_limit < length input
+    by_tests (Some call) true b e = ltb-true input_limit (length input) b
+    by_tests (Some call) false b e = absurd (not_size call.action input e)
+    by_tests None big b e = cc
 
 pub size_of_cause : (o : Outcome) (s : Seen) (n : ℕ) → n ≡ status_of o → HasCauseOf o s → n ≡ 6 → OfInput s.files.contents s.words (λ input. input_limit < length input)
 size_of_cause Done s n e h k = absurd (omega arith)
@@ -154,11 +175,11 @@ file_of_cause Write s n P e h p k = absurd (omega (arith, e, k))
 file_of_cause Size s n P e h p k = absurd (omega (arith, e, k))
 
 pub line_of_cause : (o : Outcome) (s : Seen) (n : ℕ) (P : Outcome → Type 0) → n ≡ status_of o → HasCauseOf o s → P o → n ≡ 3
-    → OfInput s.files.contents s.words (λ input. (line : ℕ) × (why : Why) × (ending_of s.words input ≡ BadLine line why) × P (BadLine line why))
+    → OfInput s.files.contents s.words (λ input. (line : ℕ) × (why : Reason) × (ending_of s.words input ≡ BadLine line why) × P (BadLine line why))
 line_of_cause Done s n P e h p k = absurd (omega (arith, e, k))
 line_of_cause Memory s n P e h p k = absurd (omega (arith, e, k))
 line_of_cause Arguments s n P e h p k = absurd (omega (arith, e, k))
-line_of_cause (BadLine line why) s n P e h p k = of_input s.files.contents s.words (λ i. ending_of s.words i ≡ BadLine line why) (λ i. (line : ℕ) × (why : Why) × (ending_of s.words i ≡ BadLine line why) × P (BadLine line why)) (λ i q. (line, why, q, p)) h.2
+line_of_cause (BadLine line why) s n P e h p k = of_input s.files.contents s.words (λ i. ending_of s.words i ≡ BadLine line why) (λ i. (line : ℕ) × (why : Reason) × (ending_of s.words i ≡ BadLine line why) × P (BadLine line why)) (λ i q. (line, why, q, p)) h.2
 line_of_cause (File index) s n P e h p k = absurd (omega (arith, e, k))
 line_of_cause Write s n P e h p k = absurd (omega (arith, e, k))
 line_of_cause Size s n P e h p k = absurd (omega (arith, e, k))

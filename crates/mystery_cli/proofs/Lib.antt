@@ -2,8 +2,9 @@ pub mod BatchLemmas
 pub mod DayLemmas
 pub mod ElementLemmas
 pub mod EndingLemmas
+pub mod HexLemmas
 pub mod JudgeLemmas
-pub mod NumberLemmas
 pub mod OneListLemmas
 pub mod OneTextLemmas
 pub mod PrintLemmas
+pub mod ReplayLemmas

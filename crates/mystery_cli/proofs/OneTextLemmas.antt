@@ -1,5 +1,5 @@
 -- A batch has one text.
-use Rattle.std.proofs.Common.{◌≡◌, ℕ, List, [], ◌∷◌, length, Result, Ok, Err, refl, sym, ap, ◌∙◌, subst}
+use Rattle.std.proofs.Common.{◌≡◌, ℕ, List, [], ◌∷◌, length, Option, Some, Result, Ok, Err, refl, sym, ap, ◌∙◌, subst}
 use Rattle.std.specs.List.{AllZip}
 use Rattle.trace_types.specs.declared.event.Event.{Event}
 use Rattle.trace_types.specs.declared.trace.Trace.{Trace}
@@ -10,7 +10,9 @@ use Rattle.segment_cut.specs.Faults.{IsTraceFault}
 use Rattle.mystery_cli.specs.declared.refused.Refused.{Refused}
 use Rattle.mystery_cli.specs.Models.{IsJudged, kept_of, refused_of, AreJudged, Figures, AreFigures}
 use Rattle.mystery_cli.specs.ModelTexts.{model_text, IsModelText}
-use Rattle.mystery_cli.specs.Texts.{batch_of, IsText}
+use Rattle.mystery_cli.specs.CommandLines.{Action, Call, model, replay}
+use Rattle.mystery_cli.specs.ReplayTexts.{replay_text}
+use Rattle.mystery_cli.specs.Texts.{batch_of, IsActionText, IsReplayText, IsText}
 use Rattle.mystery_cli.proofs.OneListLemmas.{one_pair_list, one_count}
 
 -- the law of the crate below: a trace has one verdict
@@ -59,5 +61,18 @@ one_text l batch a b p q =
     ∙ (ap (λ (ks : List Trace). model_text q.refused (length ks) p.figures) both.0
     ∙ (ap (λ (f : Figures). model_text q.refused (length q.kept) f) figures ∙ sym q.text)))
 
+one_replay_text : (input a b : List ℕ) → IsReplayText input a → IsReplayText input b → a ≡ b
+one_replay_text input a b p q =
+    let both : Ok p.file ≡ Ok q.file = sym p.said ∙ q.said in
+    let same : p.file ≡ q.file = cc in
+    p.text ∙ ap replay_text same ∙ sym q.text
+
+one_action_text : OneVerdict → (action : Action) (input a b : List ℕ) → IsActionText action input a → IsActionText action input b → a ≡ b
+one_action_text l (model files) input a b p q = one_text l (batch_of input) a b p q
+one_action_text l (replay file) input a b p q = one_replay_text input a b p q
+
 pub one_input_text : OneVerdict → (words : List (List ℕ)) (input a b : List ℕ) → IsText words input a → IsText words input b → a ≡ b
-one_input_text l words input a b p q = one_text l (batch_of input) a b p.model q.model
+one_input_text l words input a b p q =
+    let both : Some p.call ≡ Some q.call = p.asked ∙ sym q.asked in
+    let same : p.call ≡ q.call = cc in
+    one_action_text l q.call.action input a b (subst (λ (call : Call). IsActionText call.action input a) same p.text) q.text

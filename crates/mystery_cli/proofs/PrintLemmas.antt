@@ -17,7 +17,7 @@ append_twice : (w : Option (List ℕ)) (a b : List ℕ) → append_known (append
 append_twice None a b = refl
 append_twice (Some xs) a b = ap Some (append_assoc xs a b)
 
-append_nothing : (w : Option (List ℕ)) → append_known w [] ≡ w
+pub append_nothing : (w : Option (List ℕ)) → append_known w [] ≡ w
 append_nothing None = refl
 append_nothing (Some xs) = ap Some (append-nil xs)
 

@@ -4,6 +4,7 @@ pub mod Messages
 pub mod ModelTexts
 pub mod Models
 pub mod Numbers
+pub mod ReplayTexts
 pub mod Rows
 pub mod Runs
 pub mod Texts

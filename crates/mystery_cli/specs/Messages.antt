@@ -1,6 +1,8 @@
 -- The status of an outcome, and its message.
 use Rattle.std.specs.Prelude.{ℕ, ◌+◌, ◌++◌, List, [], codes, decimal}
 use Rattle.event_lines.specs.Reasons.{why_text}
+use Rattle.mystery_cli.specs.declared.reason.Reason.{Reason}
+use Rattle.mystery_cli.specs.declared.reason.Reason.TheVariants.{Line, Step}
 use Rattle.mystery_cli.specs.declared.outcome.Outcome.{Outcome}
 use Rattle.mystery_cli.specs.declared.outcome.Outcome.TheVariants.{Done, Memory, Arguments, BadLine}
 use Rattle.mystery_cli.specs.declared.outcome.Outcome.TheVariants.{File, Write, Size}
@@ -15,6 +17,11 @@ status_of (File index) = 4
 status_of Write = 5
 status_of Size = 6
 
+-- the text in which it is printed why a line is bad
+abbrev pub reason_text : Reason → List ℕ
+reason_text (Line why) = why_text why
+reason_text Step = codes "bad step"
+
 -- what is written to standard error: nothing, or one line. Files are numbered from 1 there, and
 -- from 0 in the outcome
 abbrev pub message_of : Outcome → List ℕ
@@ -22,7 +29,7 @@ message_of Done = []
 message_of Memory = codes "out of memory\n"
 message_of Arguments = codes "usage: mystery [--workers N] COMMAND FILE...\n"
 message_of (BadLine line why) =
-    codes "line " ++ decimal line ++ codes ": " ++ why_text why ++ codes "\n"
+    codes "line " ++ decimal line ++ codes ": " ++ reason_text why ++ codes "\n"
 message_of (File index) =
     codes "file " ++ decimal (index + 1) ++ codes ": " ++ codes "read failed" ++ codes "\n"
 message_of Write = codes "write failed\n"

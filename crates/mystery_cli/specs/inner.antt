@@ -3,4 +3,5 @@ pub mod Fields
 pub mod InputEnds
 pub mod OutcomeFaults
 pub mod Printing
+pub mod Replaying
 pub mod Steps

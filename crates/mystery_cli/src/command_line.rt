@@ -1,12 +1,12 @@
-ghost use Rattle.std.specs.Prelude.{◌≡◌, ◌↔◌, ◌<◌, ◌≤◌, ◌^◌, ℕ, length, decimal, option_map};
-ghost use Rattle.std.specs.Prelude.{IfSome};
+ghost use Rattle.std.specs.Prelude.{◌≡◌, ◌<◌, ◌≤◌, ◌^◌, length, option_map, IfSome};
 ghost use Rattle.std.specs.List.{list_all};
-ghost use Rattle.std.specs.Str.{bytes_eq};
 ghost use Rattle.mystery_cli.specs.Numbers.{number_between};
-ghost use Rattle.mystery_cli.specs.CommandLines.{is_file, files_of_form, call_of_words, call_of};
-ghost use Rattle.mystery_cli.specs.CommandLines.{call_of_line};
+ghost use Rattle.mystery_cli.specs.CommandLines.{action_of, action_of_words, call_of};
+ghost use Rattle.mystery_cli.specs.CommandLines.{call_of_line, call_of_words, files_of_action};
+ghost use Rattle.mystery_cli.specs.CommandLines.{is_file};
 
-use itoa::Buffer;
+use crate::action::Action;
+use step_core::plain_number;
 use trace_types::Text;
 
 /// The default number of workers.
@@ -20,33 +20,15 @@ const MAX_WORKERS: u32 = 64;
 pub(crate) struct CommandLine<'w> {
     /// The number of workers, from 1 to 64. It changes nothing yet.
     pub(crate) workers: u32,
-    /// The names of the files, one at least.
-    pub(crate) files: &'w [Text],
-}
-
-/// Tells whether the text is the number in plain digits.
-fn is_written(number: u32, word: &str) -> bool
-    ensures { result ≡ bytes_eq (decimal number) word.now }
-{
-    let mut digits = Buffer::new();
-    digits.format(number) == word
-}
-
-/// Reads a number in plain digits.
-fn parse_plain_number(word: &str) -> Option<u32>
-    ensures { (n : ℕ) → n < 2 ^ 32 → (result ≡ Some n) ↔ (decimal n ≡ word.now) }
-{
-    match word.parse::<u32>() {
-        Ok(number) if is_written(number, word) => Some(number),
-        _ => None,
-    }
+    /// What is to be done.
+    pub(crate) action: Action<'w>,
 }
 
 /// Reads the number of workers, from 1 to 64.
 fn parse_workers(word: &str) -> Option<u32>
     ensures { result ≡ number_between 1 64 word.now }
 {
-    match parse_plain_number(word) {
+    match plain_number(word.as_bytes()) {
         Some(number) if 1 <= number && number <= MAX_WORKERS => Some(number),
         _ => None,
     }
@@ -59,26 +41,33 @@ fn are_files(words: &[Text]) -> bool
     words.iter().all(|word| !word.as_str().is_empty())
 }
 
-/// Finds the files after the command `model`.
-fn find_files(words: &[Text]) -> Option<&[Text]>
-    ensures named { option_map (λ s. s.now) result ≡ files_of_form words.now }
-    ensures few { IfSome result (λ s. length s.now ≤ length words.now) }
-    ensures some { IfSome result (λ s. 0 < length s.now) }
+/// Finds what a command with its words asks for.
+fn find_action(words: &[Text]) -> Option<Action<'_>>
+    ensures asked { option_map action_of result ≡ action_of_words words.now }
+    ensures few { IfSome result (λ a.
+        length (files_of_action (action_of a)) ≤ length words.now) }
+    ensures some { IfSome result (λ a. 0 < length (files_of_action (action_of a))) }
 {
     match words {
-        [command, _, ..] if command.as_str() == "model" && are_files(&words[1..]) => {
-            Some(&words[1..])
+        [name, _, ..] if name.as_str() == "model" && are_files(&words[1..]) => {
+            Some(Action::Model { files: &words[1..] })
+        }
+        [name, file] if name.as_str() == "replay" && !file.as_str().is_empty() => {
+            Some(Action::Replay { file })
         }
         _ => None,
     }
 }
 
 impl<'w> CommandLine<'w> {
-    /// Reads the arguments `[--workers N] model FILE...`; `None` if they are outside the grammar.
+    /// Reads the arguments `[--workers N] COMMAND`, where COMMAND is `model FILE...` or
+    /// `replay FILE`; `None` if they are outside the grammar.
     pub(crate) fn parse(words: &'w [Text]) -> Option<CommandLine<'w>>
         ensures call { option_map call_of_line result ≡ call_of words.now }
-        ensures few { IfSome result (λ line. length line.files.now < 2 ^ 32) }
-        ensures some { IfSome result (λ line. 0 < length line.files.now) }
+        ensures few { IfSome result (λ line.
+            length (files_of_action (action_of line.action)) < 2 ^ 32) }
+        ensures some { IfSome result (λ line.
+            0 < length (files_of_action (action_of line.action))) }
     {
         if u32::try_from(words.len()).is_err() {
             return None;
@@ -89,20 +78,22 @@ impl<'w> CommandLine<'w> {
     /// Reads fewer than 2^32 arguments.
     fn parse_few(words: &'w [Text]) -> Option<CommandLine<'w>>
         ensures call { option_map call_of_line result ≡ call_of_words words.now }
-        ensures few { IfSome result (λ line. length line.files.now ≤ length words.now) }
-        ensures some { IfSome result (λ line. 0 < length line.files.now) }
+        ensures few { IfSome result (λ line.
+            length (files_of_action (action_of line.action)) ≤ length words.now) }
+        ensures some { IfSome result (λ line.
+            0 < length (files_of_action (action_of line.action))) }
     {
         match words {
             [first, number, ..] if first.as_str() == "--workers" => {
                 let workers = parse_workers(number.as_str())?;
-                let files = find_files(&words[2..])?;
-                Some(CommandLine { workers, files })
+                let action = find_action(&words[2..])?;
+                Some(CommandLine { workers, action })
             }
             _ => {
-                let files = find_files(words)?;
+                let action = find_action(words)?;
                 Some(CommandLine {
                     workers: WORKERS,
-                    files,
+                    action,
                 })
             }
         }

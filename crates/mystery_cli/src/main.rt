@@ -2,6 +2,7 @@
 //! other. `run` is the whole program over any files, sinks and gate; `main` gives it the real ones.
 #![tactic(auto)]
 
+mod action;
 mod batch;
 mod batch_model;
 mod command_line;
@@ -12,11 +13,15 @@ mod model_text;
 mod outcome;
 mod printing;
 mod program;
+mod reason;
 mod refused;
+mod replay;
+mod replaying;
 
 use mystery_io::{OpenGate, RealFiles, RealSink, send_text};
 pub use outcome::Outcome;
 pub use program::run;
+pub use reason::Reason;
 pub use refused::Refused;
 use std::alloc::{AllocError, Global};
 use std::env;

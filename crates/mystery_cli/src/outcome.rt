@@ -1,8 +1,8 @@
 ghost use Rattle.std.specs.Prelude.{◌≡◌, ◌+◌, ◌≤◌, ◌<◌, ◌++◌, length, codes, decimal};
 ghost use Rattle.mystery_cli.specs.Messages.{status_of, message_of};
 
+use crate::Reason;
 use arrayvec::ArrayString;
-use event_lines::Why;
 use itoa::Buffer;
 
 /// How a run ended.
@@ -15,7 +15,7 @@ pub enum Outcome {
     /// The arguments are outside the grammar.
     Arguments,
     /// The line with this number is the first bad one of the input.
-    BadLine { line: u32, why: Why },
+    BadLine { line: u32, why: Reason },
     /// The file argument with this index, from 0, could not be opened or read.
     File { index: u32 },
     /// The text could not be written to its end.

@@ -1,5 +1,7 @@
-ghost use Rattle.std.specs.Prelude.{◌≡◌, ◌++◌, ◌∷◌, [], map, decimal, OnOk};
+ghost use Rattle.std.specs.Prelude.{◌≡◌, ◌<◌, ◌++◌, ◌∷◌, [], map, decimal, OnOk};
+ghost use Rattle.std.specs.Char.{digit_char};
 ghost use Rattle.std.specs.List.{flat_map, join_with_byte};
+ghost use Rattle.mystery_cli.specs.ReplayTexts.{hex_word};
 ghost use Rattle.mystery_cli.specs.Rows.{row_of};
 ghost use Rattle.mystery_cli.specs.inner.Fields.{field_text};
 ghost use Rattle.mystery_cli.specs.inner.Printing.{PrintsText};
@@ -20,6 +22,8 @@ pub(crate) enum Field<'t> {
     Number(u64),
     /// A name and its number, as `traces=3`.
     Figure(&'t str, u64),
+    /// A word of 64 bits as 16 lower-case hexadecimal digits.
+    Hex(u64),
 }
 
 /// Why a text was not printed to its end.
@@ -72,6 +76,28 @@ fn put_number(buffer: &mut Vec<u8>, number: u64) -> Result<(), AllocError>
     buffer.extend_from_slice(digits.format(number).as_bytes())
 }
 
+/// Gives a hexadecimal digit, in lower case.
+fn hex_digit(value: u64) -> u8
+    requires { value < 16 }
+    ensures { result ≡ digit_char value }
+{
+    if value < 10 {
+        b'0' + value as u8
+    } else {
+        b'a' + (value - 10) as u8
+    }
+}
+
+/// Appends a word of 64 bits as 16 hexadecimal digits.
+fn put_hex(buffer: &mut Vec<u8>, word: u64) -> Result<(), AllocError>
+    ensures { OnOk result (buffer.new.items ≡ buffer.old.items ++ hex_word word) }
+{
+    for place in 0..16u32 {
+        buffer.push(hex_digit((word >> (60 - 4 * place)) % 16))?;
+    }
+    Ok(())
+}
+
 /// Appends a field.
 fn put_field(buffer: &mut Vec<u8>, field: &Field<'_>) -> Result<(), AllocError>
     ensures { OnOk result (buffer.new.items ≡ buffer.old.items ++ field_text field.now) }
@@ -79,6 +105,7 @@ fn put_field(buffer: &mut Vec<u8>, field: &Field<'_>) -> Result<(), AllocError>
     match field {
         Field::Word(word) => buffer.extend_from_slice(word.as_bytes()),
         Field::Number(number) => put_number(buffer, *number),
+        Field::Hex(word) => put_hex(buffer, *word),
         Field::Figure(name, number) => {
             buffer.extend_from_slice(name.as_bytes())?;
             buffer.push(b'=')?;

@@ -4,22 +4,26 @@ ghost use Rattle.mystery_io.specs.Counts.{counted_up};
 ghost use Rattle.mystery_io.specs.Input.{input_limit};
 ghost use Rattle.mystery_io.specs.Prefixes.{AppendsPrefix, Sends};
 ghost use Rattle.mystery_io.specs.ReadFaults.{files_seen, OpensFirst, FailedAt};
-ghost use Rattle.event_lines.specs.declared.why.Why.{Why};
+ghost use Rattle.event_lines.specs.InputLines.{lines_said};
 ghost use Rattle.mystery_cli.specs.declared.outcome.Outcome.{Outcome};
 ghost use Rattle.mystery_cli.specs.declared.outcome.Outcome.TheVariants.{BadLine, File};
-ghost use Rattle.mystery_cli.specs.CommandLines.{is_in_grammar, files_of};
-ghost use Rattle.mystery_cli.specs.Endings.{ending_of};
+ghost use Rattle.mystery_cli.specs.declared.reason.Reason.{Reason};
+ghost use Rattle.mystery_cli.specs.CommandLines.{action_of, is_in_grammar, files_of};
+ghost use Rattle.mystery_cli.specs.Endings.{ending_of, ending_of_action, ending_of_lines};
 ghost use Rattle.mystery_cli.specs.Messages.{status_of, message_of};
-ghost use Rattle.mystery_cli.specs.Texts.{IsText};
+ghost use Rattle.mystery_cli.specs.ModelTexts.{IsModelText};
+ghost use Rattle.mystery_cli.specs.Texts.{batch_of, IsActionText, IsText};
 ghost use Rattle.mystery_cli.specs.Runs.{run_seen, HasCauseOf, Writes, Explains, OfInput, ReadsAll};
 ghost use Rattle.mystery_cli.specs.inner.InputEnds.{InputEnds, LeavesFiles, LeavesSink};
 ghost use Rattle.mystery_cli.specs.inner.OutcomeFaults.{outcome_faults, outcome_read_faults};
 
-use crate::Outcome;
+use crate::action::Action;
 use crate::batch_model::build_model;
 use crate::command_line::CommandLine;
 use crate::model_text::print_model;
 use crate::printing::PrintFault;
+use crate::replay::replay_input;
+use crate::{Outcome, Reason};
 use event_lines::LineError;
 use mystery_io::{Files, Gate, ReadFault, Sink, read_all, send_text};
 use std::alloc::Global;
@@ -27,20 +31,38 @@ use std::thread::Threads;
 use trace_types::Text;
 
 /// Makes the model of an input and prints its text.
-fn print_text<S: Sink>(alloc: Global, input: &[u8], out: &mut S) -> Outcome
+fn print_model_of<S: Sink>(alloc: Global, input: &[u8], out: &mut S) -> Outcome
     requires { length input.now ≤ input_limit }
-    ensures ends { InputEnds result input.now (S.written out.old) (S.written out.new) }
+    ensures ends { InputEnds result (ending_of_lines (lines_said input.now))
+        (IsModelText (batch_of input.now)) (S.written out.old) (S.written out.new) }
     ensures leaves { LeavesSink result out.old out.new }
     ensures counted { S.faults out.new ≡ outcome_faults result (S.faults out.old) }
 {
     match build_model(alloc, input) {
         Err(LineError::Memory) => Outcome::Memory,
-        Err(LineError::Bad { line, why }) => Outcome::BadLine { line, why },
+        Err(LineError::Bad { line, why }) => Outcome::BadLine {
+            line,
+            why: Reason::Line { why },
+        },
         Ok(model) => match print_model(alloc, out, &model) {
             Ok(()) => Outcome::Done,
             Err(PrintFault::Memory) => Outcome::Memory,
             Err(PrintFault::Write) => Outcome::Write,
         },
+    }
+}
+
+/// Prints the text that is asked for of an input.
+fn print_text<S: Sink>(alloc: Global, action: Action<'_>, input: &[u8], out: &mut S) -> Outcome
+    requires { length input.now ≤ input_limit }
+    ensures ends { InputEnds result (ending_of_action (action_of action.entry) input.now)
+        (IsActionText (action_of action.entry) input.now) (S.written out.old) (S.written out.new) }
+    ensures leaves { LeavesSink result out.old out.new }
+    ensures counted { S.faults out.new ≡ outcome_faults result (S.faults out.old) }
+{
+    match action {
+        Action::Model { .. } => print_model_of(alloc, input, out),
+        Action::Replay { .. } => replay_input(alloc, input, out),
     }
 }
 
@@ -61,11 +83,11 @@ fn perform<F: Files, S: Sink>(alloc: Global, words: &[Text], files: &mut F, out:
     let Some(line) = CommandLine::parse(words) else {
         return Outcome::Arguments;
     };
-    match read_all(alloc, files, line.files) {
+    match read_all(alloc, files, line.action.files()) {
         Err(ReadFault::Memory) => Outcome::Memory,
         Err(ReadFault::File { index }) => Outcome::File { index },
         Err(ReadFault::TooBig) => Outcome::Size,
-        Ok(input) => print_text(alloc, &input, out),
+        Ok(input) => print_text(alloc, line.action, &input, out),
     }
 }
 
@@ -95,7 +117,7 @@ pub fn run<R: Threads + Sync, F: Files, S: Sink, E: Sink, G: Gate + Sync>(
     ensures range { result ≤ 6 }
     ensures arguments { (result == 2) ≡ not (is_in_grammar words.now) }
     ensures bad_line { result ≡ 3 → OfInput (F.contents files.old) words.now (λ input.
-        (line : ℕ) × (why : Why) × (ending_of words.now input ≡ BadLine line why)
+        (line : ℕ) × (why : Reason) × (ending_of words.now input ≡ BadLine line why)
         × Sends E.written E.faults err.old err.new (message_of (BadLine line why))) }
     ensures read_fault { F.faults files.new
         ≡ (if result == 4 then counted_up (F.faults files.old) else F.faults files.old) }

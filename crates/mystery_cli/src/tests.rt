@@ -2,6 +2,7 @@ mod faults;
 mod models;
 mod page_load;
 mod real;
+mod replays;
 
 use crate::run;
 use mystery_io::{ByteList, MemFile, MemFiles, MemSink, OpenGate};

@@ -28,7 +28,7 @@ fn blank_input_has_the_empty_model(rt: HostRuntime) -> Result<(), Fail> {
     Ok(())
 }
 
-const OUTSIDE_THE_GRAMMAR: [&[&str]; 20] = [
+const OUTSIDE_THE_GRAMMAR: [&[&str]; 24] = [
     &[],
     &[""],
     &["model"],
@@ -48,6 +48,10 @@ const OUTSIDE_THE_GRAMMAR: [&[&str]; 20] = [
     &["session", "f"],
     &["paths", "f"],
     &["drill", "1", "1"],
+    &["replay"],
+    &["replay", ""],
+    &["replay", "f", "g"],
+    &["--workers", "0", "replay", "f"],
     &["f"],
 ];
 

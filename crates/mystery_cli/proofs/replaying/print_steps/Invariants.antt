@@ -1,0 +1,14 @@
+use Rattle.std.proofs.Common.{◌≡◌, ◌+◌, ◌≤◌, length, take}
+use Rattle.word_rows.specs.Machine.{steps}
+use Rattle.mystery_cli.specs.inner.Printing.{Prints}
+use Rattle.mystery_cli.specs.inner.Replaying.{steps_text}
+use Rattle.mystery_cli.proofs.replaying.print_steps.Given as goal
+
+-- the first steps were made, and their rows printed
+abbrev pub invariant-loop-event : goal.invariant-loop-event
+invariant-loop-event g l = record {
+  state : l.machine ≡ (steps l.fn.machine (take l.event-index l.events)).0;
+  seats : length l.machine.views ≤ length l.fn.machine.views + l.event-index;
+  prints : Prints (g.S.Sink.written l.fn.out) (g.S.Sink.written l.out) l.fn.buffer.items l.buffer.items (steps_text l.fn.machine (take l.event-index l.events));
+  counted : g.S.Sink.faults l.out ≡ g.S.Sink.faults l.fn.out;
+}
