@@ -1,0 +1,6 @@
+pub mod GraphLemmas
+pub mod KeyLemmas
+pub mod LawLemmas
+pub mod RenamedLemmas
+pub mod SuccessorLemmas
+pub mod UniqueLemmas

@@ -1,0 +1,85 @@
+-- The successors of a vertex, found one by one.
+use Rattle.std.proofs.Common.{◌≡◌, ℕ, ◌+◌, ◌<◌, ◌≤◌, List, [], ◌∷◌, ◌++◌, length, get_or, Contains, arith, sym, ap, ◌∙◌, subst, ⊎_elim}
+use Rattle.std.specs.List.Sorted.{IsStrictlyIncreasing}
+use Rattle.std.proofs.lemmas.Bool.{cases_lt}
+use Rattle.std.proofs.lemmas.List.{get_or_append_left, get_or_at, get_or_push, length_push}
+use Rattle.std.proofs.lemmas.List.Elements.{Contains-push, Contains-push_cases, Contains-append_left, Contains-get_or}
+use Rattle.model_meet.specs.ModelStates.{ModelState}
+use Rattle.refute_tests.specs.Survivors.{AreSurvivors}
+use Rattle.trace_types.specs.Parts.{by_number}
+use Rattle.trace_types.specs.Refuting.{RefutesExclusive}
+use Rattle.trace_types.specs.Surviving.{Survives}
+use Rattle.trace_types.specs.declared.named_trace.NamedTrace.{NamedTrace}
+use Rattle.trace_graph.specs.inner.Successors.{AreExclusive, AreLists, name_at}
+
+-- a rising list with a greater number at its end rises
+rising_push : (xs : List ℕ) (b : ℕ) → IsStrictlyIncreasing xs → ((w : ℕ) → Contains xs w → w < b) → IsStrictlyIncreasing (xs ++ b ∷ [])
+rising_push xs b rises below k h = ⊎_elim
+    (λ (l : k + 1 < length xs).
+    let lower : k < length xs = omega arith in
+    let here = get_or_append_left xs (b ∷ []) 0 k lower in
+    let next = get_or_append_left xs (b ∷ []) 0 (k + 1) l in
+    let r = rises k l in
+    omega arith)
+    (λ (l : length xs ≤ k + 1).
+    let n = length_push xs b in
+    let e : length xs ≡ k + 1 = omega arith in
+    let lower : k < length xs = omega arith in
+    let here = get_or_append_left xs (b ∷ []) 0 k lower in
+    let next = get_or_at xs b [] 0 (k + 1) e in
+    let r = below (get_or xs k 0) (Contains-get_or xs k 0 lower) in
+    omega arith)
+    (cases_lt (k + 1) (length xs))
+
+module _ (model : ModelState) (names : List ℕ) (v : ℕ) where
+  -- no trace that the words tell of refutes that v and w are mutually exclusive
+  abbrev pub Excludes : List NamedTrace → ℕ → Type 0
+  Excludes traces w = Survives (RefutesExclusive by_number (name_at names v) (name_at names w)) traces
+
+  pub none_yet : AreExclusive model names v (v + 1) []
+  none_yet = record {
+    rising = λ k h. absurd (omega arith);
+    later = λ w (k, lt, is). absurd (omega arith);
+    told = λ traces s w after before. absurd (omega arith);
+  }
+
+  pub one_more : (n : ℕ) (list : List ℕ) → v < n → AreExclusive model names v n list → ((traces : List NamedTrace) → AreSurvivors traces model.words → Excludes traces n) → AreExclusive model names v (n + 1) (list ++ n ∷ [])
+  one_more n list after a holds = record {
+    rising = rising_push list n a.rising (λ w has. (a.later w has).1);
+    later = λ w has. ⊎_elim
+        (λ (old : Contains list w). let (lower, upper) = a.later w old in (lower, (let u : w < n = upper in omega arith)))
+        (λ (same : n ≡ w). (subst (λ (x : ℕ). v < x) same after, (let e : n ≡ w = same in omega arith)))
+        (Contains-push_cases list n w has);
+    told = λ traces s w lower upper. (
+      (λ has. ⊎_elim
+          (λ (old : Contains list w). (a.told traces s w lower (a.later w old).1).0 old)
+          (λ (same : n ≡ w). subst (Excludes traces) same (holds traces s))
+          (Contains-push_cases list n w has)),
+      (λ excluded. ⊎_elim
+          (λ (below : w < n). Contains-append_left list (n ∷ []) w ((a.told traces s w lower below).1 excluded))
+          (λ (above : n ≤ w). let e : n ≡ w = omega arith in subst (Contains (list ++ n ∷ [])) e (Contains-push list n))
+          (cases_lt w n)),
+    );
+  }
+
+  pub none_more : (n : ℕ) (list : List ℕ) → AreExclusive model names v n list → ((traces : List NamedTrace) → AreSurvivors traces model.words → Excludes traces n → ⊥) → AreExclusive model names v (n + 1) list
+  none_more n list a fails = record {
+    rising = a.rising;
+    later = λ w has. let (lower, upper) = a.later w has in (lower, (let u : w < n = upper in omega arith));
+    told = λ traces s w lower upper. (
+      (λ has. (a.told traces s w lower (a.later w has).1).0 has),
+      (λ excluded. ⊎_elim
+          (λ (below : w < n). (a.told traces s w lower below).1 excluded)
+          (λ (above : n ≤ w). let e : n ≡ w = omega arith in absurd (fails traces s (subst (Excludes traces) (sym e) excluded)))
+          (cases_lt w n)),
+    );
+  }
+
+pub lists_push : (model : ModelState) (names : List ℕ) (n : ℕ) (lists : List (List ℕ)) (list : List ℕ) → AreLists model names n lists → AreExclusive model names n (length names) list → AreLists model names (n + 1) (lists ++ list ∷ [])
+lists_push model names n lists list a one = record {
+  each = length_push lists list ∙ ap (λ k. k + 1) a.each;
+  exact = λ v d lt. ⊎_elim
+      (λ (below : v < n). subst (AreExclusive model names v (length names)) (sym (get_or_append_left lists (list ∷ []) d v (let e : length lists ≡ n = a.each in omega arith))) (a.exact v d below))
+      (λ (above : n ≤ v). let same : n ≡ v = omega arith in subst (AreExclusive model names v (length names)) (sym (get_or_push lists list d v (a.each ∙ same))) (subst (λ (x : ℕ). AreExclusive model names x (length names) list) same one))
+      (cases_lt v n);
+}

@@ -1,0 +1,4 @@
+pub mod RenamedGraphs
+pub mod TraceGraphs
+pub mod VertexOrder
+pub mod inner

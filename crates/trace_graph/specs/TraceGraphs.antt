@@ -1,0 +1,41 @@
+-- The dependency graph of a trace: M. Chow et al., "The Mystery Machine", OSDI 2014, section 3.4.
+-- The order of vertices and the rule on grace are this project's own.
+use Rattle.std.specs.Prelude.{◌≡◌, ◌⊎◌, ◌↔◌, ℕ, pos, ◌+ℤ◌, ◌≤ℤ◌, Some, List, length, slice_get}
+use Rattle.trace_types.specs.Parts.{Parts}
+use Rattle.trace_types.specs.Refuting.{RefutesExclusive}
+use Rattle.trace_types.specs.Surviving.{Survives}
+use Rattle.trace_graph.specs.VertexOrder.{IsEarlier, IsVertexOrder}
+use Rattle.weighted_dag.specs.Graphs.{Graph, IsEdge, IsGraph, weight_of}
+
+module _ {A S N T E : Type 0} (p : Parts A S N T E) where
+  -- an edge leads from the segment at i to the segment at j of the trace: the first comes before
+  -- the second, and no trace of the list refutes that the two names are mutually exclusive
+  pub record IsDependency (traces : List A) (trace : A) (i j : ℕ) : Type 0 where
+    pub s : S
+    pub t : S
+    pub first : slice_get (p.segments trace) i ≡ Some s
+    pub second : slice_get (p.segments trace) j ≡ Some t
+    pub earlier : IsEarlier p s i t j
+    pub survives : Survives (RefutesExclusive p (p.name s) (p.name t)) traces
+
+  -- the graph of a trace under what a list of traces leaves: its vertices are the segments in their
+  -- order, each with its duration in nanoseconds, and its edges the dependencies
+  pub record IsTraceGraph (traces : List A) (trace : A) (order : List ℕ) (g : Graph) : Type 0 where
+    pub vertices : IsVertexOrder p trace order
+    pub count : length g.weights ≡ length order
+    pub weights : (v i : ℕ) (s : S) → slice_get order v ≡ Some i
+        → slice_get (p.segments trace) i ≡ Some s
+        → (p.start s +ℤ pos (weight_of g v)) ≡ p.end s
+    pub edges : (v w i j : ℕ) → slice_get order v ≡ Some i → slice_get order w ≡ Some j
+        → IsEdge g v w ↔ IsDependency traces trace i j
+
+  -- of two segments one ends no later than the other's start plus the trace's grace
+  abbrev pub DoNotOverlap : A → S → S → Type 0
+  DoNotOverlap trace s t = (p.end s ≤ℤ (p.start t +ℤ pos (p.grace trace)))
+      ⊎ (p.end t ≤ℤ (p.start s +ℤ pos (p.grace trace)))
+
+  -- two graphs of a trace are one, with one order of vertices
+  abbrev pub HasOneGraph : Type 0
+  HasOneGraph = (traces : List A) (trace : A) (order other : List ℕ) (g h : Graph) → IsGraph g
+      → IsGraph h → IsTraceGraph traces trace order g → IsTraceGraph traces trace other h
+      → (order ≡ other) × (g ≡ h)

@@ -1,0 +1,36 @@
+ghost use Rattle.std.specs.Prelude.{List, IfOk};
+ghost use Rattle.refute_tests.specs.Clearing.{HaveNamesBelow};
+ghost use Rattle.refute_tests.specs.Survivors.{AreSurvivors};
+ghost use Rattle.trace_graph.specs.TraceGraphs.{IsTraceGraph};
+ghost use Rattle.trace_types.specs.Parts.{by_number};
+ghost use Rattle.trace_types.specs.declared.named_trace.NamedTrace.{NamedTrace};
+
+use crate::OrderedGraph;
+use crate::ordering::sort_keys;
+use crate::successors::list_successors;
+use crate::vertices::{durations_of, indices_of, names_of};
+use model_meet::Model;
+use std::alloc::{AllocError, Global};
+use trace_types::NamedTrace;
+use weighted_dag::{Dag, NumberList};
+
+/// Makes the graph of a trace whose names are below the model's: a vertex for each segment, in the
+/// order of their starts, ends and indices, and an edge to each later segment whose name is
+/// mutually exclusive with its own (Chow et al., "The Mystery Machine", OSDI 2014, section 3.4). The
+/// only error is that memory ran out.
+pub fn graph(alloc: Global, trace: &NamedTrace, model: &Model) -> Result<OrderedGraph, AllocError>
+    requires { HaveNamesBelow model.now.names trace.now }
+    ensures { IfOk result (λ g. (traces : List NamedTrace) → AreSurvivors traces model.now.words
+        → IsTraceGraph by_number traces trace.now g.order g.dag) }
+{
+    let segments = trace.segments.items();
+    let keys = sort_keys(alloc, segments)?;
+    let names = names_of(alloc, segments, keys.as_slice())?;
+    let weights = durations_of(alloc, keys.as_slice())?;
+    let successors = list_successors(alloc, model, names.as_slice())?;
+    let order = indices_of(alloc, keys.as_slice())?;
+    Ok(OrderedGraph {
+        order: NumberList::of(order),
+        dag: Dag::of(weights, successors),
+    })
+}
