@@ -1,0 +1,8 @@
+use Rattle.std.proofs.Common.{◌≡◌, ◌++◌, ◌∷◌, take}
+use Rattle.std.specs.List.{flat_map}
+use Rattle.text_rows.specs.Fields.{field_text}
+use Rattle.text_rows.proofs.row_bytes.put_rest.Given as goal
+
+-- the fields so far
+abbrev pub invariant-loop-field : goal.invariant-loop-field
+invariant-loop-field l = l.bytes.items ≡ l.fn.bytes.items ++ flat_map (λ f. 9 ∷ field_text f) (take l.field-index l.fields)

@@ -1,0 +1,6 @@
+pub mod Fields
+pub mod PartsFollow
+pub mod Printing
+pub mod Rows
+pub mod TextsFollow
+pub mod TextsOfParts
