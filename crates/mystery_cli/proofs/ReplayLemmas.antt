@@ -1,9 +1,8 @@
 -- The rows of a replay, one step after another.
-use Rattle.std.proofs.Common.{◌≡◌, ℕ, ◌+◌, ◌<◌, ◌≤◌, List, [], ◌∷◌, ◌++◌, map, length, take, drop, get_or, Option, Some, None, Result, Ok, Err, refl, sym, ap, ◌∙◌, subst, append_assoc, arith}
+use Rattle.std.proofs.Common.{◌≡◌, ℕ, ◌+◌, ◌<◌, ◌≤◌, List, [], ◌∷◌, ◌++◌, length, take, drop, get_or, Option, Result, Ok, Err, refl, sym, ap, ◌∙◌, subst, append_assoc, arith}
 use Rattle.std.specs.Prelude.{OnOk}
-use Rattle.std.specs.List.{concat, zip}
 use Rattle.std.specs.Io.KnownBytes.{append_known}
-use Rattle.std.proofs.lemmas.List.{append-nil, take_more, drop_more, take-append-drop, take_all}
+use Rattle.std.proofs.lemmas.List.{append-nil, take_more, take-append-drop, take_all}
 use Rattle.std.proofs.lemmas.Grind.{common_steps}
 use Rattle.mystery_io.specs.Prefixes.{AppendsPrefix}
 use Rattle.word_rows.specs.declared.events.StepEvent.{StepEvent}
@@ -15,11 +14,10 @@ use Rattle.step_core.specs.declared.step_fault.StepFault.TheVariants as faults
 use Rattle.step_core.specs.declared.step_line_error.StepLineError.TheVariants.{Bad}
 use Rattle.step_core.specs.StepFaults.{HasStepFault}
 use Rattle.step_core.specs.StepFiles.{file_said, IsStepLineError}
-use Rattle.mystery_cli.specs.declared.outcome.Outcome.{Outcome}
 use Rattle.mystery_cli.specs.declared.outcome.Outcome.TheVariants.{Done, BadLine}
 use Rattle.mystery_cli.specs.declared.reason.Reason.TheVariants.{Step}
 use Rattle.mystery_cli.specs.declared.printing.PrintFault.{PrintFault}
-use Rattle.mystery_cli.specs.declared.printing.PrintFault.TheVariants.{Memory, Write}
+use Rattle.mystery_cli.specs.declared.printing.PrintFault.TheVariants.{Memory}
 use Rattle.mystery_cli.specs.Endings.{ending_of_steps}
 use Rattle.mystery_cli.specs.ReplayTexts.{reply_row, fault_row, step_row, replay_text}
 use Rattle.mystery_cli.specs.Texts.{IsReplayText}

@@ -1,5 +1,5 @@
 -- The text of the arguments and the input.
-use Rattle.std.specs.Prelude.{ℕ, ◌≡◌, List, [], Option, Some, Result, Ok, Err}
+use Rattle.std.specs.Prelude.{ℕ, ◌≡◌, List, [], Some, Result, Ok, Err}
 use Rattle.trace_types.specs.declared.event.Event.{Event}
 use Rattle.event_lines.specs.declared.line.Line.{Line}
 use Rattle.event_lines.specs.InputLines.{LineFault, lines_said}

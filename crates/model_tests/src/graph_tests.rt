@@ -1,0 +1,83 @@
+use crate::inputs::{are_below, cut_traces, is_below, name_traces};
+use crate::worked_inputs::push_request;
+use critical_path::critical;
+use model_meet::Model;
+use pipeline_tests::DaySheet;
+use slack::slacks;
+use std::alloc::Global;
+use std::rt::HostRuntime;
+use std::test::Fail;
+use trace_graph::{OrderedGraph, graph};
+use weighted_dag::reduce;
+
+/// Makes the graph of the only trace of these events, which has this grace, in nanoseconds.
+fn graph_of(alloc: Global, events: &[(&str, &str, u64)], grace: u64) -> Option<OrderedGraph> {
+    let mut all = Vec::new(alloc);
+    push_request(&mut all, alloc, "r1", events).ok()?;
+    let traces = cut_traces(alloc, all)?;
+    let (catalogue, named) = name_traces(alloc, traces, grace)?;
+    let count = catalogue.names();
+    if count > 512 || !are_below(&named, count) {
+        return None;
+    }
+    let sheet = DaySheet::plain(alloc, named, count).ok()?;
+    let model = Model::new(sheet.words().words(), count);
+    let trace = sheet.traces().first()?;
+    if !is_below(trace, count) {
+        return None;
+    }
+    graph(alloc, trace, &model).ok()
+}
+
+/// A segment, two that start at its end, and one that starts when the longer of these ends.
+const TWO_WAYS: [(&str, &str, u64); 8] = [
+    ("a", "s", 0),
+    ("a", "e", 5),
+    ("b", "s", 5),
+    ("b", "e", 15),
+    ("c", "s", 5),
+    ("c", "e", 9),
+    ("d", "s", 15),
+    ("d", "e", 18),
+];
+
+#[test]
+fn longer_of_two_ways_is_critical(rt: HostRuntime) -> Result<(), Fail> {
+    let alloc = rt.alloc();
+    let graph = graph_of(alloc, &TWO_WAYS, 0).expect(&rt, "graph");
+    assert!(rt; graph.order.items() == [0, 2, 1, 3].as_slice());
+    assert!(rt; graph.dag.weights() == [5000, 4000, 10000, 3000].as_slice());
+    let chain = critical(alloc, &graph.dag)?;
+    assert!(rt; chain.vertices.items() == [0, 2, 3].as_slice());
+    assert!(rt; chain.length == 18000);
+    assert!(rt; slacks(alloc, &graph.dag)?.as_slice() == [0, 6000, 0, 0].as_slice());
+    let reduced = reduce(alloc, &graph.dag)?;
+    assert!(rt; reduced.weights().len() == 4);
+    assert!(rt; reduced.successors(0) == [1, 2].as_slice());
+    assert!(rt; reduced.successors(1) == [3].as_slice());
+    assert!(rt; reduced.successors(2) == [3].as_slice());
+    Ok(())
+}
+
+#[test]
+fn equal_segments_stand_by_index(rt: HostRuntime) -> Result<(), Fail> {
+    let alloc = rt.alloc();
+    let events = [("a", "s", 5), ("a", "e", 5), ("b", "s", 5), ("b", "e", 5)];
+    let graph = graph_of(alloc, &events, 0).expect(&rt, "graph");
+    assert!(rt; graph.dag.weights() == [0, 0].as_slice());
+    assert!(rt; graph.order.items() == [0, 1].as_slice());
+    assert!(rt; graph.dag.successors(0) == [1].as_slice());
+    assert!(rt; critical(alloc, &graph.dag)?.length == 0);
+    Ok(())
+}
+
+#[test]
+fn grace_lets_segments_overlap(rt: HostRuntime) -> Result<(), Fail> {
+    let alloc = rt.alloc();
+    let events = [("a", "s", 0), ("a", "e", 100), ("b", "s", 1), ("b", "e", 5)];
+    let with = graph_of(alloc, &events, 10_000).expect(&rt, "graph");
+    assert!(rt; critical(alloc, &with.dag)?.length == 104_000);
+    let without = graph_of(alloc, &events, 0).expect(&rt, "graph");
+    assert!(rt; critical(alloc, &without.dag)?.length == 100_000);
+    Ok(())
+}

@@ -1,0 +1,95 @@
+ghost use Rattle.std.specs.Prelude.{◌^◌, ◌<◌, ◌↔◌, All, IsTrue, length};
+ghost use Rattle.refute_tests.specs.Clearing.{HaveNamesBelow};
+ghost use Rattle.trace_types.specs.Parts.{by_text, segments_of};
+ghost use Rattle.trace_types.specs.declared.named_segment.NamedSegment.{NamedSegment};
+
+use event_lines::{gather, lines_rise};
+use segment_cut::cut;
+use segment_names::Catalogue;
+use std::alloc::Global;
+use trace_types::{Event, NamedSegment, NamedTrace, Trace, are_timely};
+
+/// Gathers and cuts the traces of events; none where a trace is refused.
+pub(crate) fn cut_traces(alloc: Global, events: Vec<Event>) -> Option<Vec<Trace>> {
+    if !lines_rise(&events) {
+        return None;
+    }
+    let raws = gather(alloc, events).ok()?;
+    let mut traces = Vec::with_capacity(alloc, raws.len()).ok()?;
+    for raw in &raws {
+        let events = raw.events.items();
+        if !are_timely(events) || events.len() > 4096 {
+            return None;
+        }
+        traces.push(cut(alloc, raw).ok()?).ok()?;
+    }
+    Some(traces)
+}
+
+/// Numbers the names of traces, and names the traces by them, each with this grace.
+pub(crate) fn name_traces(
+    alloc: Global,
+    traces: Vec<Trace>,
+    grace: u64,
+) -> Option<(Catalogue, Vec<NamedTrace>)> {
+    let mut catalogue = Catalogue::new(alloc);
+    let mut named = Vec::with_capacity(alloc, traces.len()).ok()?;
+    if grace > 1_000_000_000 {
+        return None;
+    }
+    for trace in &traces {
+        if trace.segments.items().len() > 4096 {
+            return None;
+        }
+        catalogue.add(alloc, trace).ok()?;
+    }
+    for trace in traces {
+        if trace.segments.items().len() > 4096 {
+            return None;
+        }
+        named
+            .push(catalogue.name(alloc, trace).ok()?.with_grace(grace))
+            .ok()?;
+    }
+    Some((catalogue, named))
+}
+
+/// Tells whether the names of segments are below this number.
+fn have_names_below(segments: &[NamedSegment], names: u32) -> bool
+    ensures { IsTrue result ↔ All (λ (s : NamedSegment). s.name < names) segments.now }
+{
+    segments.iter().all(|s| s.name < names)
+}
+
+/// Tells whether the names of a trace are below this number.
+pub(crate) fn is_below(trace: &NamedTrace, names: u32) -> bool
+    ensures { IsTrue result → HaveNamesBelow names trace.now }
+{
+    have_names_below(trace.segments.items(), names)
+}
+
+/// Tells whether the names of all traces are below this number.
+pub(crate) fn are_below(traces: &[NamedTrace], names: u32) -> bool
+    ensures { IsTrue result → All (HaveNamesBelow names) traces.now }
+{
+    for trace in traces {
+        if !is_below(trace, names) {
+            return false;
+        }
+    }
+    true
+}
+
+/// Tells whether the traces have fewer than 2^32 segments.
+pub(crate) fn are_few(traces: &[Trace]) -> bool
+    ensures { IsTrue result → length (segments_of by_text traces.now) < 2 ^ 32 }
+{
+    let mut count = 0u64;
+    for trace in traces {
+        count += trace.segments.items().len() as u64;
+        if count >= 1 << 32 {
+            return false;
+        }
+    }
+    true
+}
