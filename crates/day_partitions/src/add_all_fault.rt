@@ -3,7 +3,7 @@ use crate::DatedSheet;
 /// Why sheets were not added to a book: none of them was, and they come back.
 #[derive(Drop)]
 pub enum AddAllFault {
-    /// Memory ran out. The book may have more spare rows.
+    /// Memory ran out. The book is unchanged.
     Memory {
         /// The sheets that were to be added.
         sheets: Vec<DatedSheet>,

@@ -1,17 +1,13 @@
-ghost use Rattle.std.specs.Prelude.{◌≡◌, ◌≢◌, ◌+◌, ◌<◌, ◌≤◌, ◌≤ℤ◌, [], ◌∷◌, length, All, IfOk, None};
+ghost use Rattle.std.specs.Prelude.{◌≡◌, ◌≢◌, ◌+◌, ◌<◌, ◌≤◌, ◌≤ℤ◌, [], ◌∷◌, length, IfOk, None};
 ghost use Rattle.refute_tests.specs.Clearing.{HaveNamesBelow};
-ghost use Rattle.trace_types.specs.declared.named_segment.NamedSegment.{NamedSegment};
 ghost use Rattle.day_partitions.specs.Books.{all_traces, IsSheetOf};
 
-use crate::{BookFault, DayBook};
-use hypothesis_index::width;
+use crate::{AddAllFault, BookFault, DatedSheet, DayBook};
 use pipeline_tests::DaySheet;
-use refute_tests::segment_row;
 use std::alloc::{AllocError, Global};
 use std::process::Abort;
 use std::test::Fail;
 use trace_types::{NamedSegment, NamedSegmentList, NamedTrace, Text};
-use word_rows::Sheet;
 
 const FULL: u64 = u64::MAX;
 
@@ -32,7 +28,7 @@ fn quiet(alloc: Global, day: u32) -> Result<NamedTrace, AllocError>
 
 /// A segment that is alone in its task and has no element.
 fn segment(name: u32, start: i64, end: i64) -> NamedSegment
-    requires name { name ≤ 1 }
+    requires name { name ≤ 5 }
     requires ordered { start ≤ℤ end }
     ensures name { result.name ≡ name }
     ensures task { result.task ≡ name }
@@ -47,40 +43,51 @@ fn segment(name: u32, start: i64, end: i64) -> NamedSegment
     }
 }
 
-/// A trace of day 0 with two such segments.
-fn pair(alloc: Global, first: NamedSegment, second: NamedSegment) -> Result<NamedTrace, AllocError>
+/// A trace of the day with two such segments.
+fn pair(
+    alloc: Global,
+    day: u32,
+    first: NamedSegment,
+    second: NamedSegment,
+) -> Result<NamedTrace, AllocError>
     requires names { first.name ≢ second.name }
     requires tasks { first.task ≢ second.task }
     requires one { first.element ≡ None }
     requires other { second.element ≡ None }
-    ensures day { IfOk result (λ t. t.day ≡ 0) }
+    ensures day { IfOk result (λ t. t.day ≡ day) }
     ensures segments { IfOk result (λ t. t.segments ≡ first ∷ second ∷ []) }
 {
     let request = Text::new(alloc, "r1")?;
     let segments = Vec::from_array(alloc, [first, second])?;
     Ok(NamedTrace {
         request,
-        day: 0,
+        day,
         latency: 30,
         grace: 0,
         segments: NamedSegmentList::of(segments),
     })
 }
 
-/// The sheet of one trace whose segments have no element.
+/// A trace of the day with two of six names, by the day's remainder by 8.
+fn busy(alloc: Global, day: u32, names: u32) -> Result<NamedTrace, AllocError>
+    requires { 6 ≤ names }
+    ensures day { IfOk result (λ t. t.day ≡ day) }
+    ensures named { IfOk result (HaveNamesBelow names) }
+{
+    let first = segment(day % 4, 0, 10);
+    let second = segment(4 + day / 4 % 2, 10, 30);
+    pair(alloc, day, first, second)
+}
+
+/// The sheet of one trace.
 fn sheet_of(alloc: Global, trace: NamedTrace, names: u32) -> Result<DaySheet, AllocError>
     requires few { names ≤ 512 }
     requires named { HaveNamesBelow names trace }
-    requires elements { All (λ (s : NamedSegment). s.element ≡ None) trace.segments }
     ensures sheet { IfOk result (λ d. IsSheetOf names trace.day d) }
     ensures one { IfOk result (λ d. length d.traces ≡ 1) }
 {
-    let row = segment_row(alloc, &trace)?;
-    let mut words = Sheet::full(alloc, width(names))?;
-    words.meet_row(&row);
-    let _ = words.words();
     let traces = Vec::from_array(alloc, [trace])?;
-    Ok(DaySheet::of_words(traces, words))
+    DaySheet::plain(alloc, traces, names)
 }
 
 /// Adds a sheet of one trace to its day.
@@ -102,6 +109,160 @@ fn drop_one(book: &mut DayBook, day: u32) -> u32
     ensures few { length (all_traces book.new.days) ≤ length (all_traces book.old.days) }
 {
     book.drop_day(day)
+}
+
+/// Keeps so many of the newest days.
+fn keep(book: &mut DayBook, days: u32)
+    ensures names { book.new.names ≡ book.old.names }
+    ensures few { length (all_traces book.new.days) ≤ length (all_traces book.old.days) }
+{
+    let _ = book.keep_newest(days);
+}
+
+/// Widens a book to so many names.
+fn widen(book: &mut DayBook, names: u32) -> Result<(), AllocError>
+    requires more { book.old.names ≤ names }
+    requires most { names ≤ 512 }
+    ensures names { IfOk result (λ u. book.new.names ≡ names) }
+    ensures few { length (all_traces book.new.days) ≤ length (all_traces book.old.days) }
+{
+    book.widen(names)
+}
+
+/// Adds the sheets of a trace on each of two days that rise.
+fn add_both(
+    alloc: Global,
+    book: &mut DayBook,
+    first: u32,
+    second: u32,
+) -> Result<Result<(), AddAllFault>, AllocError>
+    requires rising { first < second }
+    requires names { book.old.names ≡ 6 }
+    requires few { length (all_traces book.old.days) < 1000 }
+    ensures names { book.new.names ≡ 6 }
+    ensures few { length (all_traces book.new.days) ≤ length (all_traces book.old.days) + 2 }
+{
+    let one = sheet_of(alloc, busy(alloc, first, 6)?, 6)?;
+    let other = sheet_of(alloc, busy(alloc, second, 6)?, 6)?;
+    let low = DatedSheet {
+        day: first,
+        sheet: one,
+    };
+    let high = DatedSheet {
+        day: second,
+        sheet: other,
+    };
+    let sheets = Vec::from_array(alloc, [low, high])?;
+    Ok(book.add_all(sheets))
+}
+
+/// The days of a book, each with the number of its traces.
+fn list_days(alloc: Global, book: &DayBook) -> Result<Vec<(u32, u64)>, AllocError> {
+    let mut days = Vec::new(alloc);
+    for place in 0..book.days() {
+        days.push((book.day(place), book.traces(place).len() as u64))?;
+    }
+    Ok(days)
+}
+
+/// Tells whether a book has the words of a busy trace on each of the days.
+fn has_plain_words(
+    alloc: Global,
+    book: &DayBook,
+    days: &[(u32, u64)],
+    names: u32,
+) -> Result<bool, AllocError>
+    requires least { 6 ≤ names }
+    requires most { names ≤ 512 }
+{
+    let mut traces = Vec::new(alloc);
+    'days: for day in days {
+        traces.push(busy(alloc, day.0, names)?)?;
+    }
+    let plain = DaySheet::plain(alloc, traces, names)?;
+    Ok(plain.words().words() == book.words())
+}
+
+/// The days with a count above 0, each with its count.
+fn list_counts(alloc: Global, counts: &[u64; 8]) -> Result<Vec<(u32, u64)>, AllocError> {
+    let mut days = Vec::new(alloc);
+    for day in 0..8u32 {
+        let count = counts[day as usize];
+        if count > 0 {
+            days.push((day, count))?;
+        }
+    }
+    Ok(days)
+}
+
+/// Clears all counts above 0 but the last so many.
+fn keep_last(counts: &mut [u64; 8], days: u32) {
+    let mut left = days;
+    for below in 0..8usize {
+        let day = 7 - below;
+        if counts[day] > 0 {
+            if left == 0 {
+                counts[day] = 0;
+            } else {
+                left -= 1;
+            }
+        }
+    }
+}
+
+/// Does to counts what a drawn command does to days.
+fn count_drawn(counts: &mut [u64; 8], draw: u32) {
+    let day = (draw % 8) as usize;
+    match draw / 8 % 8 {
+        0 | 1 => counts[day] = 0,
+        2 => keep_last(counts, 2 + draw % 4),
+        3 => {}
+        _ => counts[day] = counts[day].wrapping_add(1),
+    }
+}
+
+/// Carries out a drawn command, a drop, a keep, a widening or an add, and tells how many names
+/// the book has.
+fn obey_drawn(
+    rt: &impl Abort,
+    alloc: Global,
+    book: &mut DayBook,
+    draw: u32,
+    names: u32,
+) -> Result<u32, AllocError>
+    requires names { book.old.names ≡ names }
+    requires least { 6 ≤ names }
+    requires most { names ≤ 500 }
+    requires few { length (all_traces book.old.days) < 1000 }
+    ensures names { IfOk result (λ n. book.new.names ≡ n) }
+    ensures least { IfOk result (λ n. 6 ≤ n) }
+    ensures most { IfOk result (λ n. n ≤ names + 1) }
+    ensures few { length (all_traces book.new.days) ≤ length (all_traces book.old.days) + 1 }
+{
+    let day = draw % 8;
+    match draw / 8 % 8 {
+        0 | 1 => {
+            let _ = drop_one(book, day);
+            Ok(names)
+        }
+        2 => {
+            keep(book, 2 + draw % 4);
+            Ok(names)
+        }
+        3 => {
+            widen(book, names + 1)?;
+            Ok(names + 1)
+        }
+        _ => {
+            add_sheet(
+                rt,
+                book,
+                day,
+                sheet_of(alloc, busy(alloc, day, names)?, names)?,
+            );
+            Ok(names)
+        }
+    }
 }
 
 #[test]
@@ -127,7 +288,7 @@ fn a_reserved_row_is_taken_given_back_and_taken_again(rt: HostRuntime) -> Result
 fn widen_adds_full_words_and_a_drop_brings_relations_back(rt: HostRuntime) -> Result<(), Fail> {
     let alloc = rt.alloc();
     let mut book = DayBook::new(alloc, 2)?;
-    let trace = pair(alloc, segment(0, 0, 10), segment(1, 10, 30))?;
+    let trace = pair(alloc, 0, segment(0, 0, 10), segment(1, 10, 30))?;
     add_sheet(&rt, &mut book, 0, sheet_of(alloc, trace, 2)?);
     add_sheet(&rt, &mut book, 9, sheet_of(alloc, quiet(alloc, 9)?, 2)?);
     assert_eq!(rt; book.words().len(), 127);
@@ -140,5 +301,58 @@ fn widen_adds_full_words_and_a_drop_brings_relations_back(rt: HostRuntime) -> Re
     assert_eq!(rt; book.keep_newest(1), 0);
     assert_eq!(rt; book.keep_newest(0), 1);
     assert_eq!(rt; book.days(), 0);
+    Ok(())
+}
+
+#[test]
+fn a_65th_day_is_told_and_no_day_is_added(rt: HostRuntime) -> Result<(), Fail> {
+    let alloc = rt.alloc();
+    let mut book = DayBook::new(alloc, 6)?;
+    'days: for day in 0..63u32 {
+        add_sheet(&rt, &mut book, day, sheet_of(alloc, quiet(alloc, day)?, 6)?);
+    }
+    let before = list_days(alloc, &book)?;
+    assert_eq!(rt; before.len(), 63);
+    let Err(AddAllFault::TooManyDays { sheets, days }) = add_both(alloc, &mut book, 70, 71)? else {
+        panic!(rt; "two days more");
+    };
+    assert_eq!(rt; (days, sheets.len()), (65, 2));
+    assert!(rt; list_days(alloc, &book)? == before);
+    assert!(rt; has_plain_words(alloc, &book, &[], 6)?);
+    assert_eq!(rt; drop_one(&mut book, 0), 1);
+    let Ok(()) = add_both(alloc, &mut book, 70, 71)? else {
+        panic!(rt; "not added");
+    };
+    assert_eq!(rt; book.days(), 64);
+    assert!(rt; has_plain_words(alloc, &book, &[(70, 1), (71, 1)], 6)?);
+    let Err(BookFault::TooManyDays { sheet, days }) = book.add(
+        80,
+        sheet_of(alloc, quiet(alloc, 80)?, 6)?,
+    ) else {
+        panic!(rt; "a day more");
+    };
+    assert_eq!(rt; (days, sheet.traces().len()), (65, 1));
+    Ok(())
+}
+
+#[test]
+fn drawn_commands_leave_the_days_of_a_plain_list(rt: HostRuntime) -> Result<(), Fail> {
+    let alloc = rt.alloc();
+    let mut book = DayBook::new(alloc, 6)?;
+    let mut counts = [0u64; 8];
+    let mut names = 6;
+    let mut seed = 1u32;
+    'steps: for step in 0..32u32 {
+        seed = seed.wrapping_mul(1_664_525).wrapping_add(1_013_904_223);
+        let draw = seed >> 16;
+        names = obey_drawn(&rt, alloc, &mut book, draw, names)?;
+        count_drawn(&mut counts, draw);
+        let days = list_counts(alloc, &counts)?;
+        assert!(rt; list_days(alloc, &book)? == days, "days at {step}");
+        assert!(rt;
+            has_plain_words(alloc, &book, &days, names)?,
+            "words at {step}"
+        );
+    }
     Ok(())
 }
