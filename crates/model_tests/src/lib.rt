@@ -6,6 +6,8 @@ mod graph_tests;
 #[cfg(test)]
 mod inputs;
 #[cfg(test)]
+mod limit_tests;
+#[cfg(test)]
 mod model_texts;
 #[cfg(test)]
 mod plain_tests;
