@@ -1,6 +1,7 @@
 pub mod BatchLemmas
 pub mod CommandLemmas
 pub mod CutLemmas
+pub mod EventsAloneLemmas
 pub mod GoodLineLemmas
 pub mod InputLineLemmas
 pub mod JsonValueLemmas

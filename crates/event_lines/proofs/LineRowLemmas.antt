@@ -5,7 +5,8 @@ use Rattle.serde_json.proofs.OnLiterals.{serde_json_on_literals}
 use Rattle.event_lines.specs.declared.why.Why.{Why}
 use Rattle.event_lines.specs.declared.why.Why.TheVariants.{NotJson, Missing, WrongKind, OutOfRange, BadText, UnknownCommand, NotBuilt}
 use Rattle.event_lines.specs.declared.line.Line.{Line}
-use Rattle.event_lines.specs.declared.line.Line.TheVariants.{Event}
+use Rattle.event_lines.specs.declared.line.Line.TheVariants.{Event, Control}
+use Rattle.event_lines.specs.declared.command.Command.TheVariants.{Add, Drop, Keep, Watch, Grace, Model, Paths, Slack, Graph}
 use Rattle.event_lines.specs.InputLines.{lines_said}
 use Rattle.event_lines.specs.LineResults.{line_result}
 
@@ -92,13 +93,27 @@ control_lines : map said (
 unfolding serde_json_on_literals is_utf8 chars
 control_lines = refl
 
-not_built : map said (
+commands : map said (
     object (codes "\"do\":\"add\"")
-    ∷ object (codes "\"do\":\"grace\",\"micros\":1000000")
-    ∷ object (codes "\"request\":\"r\",\"machine\":\"m\",\"task\":\"t\",\"event\":\"e@\",\"time\":0")
-    ∷ []) ≡ replicate 3 (Err NotBuilt)
+    ∷ object (codes "\"do\":\"drop\",\"day\":7")
+    ∷ object (codes "\"do\":\"keep\",\"days\":0")
+    ∷ object (codes "\"do\":\"watch\",\"every\":1000000")
+    ∷ object (codes "\"micros\":1000000,\"do\":\"grace\"")
+    ∷ object (codes "\"do\":\"model\",\"request\":5")
+    ∷ object (codes "\"do\":\"paths\"")
+    ∷ object (codes "\"do\":\"slack\"")
+    ∷ object (codes "\"do\":\"report\"")
+    ∷ object (codes "\"do\":\"graph\"")
+    ∷ []) ≡ Ok (Control 1 Add) ∷ Ok (Control 1 (Drop 7)) ∷ Ok (Control 1 (Keep 0)) ∷ Ok (Control 1 (Watch 1000000))
+    ∷ Ok (Control 1 (Grace 1000000)) ∷ Ok (Control 1 Model) ∷ Ok (Control 1 Paths) ∷ Ok (Control 1 Slack) ∷ Err NotBuilt ∷ Ok (Control 1 Graph) ∷ []
 unfolding serde_json_on_literals is_utf8 chars
-not_built = refl
+commands = refl
+
+-- an event may have an @ in its name
+elements : line_result 3 (object (codes "\"request\":\"r\",\"machine\":\"m\",\"task\":\"t\",\"event\":\"e@x\",\"time\":0"))
+    ≡ Ok (Event (record { line = 3; request = codes "r"; machine = codes "m"; task = codes "t"; event = codes "e@x"; time = 0; send = None; recv = None }))
+unfolding serde_json_on_literals is_utf8 chars
+elements = refl
 
 -- the time of a good line
 abbrev at_time : ℕ → Result Line Why

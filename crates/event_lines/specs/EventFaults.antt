@@ -6,7 +6,6 @@ use Rattle.std.specs.List.{list_any}
 use Rattle.serde_json.specs.Data.{Data}
 use Rattle.event_lines.specs.declared.why.Why.{Why}
 use Rattle.event_lines.specs.declared.why.Why.TheVariants.{Missing, WrongKind, OutOfRange, BadText}
-use Rattle.event_lines.specs.declared.why.Why.TheVariants.{NotBuilt}
 use Rattle.event_lines.specs.Members.{has_member, is_given, text_at, is_text_at}
 use Rattle.event_lines.specs.Members.{is_whole_at, number_at}
 use Rattle.event_lines.specs.TimeUnits.{time_unit_of, time_member, latest_in}
@@ -55,19 +54,10 @@ has_bad_text d =
     list_any (λ name. option_map_or is_bad_text (text_at name d) false)
     (required_texts ++ optional_texts)
 
--- a text with an @ in it
-abbrev pub contains_at : List ℕ → Bool
-contains_at text = list_any (λ byte. byte == 64) text
-
--- the event has an `@`, which is not built yet
-abbrev pub event_has_at_sign : Data → Bool
-event_has_at_sign d = option_map_or contains_at (text_at (codes "event") d) false
-
 -- the first reason that holds
 abbrev pub event_line_fault : Data → Option Why
 event_line_fault d =
     if lacks_member d then Some Missing else (
     if has_wrong_kind d then Some WrongKind else (
     if is_out_of_range d then Some OutOfRange else (
-    if has_bad_text d then Some BadText else (
-    if event_has_at_sign d then Some NotBuilt else None))))
+    if has_bad_text d then Some BadText else None)))

@@ -8,8 +8,8 @@ fn is_blank_byte(byte: u8) -> bool
     byte == b' ' || byte == b'\t' || byte == b'\r'
 }
 
-/// Tells whether a line has blank bytes alone.
-pub(crate) fn is_blank_line(line: &[u8]) -> bool
+/// Tells whether a line is blank: spaces, tabs and carriage returns alone, or nothing.
+pub fn is_blank_line(line: &[u8]) -> bool
     ensures { result ≡ is_blank_line line.now }
 {
     line.iter().all(|byte| is_blank_byte(*byte))

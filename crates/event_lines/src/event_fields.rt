@@ -10,7 +10,7 @@ ghost use Rattle.event_lines.specs.inner.Fields.{AreFields};
 
 use crate::Why;
 use crate::object_members::{as_text, as_whole_number, member, optional_text};
-use crate::text_rules::{contains_at, is_bad_text};
+use crate::text_rules::is_bad_text;
 use crate::time_unit::TimeUnit;
 use serde_json::Value;
 use std::alloc::{AllocError, Global};
@@ -81,21 +81,8 @@ impl EventFields<'_> {
         })
     }
 
-    /// Finds the first that holds of the reasons `BadText` and `NotBuilt`.
-    pub(crate) fn fault(&self) -> Option<Why>
-        ensures { (d : Data) → AreFields self.now d → event_line_fault d ≡ result }
-    {
-        if self.has_bad_text() {
-            Some(Why::BadText)
-        } else if contains_at(self.event) {
-            Some(Why::NotBuilt)
-        } else {
-            None
-        }
-    }
-
     /// Tells whether one of the texts is bad.
-    fn has_bad_text(&self) -> bool
+    pub(crate) fn has_bad_text(&self) -> bool
         ensures { (d : Data) → AreFields self.now d → has_bad_text d ≡ result }
     {
         is_bad_text(self.request)

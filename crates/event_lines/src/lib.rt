@@ -6,6 +6,7 @@ mod blank_lines;
 mod command;
 mod command_reading;
 mod event_fields;
+mod event_input;
 mod gathering;
 mod line;
 mod line_error;
@@ -17,7 +18,9 @@ mod text_rules;
 mod time_unit;
 mod why;
 
+pub use blank_lines::is_blank_line;
 pub use command::Command;
+pub use event_input::read_event_lines;
 pub use gathering::gather;
 pub use line::Line;
 pub use line_error::LineError;

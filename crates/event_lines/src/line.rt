@@ -17,3 +17,18 @@ pub enum Line {
         command: Command,
     },
 }
+
+impl Line {
+    ghost use Rattle.std.specs.Prelude.{◌≡◌};
+    ghost use Rattle.event_lines.specs.GoodLines.{line_number};
+
+    /// Gives the number of the line, from 1 over the whole input.
+    pub fn number(&self) -> u32
+        ensures { result ≡ line_number self.now }
+    {
+        match self {
+            Line::Event { event } => event.line,
+            Line::Control { line, .. } => *line,
+        }
+    }
+}

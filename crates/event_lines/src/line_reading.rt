@@ -50,12 +50,12 @@ fn read_event_line(
         Ok(fields) => fields,
         Err(why) => return Ok(Err(why)),
     };
-    match fields.fault() {
-        Some(why) => Ok(Err(why)),
-        None => Ok(Ok(Line::Event {
-            event: fields.event(alloc, number)?,
-        })),
+    if fields.has_bad_text() {
+        return Ok(Err(Why::BadText));
     }
+    Ok(Ok(Line::Event {
+        event: fields.event(alloc, number)?,
+    }))
 }
 
 /// Reads an object: its event or command, or why it is bad.

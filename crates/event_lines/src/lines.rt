@@ -44,7 +44,7 @@ fn add_line(alloc: Global, number: u32, line: &[u8], lines: &mut Vec<Line>) -> R
 /// An input has fewer than 2^32 - 1 bytes, so that the number of each line fits 32 bits.
 ///
 /// The errors are `Memory`, and `Bad` with the number of the first bad line and the first reason
-/// that holds of it. A good control line, and an event with an `@`, are not built yet.
+/// that holds of it.
 pub fn read_lines(alloc: Global, bytes: &[u8]) -> Result<Vec<Line>, LineError>
     requires { length bytes.now < u32.MAX }
     ensures lines_read { IfOk result (λ v. lines_said bytes.now ≡ Ok v.items) }

@@ -1,6 +1,6 @@
 ghost use Rattle.std.specs.Prelude.{◌≡◌};
 ghost use Rattle.std.specs.List.{list_any};
-ghost use Rattle.event_lines.specs.EventFaults.{is_control_character, is_bad_text, contains_at};
+ghost use Rattle.event_lines.specs.EventFaults.{is_control_character, is_bad_text};
 
 /// The greatest length of a text in bytes.
 const LONGEST: usize = 64;
@@ -24,11 +24,4 @@ pub(crate) fn is_bad_text(text: &str) -> bool
     ensures { result ≡ is_bad_text text.now }
 {
     text.is_empty() || text.len() > LONGEST || has_control_character(text)
-}
-
-/// Tells whether a text has an `@`.
-pub(crate) fn contains_at(text: &str) -> bool
-    ensures { result ≡ contains_at text.now }
-{
-    text.bytes().any(|byte| byte == b'@')
 }

@@ -16,8 +16,8 @@ pub enum Why {
     BadText,
     /// A control line names no command.
     UnknownCommand,
-    /// The line is an otherwise good control line, or an otherwise good event line whose event has
-    /// an `@`. Nothing carries these out yet.
+    /// The line is an otherwise good control line that asks for a report. Nothing carries it out
+    /// yet.
     NotBuilt,
 }
 

@@ -6,7 +6,8 @@ use Rattle.std.specs.Io.KnownBytes.{append_known}
 use Rattle.std.proofs.lemmas.List.{take_all, length-append, append-nil}
 use Rattle.std.proofs.lemmas.Bool.{lt-ltb, le-ltb, ltb-true}
 use Rattle.event_lines.specs.declared.line.Line.{Line}
-use Rattle.event_lines.specs.InputLines.{LineFault, lines_said}
+use Rattle.event_lines.specs.EventsAlone.{event_lines_said}
+use Rattle.event_lines.specs.InputLines.{LineFault}
 use Rattle.step_core.specs.declared.step_file.StepFile.{StepFile}
 use Rattle.step_core.specs.StepFiles.{file_said}
 use Rattle.mystery_io.specs.Prefixes.{AppendsPrefix}
@@ -139,7 +140,7 @@ steps_not_size (Ok file) e = cc
 steps_not_size (Err line) e = cc
 
 not_size : (action : Action) (input : List ℕ) → ending_of_action action input ≡ Size → ⊥
-not_size (model files) input e = lines_not_size (lines_said input) e
+not_size (model files) input e = lines_not_size (event_lines_said input) e
 not_size (replay file) input e = steps_not_size (file_said input) e
 
 size_passed : (words : List (List ℕ)) (input : List ℕ) → ending_of words input ≡ Size → input_limit < length input

@@ -2,7 +2,8 @@
 use Rattle.std.specs.Prelude.{ℕ, List, length, nat_lt, if◌then◌else◌, Result, Ok, Err}
 use Rattle.std.specs.Option.{option_map_or}
 use Rattle.event_lines.specs.declared.line.Line as event_lines
-use Rattle.event_lines.specs.InputLines.{LineFault, lines_said}
+use Rattle.event_lines.specs.EventsAlone.{event_lines_said}
+use Rattle.event_lines.specs.InputLines.{LineFault}
 use Rattle.mystery_io.specs.Input.{input_limit}
 use Rattle.step_core.specs.declared.step_file.StepFile.{StepFile}
 use Rattle.step_core.specs.StepFiles.{file_said}
@@ -23,7 +24,7 @@ ending_of_steps (Err line) = BadLine line Step
 
 -- by what is asked for and the input
 abbrev pub ending_of_action : Action → List ℕ → Outcome
-ending_of_action (model files) input = ending_of_lines (lines_said input)
+ending_of_action (model files) input = ending_of_lines (event_lines_said input)
 ending_of_action (replay file) input = ending_of_steps (file_said input)
 
 -- by the size of the input, and then by what is asked for

@@ -2,7 +2,8 @@
 use Rattle.std.specs.Prelude.{ℕ, ◌≡◌, List, [], Some, Result, Ok, Err}
 use Rattle.trace_types.specs.declared.event.Event.{Event}
 use Rattle.event_lines.specs.declared.line.Line.{Line}
-use Rattle.event_lines.specs.InputLines.{LineFault, lines_said}
+use Rattle.event_lines.specs.EventsAlone.{event_lines_said}
+use Rattle.event_lines.specs.InputLines.{LineFault}
 use Rattle.step_core.specs.declared.step_file.StepFile.{StepFile}
 use Rattle.step_core.specs.StepFiles.{file_said}
 use Rattle.mystery_cli.specs.declared.outcome.Outcome.TheVariants.{Done}
@@ -19,7 +20,7 @@ batch_of_lines (Err fault) = []
 
 -- the events of an input, which are one batch
 abbrev pub batch_of : List ℕ → List Event
-batch_of input = batch_of_lines (lines_said input)
+batch_of input = batch_of_lines (event_lines_said input)
 
 -- the bytes are the text of the replay of an input that is a file of steps
 pub record IsReplayText (input bytes : List ℕ) : Type 0 where

@@ -2,7 +2,8 @@ ghost use Rattle.std.specs.Prelude.{◌≡◌, ◌≤◌, ◌<◌, ◌^◌, leng
 ghost use Rattle.trace_types.specs.Batch.{traces_of};
 ghost use Rattle.trace_types.specs.EventLines.{LinesRise};
 ghost use Rattle.trace_types.specs.Times.{AreTimely};
-ghost use Rattle.event_lines.specs.InputLines.{lines_said, IsLineError};
+ghost use Rattle.event_lines.specs.EventsAlone.{event_lines_said};
+ghost use Rattle.event_lines.specs.InputLines.{IsLineError};
 ghost use Rattle.mystery_io.specs.Input.{input_limit};
 ghost use Rattle.trace_types.specs.Parts.{by_text, segments_of};
 ghost use Rattle.mystery_cli.specs.declared.outcome.Outcome.TheVariants.{Done};
@@ -14,7 +15,7 @@ ghost use Rattle.mystery_cli.specs.inner.Steps.{figures_of};
 use crate::batch::collect_events;
 use crate::days::count_days;
 use crate::judged::{JudgedTraces, judge_all};
-use event_lines::{LineError, gather, read_lines};
+use event_lines::{LineError, gather, read_event_lines};
 use model_meet::{PlainModel, plain_model};
 use std::alloc::{AllocError, Global};
 use trace_types::Event;
@@ -48,14 +49,14 @@ fn cut_traces(alloc: Global, events: Vec<Event>) -> Result<JudgedTraces, AllocEr
 /// The errors are an allocation failure and the first bad line of the input.
 pub(crate) fn build_model(alloc: Global, input: &[u8]) -> Result<BatchModel, LineError>
     requires { length input.now ≤ input_limit }
-    ensures good { OnOk result (ending_of_lines (lines_said input.now) ≡ Done) }
+    ensures good { OnOk result (ending_of_lines (event_lines_said input.now) ≡ Done) }
     ensures judged { IfOk result
         (λ m. AreJudged (traces_of (batch_of input.now)) m.traces.kept.items
         m.traces.refused.items) }
     ensures told { IfOk result (λ m. AreFigures m.traces.kept.items (figures_of m)) }
-    ensures bad { IfErr result (IsLineError (lines_said input.now)) }
+    ensures bad { IfErr result (IsLineError (event_lines_said input.now)) }
 {
-    let lines = read_lines(alloc, input)?;
+    let lines = read_event_lines(alloc, input)?;
     let events = collect_events(alloc, lines)?;
     let traces = cut_traces(alloc, events)?;
     let days = count_days(alloc, &traces.kept)?;

@@ -4,7 +4,7 @@ ghost use Rattle.mystery_io.specs.Counts.{counted_up};
 ghost use Rattle.mystery_io.specs.Input.{input_limit};
 ghost use Rattle.mystery_io.specs.Prefixes.{AppendsPrefix, Sends};
 ghost use Rattle.mystery_io.specs.ReadFaults.{files_seen, OpensFirst, FailedAt};
-ghost use Rattle.event_lines.specs.InputLines.{lines_said};
+ghost use Rattle.event_lines.specs.EventsAlone.{event_lines_said};
 ghost use Rattle.mystery_cli.specs.declared.outcome.Outcome.{Outcome};
 ghost use Rattle.mystery_cli.specs.declared.outcome.Outcome.TheVariants.{BadLine, File};
 ghost use Rattle.mystery_cli.specs.declared.reason.Reason.{Reason};
@@ -33,7 +33,7 @@ use trace_types::Text;
 /// Makes the model of an input and prints its text.
 fn print_model_of<S: Sink>(alloc: Global, input: &[u8], out: &mut S) -> Outcome
     requires { length input.now ≤ input_limit }
-    ensures ends { InputEnds result (ending_of_lines (lines_said input.now))
+    ensures ends { InputEnds result (ending_of_lines (event_lines_said input.now))
         (IsModelText (batch_of input.now)) (S.written out.old) (S.written out.new) }
     ensures leaves { LeavesSink result out.old out.new }
     ensures counted { S.faults out.new ≡ outcome_faults result (S.faults out.old) }

@@ -79,7 +79,7 @@ some_left one v row p r o =
     p)
     (or_cases _ _ o)
 
--- its word is one of the words
+-- an entry of the row names a word of the table
 pub entry_below : (width : ℕ) (row : List Entry) (i : ℕ) (d : Entry) → below width row ≡ true → i < length row → (get_or row i d).word < width
 entry_below width [] i d b h = absurd (omega arith)
 entry_below width (e ∷ es) zero d b h = ltb-true _ _ (and_parts (nat_lt e.word width) (below width es) b).0

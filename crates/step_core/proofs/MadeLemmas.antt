@@ -31,7 +31,7 @@ module _ (t : StepState) (seat : ℕ) (seats : length t.live ≡ length t.views)
         let p : IsPartWay v = subst IsPartWay (sym at_seat) (steady.progress seat a.0) in
         some_left one v row p form (subst (λ (u : View). can_clear u row ≡ true) (sym at_seat) a.1)
 
-    -- its word is one of the words
+    -- an entry of the row names a word of the table
     pub clear_word : (k : ℕ) → k < length row → (get_or row k blank).word < length t.words
     clear_word k h = entry_below (length t.words) row k blank (clear_allowed t seat row none).2 h
 

@@ -74,7 +74,7 @@ abbrev pub named_step : List ℕ → List (List ℕ) → Option StepEvent
 named_step name words =
     if bytes_eq name (codes "clear") then clear_of words else step_of_numbers name words
 
--- the step of the words of a line
+-- the step that a line with these words says
 abbrev pub step_of_words : List (List ℕ) → Option StepEvent
 step_of_words (name ∷ words) = named_step name words
 step_of_words [] = None

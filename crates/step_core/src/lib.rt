@@ -2,7 +2,6 @@
 //! looked at and tried by hand. Its steps are read from files.
 #![tactic(auto)]
 
-mod blank_lines;
 mod changes;
 mod copy;
 mod cutting;

@@ -2,8 +2,8 @@ ghost use Rattle.std.specs.Prelude.{◌≡◌, ◌+◌, ◌≤◌, ◌<◌, ◌^
 ghost use Rattle.std.specs.Prelude.{MatchOption, IfSome};
 ghost use Rattle.step_core.specs.inner.Cutting.{lines_left, room_left};
 
-use crate::blank_lines::is_blank_line;
 use crate::cutting::first_part;
+use event_lines::is_blank_line;
 
 /// A line that is not blank, and what follows it.
 #[derive(Clone, Copy, Debug)]

@@ -1,0 +1,174 @@
+use super::fault_of;
+use crate::{Command, Line, LineError, is_blank_line, read_event_lines, read_lines};
+use std::alloc::Global;
+use std::test::Fail;
+
+/// Rows of a reason and a control line that is bad for it; some lines have later reasons too.
+const BAD: &str = r#"
+wrong kind|{"do":null}
+wrong kind|{"do":5}
+wrong kind|{"do":5,"day":-1}
+wrong kind|{"do":["add"]}
+wrong kind|{"request":"r1","machine":"m","task":"a","event":"s","time":0,"do":{}}
+unknown command|{"do":"stop"}
+unknown command|{"do":"","day":-1}
+unknown command|{"do":"Add"}
+unknown command|{"do":"add "}
+unknown command|{"do":"drill"}
+missing member|{"do":"drop"}
+missing member|{"do":"drop","days":1}
+missing member|{"do":"keep"}
+missing member|{"do":"keep","day":1}
+missing member|{"do":"watch"}
+missing member|{"do":"watch","days":1}
+missing member|{"do":"grace"}
+missing member|{"do":"grace","every":1}
+wrong kind|{"do":"drop","day":null}
+wrong kind|{"do":"drop","day":"5"}
+wrong kind|{"do":"keep","days":true}
+wrong kind|{"do":"watch","every":[]}
+wrong kind|{"do":"grace","micros":"5"}
+wrong kind|{"do":"drop","day":18446744073709551616}
+out of range|{"do":"drop","day":-1}
+out of range|{"do":"drop","day":1000001}
+out of range|{"do":"keep","days":-1}
+out of range|{"do":"keep","days":1000001}
+out of range|{"do":"watch","every":-9223372036854775808}
+out of range|{"do":"watch","every":1000001}
+out of range|{"do":"grace","micros":-1}
+out of range|{"do":"grace","micros":18446744073709551615}
+not built|{"do":"report"}
+not built|{"do":"report","day":-1,"request":5}
+"#;
+
+/// Good control lines, and their commands.
+const GOOD: [(&str, Command); 18] = [
+    (r#"{"do":"add"}"#, Command::Add),
+    (r#" { "do" : "add" } "#, Command::Add),
+    (r#"{"do":"\u0061dd","day":-1}"#, Command::Add),
+    (r#"{"do":"drop","day":0}"#, Command::Drop { day: 0 }),
+    (
+        r#"{"do":"drop","day":1000000,"days":"x"}"#,
+        Command::Drop { day: 1_000_000 },
+    ),
+    (r#"{"do":"keep","days":0}"#, Command::Keep { days: 0 }),
+    (
+        r#"{"days":1000000,"do":"keep"}"#,
+        Command::Keep { days: 1_000_000 },
+    ),
+    (r#"{"do":"watch","every":0}"#, Command::Watch { every: 0 }),
+    (
+        r#"{"do":"watch","every":1000000}"#,
+        Command::Watch { every: 1_000_000 },
+    ),
+    (r#"{"do":"grace","micros":0}"#, Command::Grace { micros: 0 }),
+    (
+        r#"{"do":"grace","micros":1000000,"request":5}"#,
+        Command::Grace { micros: 1_000_000 },
+    ),
+    (r#"{"do":"model"}"#, Command::Model),
+    (r#"{"do":"model","time":-1}"#, Command::Model),
+    (r#"{"do":"paths"}"#, Command::Paths),
+    (r#"{"do":"slack"}"#, Command::Slack),
+    (r#"{"do":"graph"}"#, Command::Graph),
+    (
+        r#"{"request":"r1","machine":"m","task":"a","event":"s","time":0,"do":"graph"}"#,
+        Command::Graph,
+    ),
+    (r#"{"do":"slack","do2":"graph"}"#, Command::Slack),
+];
+
+/// Finds the number and the command of the only line of a short input.
+fn command_of(alloc: Global, bytes: &[u8]) -> Option<(u32, Command)> {
+    if bytes.len() > 1000 {
+        return None;
+    }
+    let lines = read_lines(alloc, bytes).ok()?;
+    match lines.as_slice() {
+        [Line::Control { line, command }] => Some((*line, *command)),
+        _ => None,
+    }
+}
+
+/// Reads a short input as events alone: its number of lines, or its first fault.
+fn events_of(alloc: Global, bytes: &[u8]) -> Result<usize, Option<(u32, &'static str)>> {
+    if bytes.len() > 1000 {
+        return Err(None);
+    }
+    match read_event_lines(alloc, bytes) {
+        Ok(lines) => Ok(lines.len()),
+        Err(LineError::Memory) => Err(None),
+        Err(LineError::Bad { line, why }) => Err(Some((line, why.as_str()))),
+    }
+}
+
+#[test]
+fn a_bad_control_line_has_the_first_reason_that_holds(rt: HostRuntime) -> Result<(), Fail> {
+    let mut rows = 0usize;
+    for row in BAD.lines() {
+        if let Some((reason, line)) = row.split_once('|') {
+            rows = rows.wrapping_add(1);
+            let found = fault_of(rt.alloc(), line.as_bytes()).ok_or("a fault")?;
+            assert_eq!(rt; found, (1, reason), "{line}");
+        }
+    }
+    assert_eq!(rt; rows, 34);
+    Ok(())
+}
+
+#[test]
+fn a_good_control_line_is_its_command(rt: HostRuntime) {
+    for (line, command) in GOOD {
+        let found = command_of(rt.alloc(), line.as_bytes());
+        assert_eq!(rt; found, Some((1, command)), "{line}");
+    }
+}
+
+#[test]
+fn events_and_commands_keep_the_order_and_the_numbers_of_their_lines(
+    rt: HostRuntime,
+) -> Result<(), Fail> {
+    let input = "{\"do\":\"watch\",\"every\":2}\n\n\
+        {\"request\":\"r\",\"machine\":\"m\",\"task\":\"t\",\"event\":\"x@d\",\"time\":3}\n\
+        \t\r\n{\"do\":\"add\"}\r\n{\"do\":\"model\"}";
+    let mut told = Vec::new(rt.alloc());
+    for line in read_lines(rt.alloc(), input.as_bytes()).ok().ok_or("good")? {
+        let number = line.number();
+        told.push(match line {
+            Line::Event { event } => format!(in rt.alloc(); "{number} {}", event.event.as_str())?,
+            Line::Control { command, .. } => format!(in rt.alloc(); "{number} {command:?}")?,
+        })?;
+    }
+    let told = told.join(rt.alloc(), ",")?;
+    assert_eq!(rt; told.as_str(), "1 Watch { every: 2 },3 x@d,5 Add,6 Model");
+    Ok(())
+}
+
+#[test]
+fn only_events_without_an_at_sign_are_built_for_a_program_of_events(
+    rt: HostRuntime,
+) -> Result<(), Fail> {
+    let event =
+        "{\"request\":\"r\",\"machine\":\"m@\",\"task\":\"t\",\"event\":\"x\",\"time\":3}\n";
+    let element =
+        "{\"request\":\"r\",\"machine\":\"m\",\"task\":\"t\",\"event\":\"x@d\",\"time\":3}\n";
+    let add = "{\"do\":\"add\"}\n";
+    for (lines, told) in [
+        (["\n", event, event], Ok(2)),
+        (["\n", event, add], Err(Some((3, "not built")))),
+        ([event, element, add], Err(Some((2, "not built")))),
+        ([add, "[]\n", element], Err(Some((2, "not a JSON object")))),
+    ] {
+        let input = lines.as_slice().concat(rt.alloc())?;
+        assert_eq!(rt; events_of(rt.alloc(), input.as_bytes()), told, "{input}");
+    }
+    Ok(())
+}
+
+#[test]
+fn a_blank_line_has_spaces_tabs_and_carriage_returns_alone(rt: HostRuntime) {
+    assert!(rt; is_blank_line(b""));
+    assert!(rt; is_blank_line(b" \t\r "));
+    assert!(rt; !is_blank_line(b" \x0c"));
+    assert!(rt; !is_blank_line(b"\n"));
+}
