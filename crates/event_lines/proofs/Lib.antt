@@ -1,7 +1,10 @@
 pub mod BatchLemmas
 pub mod CommandLemmas
+pub mod ConvertingLemmas
 pub mod CutLemmas
 pub mod EventsAloneLemmas
+pub mod FlatEventLemmas
+pub mod FlatReadingLemmas
 pub mod GoodLineLemmas
 pub mod InputLineLemmas
 pub mod JsonValueLemmas

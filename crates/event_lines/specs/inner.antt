@@ -1,3 +1,4 @@
 -- What private contracts alone cite.
 pub mod Fields
+pub mod FlatObjects
 pub mod Gathered

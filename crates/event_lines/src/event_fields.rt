@@ -36,7 +36,7 @@ pub(crate) struct EventFields<'v> {
 }
 
 /// Converts a time that must be in range to nanoseconds.
-fn in_nanoseconds(unit: TimeUnit, number: Option<u64>) -> Result<u64, Why>
+pub(crate) fn in_nanoseconds(unit: TimeUnit, number: Option<u64>) -> Result<u64, Why>
     ensures found { IfOk result (λ time. (n : ℕ) × (number ≡ Some n) × (n ≤ latest_in unit)
         × (time ≡ nanoseconds_in unit * n)) }
     ensures none { IfErr result (λ why.

@@ -7,6 +7,7 @@ mod command;
 mod command_reading;
 mod event_fields;
 mod event_input;
+mod flat_lines;
 mod gathering;
 mod line;
 mod line_error;

@@ -1,13 +1,17 @@
 ghost use Rattle.std.specs.Prelude.{◌≡◌, codes, Some, IfOk, option_map};
+ghost use Rattle.serde_json.specs.Data.{Data};
 ghost use Rattle.serde_json.specs.Find.{get};
 ghost use Rattle.serde_json.specs.View.{view};
 ghost use Rattle.event_lines.specs.LineResults.{json_value, control_line_result, event_line_result};
 ghost use Rattle.event_lines.specs.LineResults.{object_result, line_result};
+ghost use Rattle.event_lines.specs.inner.Fields.{AreFields};
 
 use crate::command_reading::{is_built, read_command};
 use crate::event_fields::EventFields;
+use crate::flat_lines::flat_fields;
 use crate::object_members::as_text;
 use crate::{Line, Why};
+use json::Scratch;
 use serde_json::Value;
 use std::alloc::{AllocError, Global};
 
@@ -38,6 +42,23 @@ fn read_control_line(number: u32, value: &Value, name: &Value) -> Result<Line, W
     }
 }
 
+/// Makes the event of a line with these fields, unless one of its texts is bad.
+fn read_fields(
+    alloc: Global,
+    number: u32,
+    fields: &EventFields<'_>,
+) -> Result<Result<Line, Why>, AllocError>
+    ensures { IfOk result (λ said.
+        (d : Data) → AreFields fields.now d → said ≡ event_line_result number d) }
+{
+    if fields.has_bad_text() {
+        return Ok(Err(Why::BadText));
+    }
+    Ok(Ok(Line::Event {
+        event: fields.event(alloc, number)?,
+    }))
+}
+
 /// Reads an event line.
 fn read_event_line(
     alloc: Global,
@@ -46,16 +67,10 @@ fn read_event_line(
 ) -> Result<Result<Line, Why>, AllocError>
     ensures { IfOk result (λ said. said ≡ event_line_result number (view value.now)) }
 {
-    let fields = match EventFields::of(value) {
-        Ok(fields) => fields,
-        Err(why) => return Ok(Err(why)),
-    };
-    if fields.has_bad_text() {
-        return Ok(Err(Why::BadText));
+    match EventFields::of(value) {
+        Ok(fields) => read_fields(alloc, number, &fields),
+        Err(why) => Ok(Err(why)),
     }
-    Ok(Ok(Line::Event {
-        event: fields.event(alloc, number)?,
-    }))
 }
 
 /// Reads an object: its event or command, or why it is bad.
@@ -68,9 +83,8 @@ fn read_object(alloc: Global, number: u32, value: &Value) -> Result<Result<Line,
     }
 }
 
-/// Reads a line that is not blank: its event or command, or why it is bad. The only
-/// error is out of memory.
-pub(crate) fn read_line(
+/// Reads a line that is not blank by way of its JSON value.
+pub(crate) fn read_any_line(
     alloc: Global,
     number: u32,
     line: &[u8],
@@ -80,5 +94,23 @@ pub(crate) fn read_line(
     match parse(alloc, line)? {
         Some(value) if value.is_object() => read_object(alloc, number, &value),
         _ => Ok(Err(Why::NotJson)),
+    }
+}
+
+/// Reads a line that is not blank: its event or command, or why it is bad. The only
+/// error is out of memory.
+///
+/// Most event lines are read straight from their tokens, and all others by way of their JSON value.
+pub(crate) fn read_line(
+    alloc: Global,
+    number: u32,
+    line: &[u8],
+    scratch: &mut Scratch,
+) -> Result<Result<Line, Why>, AllocError>
+    ensures { IfOk result (λ said. said ≡ line_result number line.now) }
+{
+    match flat_fields(line, scratch)? {
+        Some(fields) => read_fields(alloc, number, &fields),
+        None => read_any_line(alloc, number, line),
     }
 }

@@ -8,6 +8,7 @@ ghost use Rattle.event_lines.specs.InputLines.{lines_said, lines_said_from, IsLi
 use crate::blank_lines::is_blank_line;
 use crate::line_reading::read_line;
 use crate::{Line, LineError};
+use json::Scratch;
 use memchr::memchr;
 use std::alloc::Global;
 
@@ -24,7 +25,13 @@ fn line_end(bytes: &[u8]) -> usize
 }
 
 /// Appends what a line says; a blank line adds nothing.
-fn add_line(alloc: Global, number: u32, line: &[u8], lines: &mut Vec<Line>) -> Result<(), LineError>
+fn add_line(
+    alloc: Global,
+    number: u32,
+    line: &[u8],
+    scratch: &mut Scratch,
+    lines: &mut Vec<Line>,
+) -> Result<(), LineError>
     ensures ok { OnOk result (IsOkAnd (lines_said_from number (line.now ∷ []))
         (λ said. lines.new.items ≡ lines.old.items ++ said)) }
     ensures one { OnOk result (vec_len lines.new ≤ vec_len lines.old + 1) }
@@ -33,7 +40,7 @@ fn add_line(alloc: Global, number: u32, line: &[u8], lines: &mut Vec<Line>) -> R
     if is_blank_line(line) {
         return Ok(());
     }
-    match read_line(alloc, number, line)? {
+    match read_line(alloc, number, line, scratch)? {
         Ok(said) => Ok(lines.push(said)?),
         Err(why) => Err(LineError::Bad { line: number, why }),
     }
@@ -55,11 +62,12 @@ pub fn read_lines(alloc: Global, bytes: &[u8]) -> Result<Vec<Line>, LineError>
     ensures few { IfOk result (λ v. length v.items ≤ length bytes.now + 1) }
 {
     let mut lines = Vec::new(alloc);
+    let mut scratch = Scratch::new(alloc);
     let mut start = 0;
     let mut number = 1u32;
     'lines: loop {
         let end = start + line_end(&bytes[start..]);
-        add_line(alloc, number, &bytes[start..end], &mut lines)?;
+        add_line(alloc, number, &bytes[start..end], &mut scratch, &mut lines)?;
         if end == bytes.len() {
             return Ok(lines);
         }

@@ -1,3 +1,4 @@
+mod both_ways;
 mod control_lines;
 
 use crate::{Line, LineError, gather, lines_rise, read_lines};
@@ -31,7 +32,7 @@ fn times_of(alloc: Global, bytes: &[u8]) -> Result<Vec<u64>, LineError> {
 }
 
 /// Rows of a reason and a line that is bad for it; some lines have later reasons too.
-const BAD: &str = r#"
+pub(crate) const BAD: &str = r#"
 not a JSON object|[]
 not a JSON object|x
 not a JSON object|{"do":"add"
@@ -69,7 +70,7 @@ bad text|{"request":"r1","machine":"m","task":"a","event":"s","time":0,"recv":"\
 "#;
 
 /// Rows of a time in nanoseconds and a good line that has it.
-const GOOD: &str = r#"
+pub(crate) const GOOD: &str = r#"
 0|{"request":"r1","machine":"m","task":"a","event":"s","time":0}
 4102444800000000000|{"request":"r1","machine":"m","task":"a","event":"s","time":4102444800000000}
 5000|{"request":"r1","machine":"m","task":"a","event":"s","time":5,"send":null,"nanos":null}

@@ -4,7 +4,7 @@ use std::alloc::Global;
 use std::test::Fail;
 
 /// Rows of a reason and a control line that is bad for it; some lines have later reasons too.
-const BAD: &str = r#"
+pub(crate) const BAD: &str = r#"
 wrong kind|{"do":null}
 wrong kind|{"do":5}
 wrong kind|{"do":5,"day":-1}
@@ -42,7 +42,7 @@ not built|{"do":"report","day":-1,"request":5}
 "#;
 
 /// Good control lines, and their commands.
-const GOOD: [(&str, Command); 18] = [
+pub(crate) const GOOD: [(&str, Command); 18] = [
     (r#"{"do":"add"}"#, Command::Add),
     (r#" { "do" : "add" } "#, Command::Add),
     (r#"{"do":"\u0061dd","day":-1}"#, Command::Add),

@@ -16,7 +16,7 @@ lines-preserved c =
       told = first_added c.lines.number _ _ _ _ _ cut c.lines.invariant.told c.add_line.new.lines.items c.in_ok-add_line.ensures.ok;
     }
 
-all_said : (c : goal.Then-end-bytes) → lines_said c.args.bytes.now ≡ Ok c.add_line.new.lines.items
+all_said : (c : goal.After-drop-scratch-then-end-bytes-2) → lines_said c.args.bytes.now ≡ Ok c.add_line.new.lines.items
 all_said c =
     let cut = cut_end c.args.bytes.now c.lines.start c.line_end.result c.line_end.ensures.first c.lines.invariant.within c.if-end-bytes.true in
     sym (first_added c.lines.number _ _ _ _ _ cut c.lines.invariant.told c.add_line.new.lines.items c.in_ok-add_line.ensures.ok)
