@@ -12,10 +12,9 @@ use Rattle.hypothesis_index.specs.Refuting.{IsPlaceOfSome, Refutes}
 use Rattle.hypothesis_index.specs.declared.bit_place.BitPlace.{BitPlace}
 use Rattle.hypothesis_index.specs.declared.relation.Relation.{Relation}
 use Rattle.hypothesis_index.specs.declared.relation.Relation.TheVariants.{Before, Exclusive, Apart, Pipe, Unshared}
-use Rattle.pipeline_tests.specs.DayLaws.{MetRowsSurvive, FullWordsSurvive, CommonSurvives, OrderOfTracesIsFree, WidenedSurvive, SurvivorsAreUnique}
-use Rattle.pipeline_tests.specs.Rows.{AreWholeRows, IsWholeRow}
+use Rattle.pipeline_tests.specs.DayLaws.{RowsClearRefuted, MetRowsSurvive, FullWordsSurvive, CommonLacks, CommonSurvives, OrderOfTracesIsFree, WidenedLacks, WidenedSurvive, SurvivorsAreUnique}
+use Rattle.pipeline_tests.specs.Rows.{AreWholeRows, IsRefutedPlace, IsWholeRow, LackRefuted}
 use Rattle.refute_tests.specs.Clearing.{HaveNamesBelow}
-use Rattle.trace_types.specs.Surviving.{IsRefuted}
 use Rattle.trace_types.specs.declared.named_segment.NamedSegment.{NamedSegment}
 use Rattle.trace_types.specs.declared.named_trace.NamedTrace.{NamedTrace}
 use Rattle.word_rows.specs.Meeting.{MeetBegins, MeetIsUnique}
@@ -36,18 +35,14 @@ full_bound width i h = subst (λ (n : ℕ). n < 2 ^ 64) (sym (get_or-replicate w
 
 -- ---- which relations some trace of a list refutes
 
--- this bit is the place of a relation that some trace of the list refutes
-abbrev pub IsLost : List NamedTrace → ℕ → ℕ → Type 0
-IsLost traces i b = IsPlaceOfSome (λ (r : Relation). IsRefuted (Refutes r) traces) i b
-
 -- this bit is the place of a relation that the trace refutes
 abbrev IsOfTrace : NamedTrace → ℕ → ℕ → Type 0
 IsOfTrace t i b = IsPlaceOfSome (λ (r : Relation). Refutes r t) i b
 
-pub lost_by : (traces : List NamedTrace) (t : NamedTrace) (i b : ℕ) → Contains traces t → IsOfTrace t i b → IsLost traces i b
+pub lost_by : (traces : List NamedTrace) (t : NamedTrace) (i b : ℕ) → Contains traces t → IsOfTrace t i b → IsRefutedPlace traces i b
 lost_by traces t i b c p = (p.0, p.1, p.2, (c.0, t, c.1, c.2, p.3))
 
-pub lost_some : (traces : List NamedTrace) (i b : ℕ) → IsLost traces i b → (t : NamedTrace) × Contains traces t × IsOfTrace t i b
+pub lost_some : (traces : List NamedTrace) (i b : ℕ) → IsRefutedPlace traces i b → (t : NamedTrace) × Contains traces t × IsOfTrace t i b
 lost_some traces i b p = let a = p.3 in (a.1, (a.0, a.2, a.3), (p.0, p.1, p.2, a.4))
 
 -- ---- rows of traces
@@ -59,7 +54,7 @@ first_or : (t : NamedTrace) (traces : List NamedTrace) (u : NamedTrace) → Cont
 first_or t traces u (zero, l, e) = inl e
 first_or t traces u (suc k, l, e) = inr (k, omega arith, e)
 
-cleared_lost : (traces : List NamedTrace) (rows : List (List Entry)) → AreWholeRows traces rows → (i b : ℕ) → rows_clear rows i b ≡ true → IsLost traces i b
+cleared_lost : (traces : List NamedTrace) (rows : List (List Entry)) → AreWholeRows traces rows → (i b : ℕ) → rows_clear rows i b ≡ true → IsRefutedPlace traces i b
 cleared_lost [] [] whole i b h = absurd (false≢true h)
 cleared_lost [] (row ∷ rows) whole i b h = absurd whole
 cleared_lost (t ∷ ts) [] whole i b h = absurd whole
@@ -76,18 +71,25 @@ lost_cleared (u ∷ us) (row ∷ rows) whole i b t c p = ⊎_elim
     (λ (o : Contains us t). or_right (clears row i b) (rows_clear rows i b) (lost_cleared us rows whole.1 i b t o p))
     (first_or u us t c)
 
+pub rows_clear_refuted : RowsClearRefuted
+rows_clear_refuted traces rows whole i b = (
+  cleared_lost traces rows whole i b,
+  λ p. let q = lost_some traces i b p in lost_cleared traces rows whole i b q.0 q.1 q.2,
+)
+
 pub met_rows_survive : MetRowsSurvive
 met_rows_survive traces rows width words whole met bound = record {
   bound = bound;
   bits = λ i b h l.
       let in_full : i < length (full_words width) = subst (λ (n : ℕ). i < n) met.width h in
       let full : bit_of (full_words width) i b ≡ 1 = full_bit width i b (subst (λ (n : ℕ). i < n) (full_length width) in_full) l in
-      let is = met.bits i b in_full l in (
+      let is = met.bits i b in_full l in
+      let clear = rows_clear_refuted traces rows whole i b in (
         (λ z. ⊎_elim
-            (λ (t : rows_clear rows i b ≡ true). cleared_lost traces rows whole i b t)
+            (λ (t : rows_clear rows i b ≡ true). clear.0 t)
             (λ (f : rows_clear rows i b ≡ false). absurd (one_not_zero (sym is ∙ z) (cond-false _ 0 _ f ∙ full)))
             (cases_Bool (rows_clear rows i b))),
-        (λ p. let q = lost_some traces i b p in is ∙ cond-true _ 0 _ (lost_cleared traces rows whole i b q.0 q.1 q.2)),
+        (λ p. is ∙ cond-true _ 0 _ (clear.1 p)),
       );
 }
   where
@@ -105,8 +107,8 @@ full_words_survive width = record {
 
 -- ---- one more trace
 
-pub bits_more : (words new : List ℕ) (traces : List NamedTrace) (t : NamedTrace) (row : List Entry) → ((i b : ℕ) → i < length words → b < 64 → (bit_of words i b ≡ 0) ↔ IsLost traces i b) → IsMeet words (row ∷ []) new → IsWholeRow t row
-    → (i b : ℕ) → i < length new → b < 64 → (bit_of new i b ≡ 0) ↔ IsLost (traces ++ t ∷ []) i b
+pub bits_more : (words new : List ℕ) (traces : List NamedTrace) (t : NamedTrace) (row : List Entry) → ((i b : ℕ) → i < length words → b < 64 → (bit_of words i b ≡ 0) ↔ IsRefutedPlace traces i b) → IsMeet words (row ∷ []) new → IsWholeRow t row
+    → (i b : ℕ) → i < length new → b < 64 → (bit_of new i b ≡ 0) ↔ IsRefutedPlace (traces ++ t ∷ []) i b
 bits_more words new traces t row bits met exact i b h l =
     let h' : i < length words = subst (λ (n : ℕ). i < n) met.width h in
     let is = met.bits i b h' l in
@@ -131,24 +133,27 @@ bits_more words new traces t row bits met exact i b h l =
 
 -- ---- two lists
 
+pub common_lacks : CommonLacks
+common_lacks traces others words other common a b long c = λ i k h l.
+    let h' : i < length words = subst (λ (n : ℕ). i < n) c.width h in
+    let o' : i < length other = subst (λ (n : ℕ). i < n) long h' in
+    let is : bit_of common i k ≡ min (bit_of words i k) (bit_of other i k) = c.bits i k h' l in
+    let x = bit_at-lt (slice_index words i) k in
+    let y = bit_at-lt (slice_index other i) k in (
+      (λ z. ⊎_elim
+          (λ (e : bit_of words i k ≡ 0). let p = lost_some traces i k ((a i k h' l).0 e) in lost_by (traces ++ others) p.0 i k (Contains-append_left traces others p.0 p.1) p.2)
+          (λ (e : bit_of words i k ≡ 0 → ⊥). let f : bit_of other i k ≡ 0 = omega arith in let p = lost_some others i k ((b i k o' l).0 f) in lost_by (traces ++ others) p.0 i k (Contains-append_right traces others p.0 p.1) p.2)
+          (cases_eq (bit_of words i k) 0)),
+      (λ p. let q = lost_some (traces ++ others) i k p in ⊎_elim
+          (λ (o : Contains traces q.0). let e = (a i k h' l).1 (lost_by traces q.0 i k o q.2) in is ∙ omega arith)
+          (λ (o : Contains others q.0). let e = (b i k o' l).1 (lost_by others q.0 i k o q.2) in is ∙ omega arith)
+          (Contains-append_cases traces others q.0 q.1)),
+    )
+
 pub common_survives : CommonSurvives
 common_survives traces others words other common a b long c bound = record {
   bound = bound;
-  bits = λ i k h l.
-      let h' : i < length words = subst (λ (n : ℕ). i < n) c.width h in
-      let o' : i < length other = subst (λ (n : ℕ). i < n) long h' in
-      let is : bit_of common i k ≡ min (bit_of words i k) (bit_of other i k) = c.bits i k h' l in
-      let x = bit_at-lt (slice_index words i) k in
-      let y = bit_at-lt (slice_index other i) k in (
-        (λ z. ⊎_elim
-            (λ (e : bit_of words i k ≡ 0). let p = lost_some traces i k ((a.bits i k h' l).0 e) in lost_by (traces ++ others) p.0 i k (Contains-append_left traces others p.0 p.1) p.2)
-            (λ (e : bit_of words i k ≡ 0 → ⊥). let f : bit_of other i k ≡ 0 = omega arith in let p = lost_some others i k ((b.bits i k o' l).0 f) in lost_by (traces ++ others) p.0 i k (Contains-append_right traces others p.0 p.1) p.2)
-            (cases_eq (bit_of words i k) 0)),
-        (λ p. let q = lost_some (traces ++ others) i k p in ⊎_elim
-            (λ (o : Contains traces q.0). let e = (a.bits i k h' l).1 (lost_by traces q.0 i k o q.2) in is ∙ omega arith)
-            (λ (o : Contains others q.0). let e = (b.bits i k o' l).1 (lost_by others q.0 i k o q.2) in is ∙ omega arith)
-            (Contains-append_cases traces others q.0 q.1)),
-      );
+  bits = common_lacks traces others words other common a.bits b.bits long c;
 }
 
 pub order_of_traces_is_free : OrderOfTracesIsFree
@@ -176,24 +181,18 @@ names_below names t h (Apart a b) f = named names t h f.1 b f.3 f.5
 names_below names t h (Pipe a b) f = tt
 names_below names t h (Unshared a b) f = tt
 
-pub widened_survive : PlacesFit → WidenedSurvive
-widened_survive fit traces words names more few named wide a = record {
-  bound = λ i h. ⊎_elim
-      (λ (low : i < length words). subst (λ (n : ℕ). n < 2 ^ 64) (sym (get_or_append_left words (full_words more) 0 i low)) (a.bound i low))
-      (λ (high : length words ≤ i). subst (λ (n : ℕ). n < 2 ^ 64) (sym (get_or-append_right words (full_words more) (length words) i 0 refl high)) (full_bound more (i - length words) (behind i h high)))
-      (cases_lt i (length words));
-  bits = λ i b h l. ⊎_elim
-      (λ (low : i < length words). let same : bit_of (widened_words words more) i b ≡ bit_of words i b = ap (λ (n : ℕ). bit_at n b) (get_or_append_left words (full_words more) 0 i low) in
-      ((λ z. (a.bits i b low l).0 (sym same ∙ z)), (λ p. same ∙ (a.bits i b low l).1 p)))
-      (λ (high : length words ≤ i). let one : bit_of (widened_words words more) i b ≡ 1 = ap (λ (n : ℕ). bit_at n b) (get_or-append_right words (full_words more) (length words) i 0 refl high) ∙ full_bit more (i - length words) b (subst (λ (n : ℕ). i - length words < n) (full_length more) (behind i h high)) l in
-      ((λ z. absurd (omega arith)), (λ p. absurd (beyond i b high p))))
-      (cases_lt i (length words));
-}
-  where
-    behind : (i : ℕ) → i < length (widened_words words more) → length words ≤ i → i - length words < length (full_words more)
-    behind i h high = omega (arith, length-append words (full_words more))
+behind : (words : List ℕ) (more i : ℕ) → i < length (widened_words words more) → length words ≤ i → i - length words < length (full_words more)
+behind words more i h high = omega (arith, length-append words (full_words more))
 
-    beyond : (i b : ℕ) → length words ≤ i → IsLost traces i b → ⊥
+pub widened_lacks : PlacesFit → WidenedLacks
+widened_lacks fit traces words names more few named wide a = λ i b h l. ⊎_elim
+    (λ (low : i < length words). let same : bit_of (widened_words words more) i b ≡ bit_of words i b = ap (λ (n : ℕ). bit_at n b) (get_or_append_left words (full_words more) 0 i low) in
+    ((λ z. (a i b low l).0 (sym same ∙ z)), (λ p. same ∙ (a i b low l).1 p)))
+    (λ (high : length words ≤ i). let one : bit_of (widened_words words more) i b ≡ 1 = ap (λ (n : ℕ). bit_at n b) (get_or-append_right words (full_words more) (length words) i 0 refl high) ∙ full_bit more (i - length words) b (subst (λ (n : ℕ). i - length words < n) (full_length more) (behind words more i h high)) l in
+    ((λ z. absurd (omega arith)), (λ p. absurd (beyond i b high p))))
+    (cases_lt i (length words))
+  where
+    beyond : (i b : ℕ) → length words ≤ i → IsRefutedPlace traces i b → ⊥
     beyond i b high p =
         let q = lost_some traces i b p in
         let f = q.2 in
@@ -201,6 +200,15 @@ widened_survive fit traces words names more few named wide a = record {
         let inside = (fit names f.0 few f.1 n).0 in
         let at : (place_of f.0).word ≡ i = ap (λ (x : BitPlace). x.word) f.2 in
         omega arith
+
+pub widened_survive : PlacesFit → WidenedSurvive
+widened_survive fit traces words names more few named wide a = record {
+  bound = λ i h. ⊎_elim
+      (λ (low : i < length words). subst (λ (n : ℕ). n < 2 ^ 64) (sym (get_or_append_left words (full_words more) 0 i low)) (a.bound i low))
+      (λ (high : length words ≤ i). subst (λ (n : ℕ). n < 2 ^ 64) (sym (get_or-append_right words (full_words more) (length words) i 0 refl high)) (full_bound more (i - length words) (behind words more i h high)))
+      (cases_lt i (length words));
+  bits = widened_lacks fit traces words names more few named wide a.bits;
+}
 
 -- ---- one list of words
 

@@ -1,10 +1,16 @@
 //! Laws over the definitions alone: each function does nothing, and its contract is the law.
-ghost use Rattle.pipeline_tests.specs.DayLaws.{CommonSurvives, FullWordsSurvive, MetRowsSurvive};
-ghost use Rattle.pipeline_tests.specs.DayLaws.{OrderOfTracesIsFree, SurvivorsAreUnique};
-ghost use Rattle.pipeline_tests.specs.DayLaws.{WidenedSurvive};
+ghost use Rattle.pipeline_tests.specs.DayLaws.{CommonLacks, CommonSurvives, FullWordsSurvive};
+ghost use Rattle.pipeline_tests.specs.DayLaws.{MetRowsSurvive, OrderOfTracesIsFree};
+ghost use Rattle.pipeline_tests.specs.DayLaws.{RowsClearRefuted, SurvivorsAreUnique};
+ghost use Rattle.pipeline_tests.specs.DayLaws.{WidenedLacks, WidenedSurvive};
 
 use hypothesis_index::laws::places_fit;
 use word_rows::laws::{meet_begins, meet_is_unique};
+
+/// Whole rows of traces clear exactly the places of the relations that some of the traces refutes.
+pub fn rows_clear_refuted()
+    ensures { RowsClearRefuted }
+{}
 
 /// Full words met by one whole row of each trace are the survivors of the traces.
 pub fn met_rows_survive()
@@ -14,6 +20,11 @@ pub fn met_rows_survive()
 /// Full words are the survivors of no trace.
 pub fn full_words_survive()
     ensures { FullWordsSurvive }
+{}
+
+/// What two lists of words have in common lacks exactly what the traces of either refute.
+pub fn common_lacks()
+    ensures { CommonLacks }
 {}
 
 /// What the survivors of two lists of traces have in common are those of the one list after the
@@ -26,6 +37,14 @@ pub fn common_survives()
 pub fn order_of_traces_is_free()
     ensures { OrderOfTracesIsFree }
 {}
+
+/// Words that lack exactly what traces refute whose names fit the words still do when full words are
+/// appended.
+pub fn widened_lacks()
+    ensures { WidenedLacks }
+{
+    places_fit();
+}
 
 /// Survivors of traces whose names fit the words stay survivors when full words are appended.
 pub fn widened_survive()

@@ -1,12 +1,13 @@
 -- What the definitions of counts and watch numbers mean.
-use Rattle.std.proofs.Common.{◌≡◌, ℕ, ◌<◌, ◌≤◌, List, [], length, get_or, take, refl, sym, ap, ◌∙◌, subst, arith}
+use Rattle.std.proofs.Common.{◌≡◌, ℕ, ◌<◌, ◌≤◌, List, [], length, get_or, refl, sym, ap, ◌∙◌, subst, arith}
 use Rattle.std.proofs.lemmas.Bool.{and_from, eq-eqb, lt-ltb, or_right}
 use Rattle.std.proofs.lemmas.List.{get_or-map, length-map}
-use Rattle.std.specs.List.{All, Contains, flat_map}
+use Rattle.std.specs.List.{Contains, flat_map}
 use Rattle.hypothesis_index.specs.Places.{IsRelation, NamesBelow, place_of}
 use Rattle.hypothesis_index.specs.Refuting.{Refutes}
 use Rattle.hypothesis_index.specs.declared.relation.Relation.{Relation}
 use Rattle.hypothesis_index.specs.declared.relation.Relation.TheVariants.{Before, Exclusive, Apart, Pipe, Unshared}
+use Rattle.pipeline_tests.specs.Rows.{IsRefutedPlace}
 use Rattle.refute_tests.specs.Clearing.{HaveNamesBelow}
 use Rattle.trace_types.specs.Surviving.{IsRefuted}
 use Rattle.trace_types.specs.declared.named_segment.NamedSegment.{NamedSegment}
@@ -16,12 +17,9 @@ use Rattle.word_rows.specs.Accounts.{lacks}
 use Rattle.word_rows.specs.Changes.{readings_from}
 use Rattle.word_rows.specs.Meeting.{BlockLacks, LacksAppend}
 use Rattle.word_rows.specs.Words.{AreWords, bit_of}
-use Rattle.trace_pass.specs.Counts.{IsAtMostRefuted, IsWithinRefuted, zeros}
-use Rattle.trace_pass.specs.Meaning.{CountIsOne, NumbersAreWithin, SharesAreWhole, ZerosAreCount}
-use Rattle.trace_pass.specs.Halving.{share_at, shares_of}
-use Rattle.trace_pass.specs.Rows.{IsRefutedPlace, LackOnlyRefuted}
-use Rattle.trace_pass.specs.States.{RecordingState}
-use Rattle.trace_pass.specs.Watch.{HasWatched}
+use Rattle.trace_pass.specs.Counts.{IsAtMostRefuted, zeros}
+use Rattle.trace_pass.specs.Meaning.{CountIsOne, NumbersAreAtMost, NumbersAreWithin, SharesAreWhole, ZerosAreCount}
+use Rattle.trace_pass.specs.Halving.{shares_of}
 use Rattle.trace_pass.specs.declared.watch_lines.WatchLine.{WatchLine}
 use Rattle.trace_pass.proofs.HalvingLemmas.{length_shares, whole_shares}
 use Rattle.trace_pass.proofs.PlaceLemmas.{PlacesDiffer, PlacesFit, least_from, most_refuted}
@@ -58,10 +56,8 @@ zeros_are_count differ fit names ts words few below wide are = record {
         let within : (place_of r).word < length words = subst (λ (n : ℕ). (place_of r).word < n) (sym wide) place.0 in
         (within, (are.bits (place_of r).word (place_of r).bit within place.1).1 (r, h, refl, f))
 
-within_bounds : LacksAppend → BlockLacks → (every width : ℕ) (shares : List (List NamedTrace)) (old new : RecordingState) (lines : List WatchLine) (ts : List NamedTrace) → HasWatched every width shares old new lines → LackOnlyRefuted new.pass.view.readings ts
-    → All (λ (l : WatchLine). IsWithinRefuted (take l.done (share_at shares l.worker)) ts l.refuted) lines
-within_bounds join one every width shares old new lines ts w lack k d l =
-    record { least = w.least k d l; most = subst (IsAtMostRefuted ts) (sym counted) (most_refuted ts block bound only) }
+pub numbers_are_at_most : LacksAppend → BlockLacks → NumbersAreAtMost
+numbers_are_at_most join one every width shares ts old new lines w lack k d l = subst (IsAtMostRefuted ts) (sym counted) (most_refuted ts block bound only)
   where
     block : List ℕ
     block = get_or w.blocks k []
@@ -83,6 +79,6 @@ within_bounds join one every width shares old new lines ts w lack k d l =
 pub numbers_are_within : LacksAppend → BlockLacks → NumbersAreWithin
 numbers_are_within join one every width workers ts old new lines w lack = record {
   marks = w.marks;
-  within = within_bounds join one every width (shares_of ts workers) old new lines ts w lack;
+  within = λ k d l. record { least = w.least k d l; most = numbers_are_at_most join one every width (shares_of ts workers) ts old new lines w lack k d l };
   rising = w.rising;
 }

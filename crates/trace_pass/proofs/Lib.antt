@@ -8,3 +8,4 @@ pub mod FlatLemmas
 pub mod LawLemmas
 pub mod TestLemmas
 pub mod Worked
+pub mod ClosingLemmas

@@ -7,6 +7,8 @@ use Rattle.hypothesis_index.specs.Refuting.{Refutes}
 use Rattle.hypothesis_index.specs.declared.bit_place.BitPlace.{BitPlace}
 use Rattle.hypothesis_index.specs.declared.relation.Relation.{Relation}
 use Rattle.hypothesis_index.specs.declared.relation.Relation.TheVariants.{Before, Exclusive, Apart, Pipe, Unshared}
+use Rattle.pipeline_tests.specs.DayLaws.{RowsClearRefuted}
+use Rattle.pipeline_tests.specs.Rows.{IsRefutedPlace}
 use Rattle.trace_types.specs.Surviving.{IsRefuted}
 use Rattle.trace_types.specs.declared.named_trace.NamedTrace.{NamedTrace}
 use Rattle.word_rows.specs.declared.entries.Entry.{Entry}
@@ -15,9 +17,8 @@ use Rattle.word_rows.specs.Meeting.{ClearsBelow}
 use Rattle.word_rows.specs.Rows.{below, clears, rows_below, rows_clear}
 use Rattle.word_rows.specs.Words.{AreWords, bit_of}
 use Rattle.trace_pass.specs.Counts.{IsAtLeastRefuted, IsAtMostRefuted, zeros}
-use Rattle.trace_pass.specs.Rows.{AreRowsWithin, IsRefutedPlace}
+use Rattle.trace_pass.specs.Rows.{AreRowsWithin}
 use Rattle.trace_pass.proofs.CountLemmas.{chosen, is_zero, pigeons, zeros_count}
-use Rattle.trace_pass.proofs.RowLemmas.{refuted_to}
 
 -- what the laws on places say
 abbrev pub PlacesDiffer : Type 0
@@ -74,14 +75,14 @@ least_from differ fit ts words bound clear rs are =
         (omega arith, eq-eqb _ 0 (ap (λ (i : ℕ). bit_of words i (number_of r % 64)) q ∙ ap (bit_of words p.word) m ∙ here.1))
 
 -- words that lack all bits of the whole rows have at least as many zeros as there are refuted relations
-pub least_refuted : PlacesDiffer → PlacesFit → ClearsBelow → (names : ℕ) (ts : List NamedTrace) (rows : List (List Entry)) (words : List ℕ) → AreRowsWithin names ts rows → length words ≡ width_of names → AreWords words → AreZero words (rows_clear rows) → IsAtLeastRefuted ts (zeros words)
-least_refuted differ fit law names ts rows words have wide bound clear = least_from differ fit ts words bound cleared
+pub least_refuted : PlacesDiffer → PlacesFit → ClearsBelow → RowsClearRefuted → (names : ℕ) (ts : List NamedTrace) (rows : List (List Entry)) (words : List ℕ) → AreRowsWithin names ts rows → length words ≡ width_of names → AreWords words → AreZero words (rows_clear rows) → IsAtLeastRefuted ts (zeros words)
+least_refuted differ fit law refuted names ts rows words have wide bound clear = least_from differ fit ts words bound cleared
   where
     cleared : (r : Relation) → IsRelation r → IsRefuted (Refutes r) ts → ((place_of r).word < length words) × (bit_of words (place_of r).word (place_of r).bit ≡ 0)
     cleared r h f =
         let p : BitPlace = place_of r in
         let place : IsRefutedPlace ts p.word p.bit = (r, h, refl, f) in
-        let c : rows_clear rows p.word p.bit ≡ true = refuted_to ts rows p.word p.bit have.whole place in
+        let c : rows_clear rows p.word p.bit ≡ true = (refuted ts rows have.whole p.word p.bit).1 place in
         let word : p.word < width_of names = rows_clear_below law (width_of names) rows p.word p.bit have.within c in
         let within : p.word < length words = omega arith in
         (within, clear p.word p.bit within (bit_fits fit r h) c)

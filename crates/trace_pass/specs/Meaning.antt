@@ -9,7 +9,7 @@ use Rattle.trace_pass.specs.Counts.{IsRefutedCount, zeros}
 use Rattle.trace_pass.specs.Halving.{shares_of}
 use Rattle.trace_pass.specs.Rows.{LackOnlyRefuted}
 use Rattle.trace_pass.specs.States.{RecordingState}
-use Rattle.trace_pass.specs.Watch.{AreWatchLines, HasWatched}
+use Rattle.trace_pass.specs.Watch.{AreAtMostRefuted, AreWatchLines, HasWatched}
 use Rattle.trace_pass.specs.declared.watch_lines.WatchLine.{WatchLine}
 
 -- there is one share for each worker, and one after the other they are the traces
@@ -28,6 +28,15 @@ abbrev pub ZerosAreCount : Type 0
 ZerosAreCount = (names : ℕ) (traces : List NamedTrace) (words : List ℕ)
     → names ≤ 512 → All (HaveNamesBelow names) traces → length words ≡ width_of names
     → AreSurvivors traces words → IsRefutedCount traces (zeros words)
+
+-- the upper bound: where a recording's readings lack only what some of the traces refutes, watch
+-- numbers that were taken from them count only such relations
+abbrev pub NumbersAreAtMost : Type 0
+NumbersAreAtMost = (every width : ℕ) (shares : List (List NamedTrace)) (traces : List NamedTrace)
+    (old new : RecordingState) (lines : List WatchLine)
+    → HasWatched every width shares old new lines
+    → LackOnlyRefuted new.pass.view.readings traces
+    → AreAtMostRefuted traces lines
 
 -- where a recording's readings lack only what some of the traces refutes, the watch lines that
 -- were taken while so many workers offered these traces are within their bounds

@@ -1,10 +1,7 @@
 -- The rows of recorded traces, and what readings of them may lack.
 use Rattle.std.specs.Prelude.{◌≡◌, ℕ, ◌<◌, true, List}
 use Rattle.hypothesis_index.specs.Places.{width_of}
-use Rattle.hypothesis_index.specs.Refuting.{IsPlaceOfSome, Refutes}
-use Rattle.hypothesis_index.specs.declared.relation.Relation.{Relation}
-use Rattle.pipeline_tests.specs.Rows.{AreWholeRows}
-use Rattle.trace_types.specs.Surviving.{IsRefuted}
+use Rattle.pipeline_tests.specs.Rows.{AreWholeRows, IsRefutedPlace}
 use Rattle.trace_types.specs.declared.named_trace.NamedTrace.{NamedTrace}
 use Rattle.word_rows.specs.declared.entries.Entry.{Entry}
 use Rattle.word_rows.specs.declared.views.Reading.{Reading}
@@ -16,11 +13,6 @@ pub record AreRowsWithin (names : ℕ) (traces : List NamedTrace)
     (rows : List (List Entry)) : Type 0 where
   pub whole : AreWholeRows traces rows
   pub within : rows_below (width_of names) rows ≡ true
-
--- some trace of the list refutes the relation with this place
-abbrev pub IsRefutedPlace : List NamedTrace → ℕ → ℕ → Type 0
-IsRefutedPlace traces word bit =
-    IsPlaceOfSome (λ (r : Relation). IsRefuted (Refutes r) traces) word bit
 
 -- each bit that a reading lacks is the place of a relation that some trace of the list refutes
 abbrev pub LackOnlyRefuted : List Reading → List NamedTrace → Type 0

@@ -4,7 +4,7 @@ use Rattle.std.specs.List.{All, AllPairs, filter, flat_map, range_with_len}
 use Rattle.trace_types.specs.declared.named_trace.NamedTrace.{NamedTrace}
 use Rattle.word_rows.specs.Changes.{readings_from}
 use Rattle.word_rows.specs.Words.{AreWords}
-use Rattle.trace_pass.specs.Counts.{IsAtLeastRefuted, IsWithinRefuted, zeros}
+use Rattle.trace_pass.specs.Counts.{IsAtLeastRefuted, IsAtMostRefuted, IsWithinRefuted, zeros}
 use Rattle.trace_pass.specs.Halving.{share_at, share_of, shares_of}
 use Rattle.trace_pass.specs.States.{RecordingState}
 use Rattle.trace_pass.specs.declared.watch_lines.WatchLine.{WatchLine}
@@ -42,6 +42,11 @@ pub record HasWatched (every width : ℕ) (shares : List (List NamedTrace))
   -- and it never falls along a worker
   pub rising : AllPairs (λ (k : WatchLine) (l : WatchLine).
       k.worker ≡ l.worker → k.refuted ≤ l.refuted) lines
+
+-- the upper bound of watch numbers: each is at most the number of relations that some trace of the
+-- list refutes
+abbrev pub AreAtMostRefuted : List NamedTrace → List WatchLine → Type 0
+AreAtMostRefuted traces lines = All (λ (l : WatchLine). IsAtMostRefuted traces l.refuted) lines
 
 -- the watch lines of traces that so many workers offered: by worker and then by how many of its
 -- traces; each number is between what these refute and what all traces refute, and never falls

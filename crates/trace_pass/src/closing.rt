@@ -1,13 +1,19 @@
 ghost use Rattle.std.specs.Prelude.{◌≡◌, ◌≤◌, length, IfErr, IfOk};
 ghost use Rattle.refute_tests.specs.Survivors.{AreSurvivors};
+ghost use Rattle.word_rule.specs.Faults.{IsFault};
 ghost use Rattle.word_rule.specs.Histories.{EndsWith};
+ghost use Rattle.word_rule.specs.Holdings.{Holding, Opened};
 ghost use Rattle.trace_pass.specs.Faults.{IsRecorderFault};
 ghost use Rattle.trace_pass.specs.Rows.{LackOnlyRefuted};
 ghost use Rattle.trace_pass.specs.States.{IsOfRecorder};
+ghost use Rattle.trace_pass.specs.inner.Closing.{HasParts};
 
 use crate::recorders::Recorder;
 use crate::recordings::Recording;
 use pipeline_tests::DaySheet;
+use pipeline_tests::laws::{met_rows_survive, rows_clear_refuted};
+use std::alloc::Global;
+use trace_types::NamedTrace;
 use word_rule::CloseFault;
 
 /// Why a recorder was not closed. The recorder and the recording are unchanged.
@@ -25,6 +31,48 @@ pub enum RecorderFault {
         have: u32,
         all: u32,
     },
+}
+
+/// Puts the recorder and the recording together again, of whose table and pass this was the fault.
+fn give_back(fault: CloseFault, alloc: Global, traces: Vec<NamedTrace>, names: u32) -> RecorderFault
+    requires { HasParts names traces.items fault }
+    ensures { (table : Opened) (pass : Holding) → IsFault table pass fault
+        → IsRecorderFault (record { table = table; names = names })
+        (record { pass = pass; traces = traces.items; names = names }) result }
+{
+    match fault {
+        CloseFault::Memory { table, pass } => RecorderFault::Memory {
+            recorder: Recorder {
+                table,
+                names,
+                alloc,
+            },
+            recording: Recording {
+                pass,
+                traces,
+                names,
+            },
+        },
+        CloseFault::PassesOut {
+            table,
+            pass,
+            have,
+            all,
+        } => RecorderFault::PassesOut {
+            recorder: Recorder {
+                table,
+                names,
+                alloc,
+            },
+            recording: Recording {
+                pass,
+                traces,
+                names,
+            },
+            have,
+            all,
+        },
+    }
 }
 
 impl Recorder {
@@ -56,44 +104,14 @@ impl Recorder {
             traces,
             names: _,
         } = recording;
+        met_rows_survive();
+        rows_clear_refuted();
         match table.close(alloc, pass) {
             Ok(closed) => {
                 let _bound = closed.words.words();
                 Ok(DaySheet::of_words(traces, closed.words))
             }
-            Err(CloseFault::Memory { table, pass }) => Err(RecorderFault::Memory {
-                recorder: Recorder {
-                    table,
-                    names,
-                    alloc,
-                },
-                recording: Recording {
-                    pass,
-                    traces,
-                    names,
-                },
-            }),
-            Err(
-                CloseFault::PassesOut {
-                    table,
-                    pass,
-                    have,
-                    all,
-                },
-            ) => Err(RecorderFault::PassesOut {
-                recorder: Recorder {
-                    table,
-                    names,
-                    alloc,
-                },
-                recording: Recording {
-                    pass,
-                    traces,
-                    names,
-                },
-                have,
-                all,
-            }),
+            Err(fault) => Err(give_back(fault, alloc, traces, names)),
         }
     }
 }

@@ -9,6 +9,7 @@ ghost use Rattle.trace_pass.specs.States.{IsOfRecorder};
 use crate::recorders::Recorder;
 use crate::recordings::Recording;
 use hypothesis_index::laws::{pairs_follow, places_differ, places_fit};
+use pipeline_tests::laws::rows_clear_refuted;
 use word_rows::laws::clears_below;
 
 /// Counts the bits that are 0.
@@ -44,6 +45,7 @@ pub(crate) fn read_number(recorder: &Recorder, recording: &mut Recording, into: 
     places_fit();
     pairs_follow();
     clears_below();
+    rows_clear_refuted();
     recording.shares();
     recorder.width();
     recorder.read(recording, into);

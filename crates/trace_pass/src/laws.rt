@@ -1,6 +1,7 @@
 //! What follows from the definitions alone. Each law is the contract of a function that does
 //! nothing.
-ghost use Rattle.trace_pass.specs.Meaning.{CountIsOne, NumbersAreWithin, SharesAreWhole, ZerosAreCount};
+ghost use Rattle.trace_pass.specs.Meaning.{CountIsOne, NumbersAreAtMost, NumbersAreWithin};
+ghost use Rattle.trace_pass.specs.Meaning.{SharesAreWhole, ZerosAreCount};
 
 use hypothesis_index::laws::{places_differ, places_fit};
 use word_rows::laws::{block_lacks, lacks_append};
@@ -23,7 +24,15 @@ pub fn zeros_are_count()
     places_fit();
 }
 
-/// What `close` says of the readings of a recording gives the upper bound of its watch numbers.
+/// Watch numbers that were taken from readings count only relations that the readings may lack.
+pub fn numbers_are_at_most()
+    ensures { NumbersAreAtMost }
+{
+    block_lacks();
+    lacks_append();
+}
+
+/// What `close` says of the readings of a recording gives the bounds of its watch numbers.
 pub fn numbers_are_within()
     ensures { NumbersAreWithin }
 {

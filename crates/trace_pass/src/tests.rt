@@ -30,8 +30,13 @@ fn segment(name: u32, start: i64, end: i64) -> NamedSegment
     }
 }
 
-/// Makes a trace of two such segments.
-fn pair(alloc: Global, first: NamedSegment, second: NamedSegment) -> Result<NamedTrace, AllocError>
+/// Makes a trace of two such segments, with a request for each number.
+fn pair(
+    alloc: Global,
+    number: u32,
+    first: NamedSegment,
+    second: NamedSegment,
+) -> Result<NamedTrace, AllocError>
     requires names { first.name ≢ second.name }
     requires below { (first.name < 2) × (second.name < 2) }
     requires tasks { first.task ≢ second.task }
@@ -39,7 +44,8 @@ fn pair(alloc: Global, first: NamedSegment, second: NamedSegment) -> Result<Name
     requires other { second.element ≡ None }
     ensures { IfOk result (HaveNamesBelow 2) }
 {
-    let request = Text::new(alloc, "r1")?;
+    let name = format!(in alloc; "r{number}")?;
+    let request = Text::new(alloc, name.as_str())?;
     let segments = Vec::from_array(alloc, [first, second])?;
     Ok(NamedTrace {
         request,
@@ -51,27 +57,27 @@ fn pair(alloc: Global, first: NamedSegment, second: NamedSegment) -> Result<Name
 }
 
 /// Makes a trace in which the segment 0 ends where the segment 1 starts: it refutes two relations.
-fn touching(alloc: Global) -> Result<NamedTrace, AllocError>
+fn touching(alloc: Global, number: u32) -> Result<NamedTrace, AllocError>
     ensures { IfOk result (HaveNamesBelow 2) }
 {
-    pair(alloc, segment(0, 0, 10), segment(1, 10, 30))
+    pair(alloc, number, segment(0, 0, 10), segment(1, 10, 30))
 }
 
 /// Makes a trace in which the segment 1 comes first: it refutes two relations, one of them another.
-fn swapped(alloc: Global) -> Result<NamedTrace, AllocError>
+fn swapped(alloc: Global, number: u32) -> Result<NamedTrace, AllocError>
     ensures { IfOk result (HaveNamesBelow 2) }
 {
-    pair(alloc, segment(1, 0, 5), segment(0, 5, 9))
+    pair(alloc, number, segment(1, 0, 5), segment(0, 5, 9))
 }
 
 /// Makes a touching trace, or a swapped one.
-fn one_of(alloc: Global, touch: bool) -> Result<NamedTrace, AllocError>
+fn one_of(alloc: Global, number: u32, touch: bool) -> Result<NamedTrace, AllocError>
     ensures { IfOk result (HaveNamesBelow 2) }
 {
     if touch {
-        touching(alloc)
+        touching(alloc, number)
     } else {
-        swapped(alloc)
+        swapped(alloc, number)
     }
 }
 
@@ -82,7 +88,7 @@ fn day_of(alloc: Global, touch: u32, count: u32) -> Result<Vec<NamedTrace>, Allo
 {
     let mut traces = Vec::with_capacity(alloc, count as usize)?;
     for k in 0..count {
-        let trace = one_of(alloc, k < touch)?;
+        let trace = one_of(alloc, k, k < touch)?;
         traces.push(trace)?;
     }
     Ok(traces)
@@ -180,10 +186,10 @@ fn two_recordings_become_one_sheet(rt: HostRuntime) -> Result<(), Fail> {
     let alloc = rt.alloc();
     let (recorder, mut first) = Recorder::open(alloc, 2, 2)?;
     let mut second = recorder.split(&mut first, 1);
-    let Ok(()) = recorder.offer(&mut first, touching(alloc)?) else {
+    let Ok(()) = recorder.offer(&mut first, touching(alloc, 1)?) else {
         return Err(Fail::from("memory"));
     };
-    let Ok(()) = recorder.offer(&mut second, swapped(alloc)?) else {
+    let Ok(()) = recorder.offer(&mut second, swapped(alloc, 2)?) else {
         return Err(Fail::from("memory"));
     };
     let Err(
@@ -265,16 +271,23 @@ fn workers_share_one_table(rt: HostRuntime) -> Result<(), Fail> {
     Ok(())
 }
 
+/// Tells whether these are traces of the same requests in the same order.
+fn have_same_requests(traces: &[NamedTrace], others: &[NamedTrace]) -> bool {
+    let mut pairs = traces.iter().zip(others);
+    traces.len() == others.len() && pairs.all(|(trace, other)| trace.request == other.request)
+}
+
 #[test]
-fn every_number_of_workers_gives_one_sheet(rt: HostRuntime) -> Result<(), Fail> {
+fn every_number_of_workers_gives_the_plain_sheet(rt: HostRuntime) -> Result<(), Fail> {
     let alloc = rt.alloc();
+    let plain = DaySheet::plain(alloc, day_of(alloc, 3, 8)?, 2)?;
+    assert_eq!(rt; plain.words().words().last().copied(), Some(LEFT));
     for workers in [1, 2, 3, 4, 7, 64] {
         let Some((sheet, lines)) = sheet_by(&rt, alloc, workers, day_of(alloc, 3, 8)?, 2) else {
             return Err(Fail::from("memory"));
         };
-        let words = sheet.words().words();
-        assert_eq!(rt; (sheet.traces().len(), words.len()), (8, 127));
-        assert_eq!(rt; words[126], LEFT);
+        assert!(rt; have_same_requests(sheet.traces(), plain.traces()));
+        assert_eq!(rt; sheet.words().words(), plain.words().words());
         assert!(rt; lines.items().len() <= 4);
     }
     Ok(())

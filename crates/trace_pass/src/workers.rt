@@ -30,6 +30,15 @@ fn is_multiple(every: u32, n: u32) -> bool
     every != 0 && n % every == 0
 }
 
+/// Counts the watch numbers that are due over so many traces.
+fn count_due(traces: usize, every: u32) -> usize {
+    if every == 0 {
+        0
+    } else {
+        traces / every as usize
+    }
+}
+
 /// Takes a watch number, if the worker has just offered a multiple of `every`. The only error is
 /// that memory ran out.
 fn watch(
@@ -88,7 +97,10 @@ fn offer_each<G: Gate>(
     ensures fault { IfErr result (λ f. HasStopped recorder.now recording traces.items
         f.recording) }
 {
-    let mut lines = Vec::new(recorder.alloc);
+    let due = count_due(traces.len(), every);
+    let Ok(mut lines) = Vec::with_capacity(recorder.alloc, due) else {
+        return Err(OfferAllFault { recording });
+    };
     let mut offered = 0;
     for trace in traces {
         gate.turn(worker, offered);

@@ -1,7 +1,8 @@
 use Rattle.std.proofs.Common.{◌≡◌, ◌+◌, ◌<◌, ◌↔◌, ◌++◌, ◌∷◌, [], ℕ, true, List, length, take, sym, ap, subst, ◌∙◌, arith}
 use Rattle.std.proofs.lemmas.List.{take_more, take_all}
 use Rattle.hypothesis_index.specs.Places.{width_of}
-use Rattle.pipeline_tests.proofs.SurvivorLemmas.{IsLost, full_length, full_words_survive, bits_more}
+use Rattle.pipeline_tests.specs.Rows.{IsRefutedPlace}
+use Rattle.pipeline_tests.proofs.SurvivorLemmas.{full_length, full_words_survive, bits_more}
 use Rattle.refute_tests.specs.Clearing.{HaveNamesBelow}
 use Rattle.refute_tests.specs.Survivors.{AreSurvivors}
 use Rattle.trace_types.specs.declared.named_trace.NamedTrace.{NamedTrace}
@@ -12,7 +13,7 @@ use Rattle.pipeline_tests.proofs.sheets.survivors.Goals as goal
 pub loop-trace-init : goal.loop-trace-init
 loop-trace-init c = let same : c.in_ok-words.words ≡ full_words (width_of c.args.names) = c.in_ok-words.ensures ∙ ap full_words c.width.ensures in record {
   long = ap (λ (l : List ℕ). length l) same ∙ full_length (width_of c.args.names);
-  bits = subst (λ (l : List ℕ). (i b : ℕ) → i < length l → b < 64 → (bit_of l i b ≡ 0) ↔ IsLost [] i b) (sym same) (full_words_survive (width_of c.args.names)).bits;
+  bits = subst (λ (l : List ℕ). (i b : ℕ) → i < length l → b < 64 → (bit_of l i b ≡ 0) ↔ IsRefutedPlace [] i b) (sym same) (full_words_survive (width_of c.args.names)).bits;
 }
 
 pub meet_row-requires : goal.meet_row-requires
@@ -29,7 +30,7 @@ loop-trace-preserved c =
     let front : take (k + 1) traces ≡ take k traces ++ t ∷ [] = take_more traces k t c.loop-trace-test.true ∙ ap (λ (x : NamedTrace). take k traces ++ x ∷ []) (sym c.trace-item.is) in
     record {
       long = c.meet_row.ensures.width ∙ v.long;
-      bits = subst (λ (l : List NamedTrace). (i b : ℕ) → i < length new → b < 64 → (bit_of new i b ≡ 0) ↔ IsLost l i b) (sym front)
+      bits = subst (λ (l : List NamedTrace). (i b : ℕ) → i < length new → b < 64 → (bit_of new i b ≡ 0) ↔ IsRefutedPlace l i b) (sym front)
           (bits_more c.loop-trace.words new (take k traces) t c.in_ok-row.row v.bits c.meet_row.ensures c.in_ok-row.ensures.exact);
     }
 

@@ -16,6 +16,6 @@ returns-clause-least c =
     let wide : length c.read.new.into ≡ width_of c.args.recorder.now.names = omega arith in
     let names : c.args.recorder.now.names ≡ c.args.recording.now.names = sym c.requires.table.names in
     subst (λ (n : ℕ). IsAtLeastRefuted c.args.recording.now.traces n) (sym c.count_zeros.ensures.count)
-    (least_refuted c.places_differ.ensures c.places_fit.ensures c.clears_below.ensures c.args.recording.now.names c.args.recording.now.traces _ c.read.new.into c.shares.ensures.rows
+    (least_refuted c.places_differ.ensures c.places_fit.ensures c.clears_below.ensures c.rows_clear_refuted.ensures c.args.recording.now.names c.args.recording.now.traces _ c.read.new.into c.shares.ensures.rows
     (wide ∙ ap width_of names) c.count_zeros.ensures.bound
     (λ i b l h e. c.read.ensures.shown i b l h (or_left _ _ (or_left _ _ e))))

@@ -26,7 +26,7 @@ loop-trace-init g c = let give = c.into_iter-trace-iterator.ensures.into_iter_gi
       traces = sym (append-nil c.args.recording.traces);
       more = λ history begins. begins;
       counted = refl;
-      watching = subst (λ (ls : List WatchLine). IsWatching c.args.every c.args.recorder.now.table.width c.args.worker 0 (into_iter_items c.into_iter-trace-iterator.result) c.args.recording.pass.view.readings c.args.recording.pass.view.readings ls) (sym c.new-lines.ensures.items)
+      watching = subst (λ (ls : List WatchLine). IsWatching c.args.every c.args.recorder.now.table.width c.args.worker 0 (into_iter_items c.into_iter-trace-iterator.result) c.args.recording.pass.view.readings c.args.recording.pass.view.readings ls) (sym c.in-Ok.ensures.items)
           (watching_none c.args.every c.args.recorder.now.table.width c.args.worker _ c.args.recording.pass.view.readings);
     }
 
@@ -34,7 +34,7 @@ pub loop-trace-preserved : goal.loop-trace-preserved
 loop-trace-preserved g c =
     let at = c.loop-trace in let inv = c.loop-trace.invariant in let x = c.in-Some.trace in
     let steps : into_iter_items at.trace-iterator ≡ x ∷ into_iter_items c.next.new.self = c.in-Some.ensures.steps.0 in
-    let ok = c.in-Ok.ensures.ok in
+    let ok = c.in-Ok-offer.ensures.ok in
     let share = into_iter_items c.into_iter-trace-iterator.result in
     let whole : at.yielded ++ x ∷ into_iter_items c.next.new.self ≡ share = rw (← steps) inv.items in
     let readings : c.offer.new.recording.pass.view.readings ≡ at.recording.pass.view.readings = ap (λ (v : View). v.readings) ok.view in
@@ -56,7 +56,7 @@ pub returns-in_default-watch-clause-fault : goal.returns-in_default-watch-clause
 returns-in_default-watch-clause-fault g c =
     let at = c.loop-trace in let inv = c.loop-trace.invariant in let x = c.in-Some.trace in
     let steps : into_iter_items at.trace-iterator ≡ x ∷ into_iter_items c.next.new.self = c.in-Some.ensures.steps.0 in
-    let ok = c.in-Ok.ensures.ok in
+    let ok = c.in-Ok-offer.ensures.ok in
     let same : c.watch.new.recording.pass.view.shares ≡ c.args.recording.pass.view.shares = c.watch.ensures.shares ∙ ap (λ (v : View). v.shares) ok.view ∙ inv.shares in
     let whole : at.yielded ++ x ∷ into_iter_items c.next.new.self ≡ into_iter_items c.into_iter-trace-iterator.result = rw (← steps) inv.items in
     record {
