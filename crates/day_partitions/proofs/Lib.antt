@@ -22,3 +22,4 @@ pub mod TestLemmas
 pub mod TreeLemmas
 pub mod WidenLemmas
 pub mod WiderLemmas
+pub mod CountLemmas

@@ -8,7 +8,8 @@ use Rattle.refute_tests.specs.Clearing.{HaveNamesBelow}
 use Rattle.trace_types.specs.declared.named_trace.NamedTrace.{NamedTrace}
 use Rattle.day_partitions.specs.Books.{KeptDay, kept_day, BookState, has_day, all_traces, AreRising, HasTraces, AreOfDay, IsBook, IsSheetOf, IsFull, with_traces, with_added}
 use Rattle.day_partitions.specs.inner.Trees.{TreeState, leaf_words}
-use Rattle.day_partitions.specs.inner.Slots.{shown, shown_days, place_in_days, IsDayAt, LackRefuted, HasLeaf, AreInSlots, IsSameDay, AreSameDays, HasTraceRoom}
+use Rattle.pipeline_tests.specs.Rows.{LackRefuted}
+use Rattle.day_partitions.specs.inner.Slots.{shown, shown_days, place_in_days, IsDayAt, HasLeaf, AreInSlots, IsSameDay, AreSameDays, HasTraceRoom}
 use Rattle.day_partitions.specs.declared.day.Day.{Day}
 use Rattle.day_partitions.proofs.DayLemmas.{all_with, rising_with, total_with, count_with}
 use Rattle.day_partitions.proofs.ShownLemmas.{kept_at, not_kept}

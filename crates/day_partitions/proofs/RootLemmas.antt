@@ -12,7 +12,7 @@ use Rattle.day_partitions.specs.inner.Nodes.{id_at, IsTree, leaf_rows}
 use Rattle.day_partitions.proofs.LeafLemmas.{get_rows}
 use Rattle.day_partitions.proofs.PlaceLemmas.{id_leaf, id_last}
 
-pub full_bit : (width i b : ℕ) → i < width → b < 64 → bit_of (full width) i b ≡ 1
+full_bit : (width i b : ℕ) → i < width → b < 64 → bit_of (full width) i b ≡ 1
 full_bit width i b h l = ap (λ (n : ℕ). bit_at n b) (get_or-replicate width i 18446744073709551615 0 h) ∙ bit_at_ones 64 b l
 
 -- some number of the list is 0

@@ -8,11 +8,12 @@ use Rattle.std.proofs.lemmas.List.Quantifiers.{all_pairs_remove}
 use Rattle.std.proofs.lemmas.List.Sums.{sum_by-set}
 use Rattle.trace_types.specs.declared.named_trace.NamedTrace.{NamedTrace}
 use Rattle.day_partitions.specs.inner.Trees.{TreeState, tree, IsMissing, IsMetLeaf, leaf_words}
-use Rattle.day_partitions.specs.inner.Slots.{LackRefuted, HasLeaf, AreInSlots}
+use Rattle.pipeline_tests.specs.DayLaws.{CommonLacks}
+use Rattle.pipeline_tests.specs.Rows.{LackRefuted}
+use Rattle.day_partitions.specs.inner.Slots.{HasLeaf, AreInSlots}
 use Rattle.day_partitions.specs.declared.day.Day.{Day}
 use Rattle.day_partitions.proofs.AnyLemmas.{any_head, any_tail, any_left, any_right, any_either, any_cases}
 use Rattle.day_partitions.proofs.DayLemmas.{pairs_nil, pairs_cons, pairs_head, pairs_tail}
-use Rattle.day_partitions.proofs.SurvivorLemmas.{lack_both}
 
 abbrev weight : Option (List ℕ) → ℕ
 weight o = cond (is_some o) 1 0
@@ -98,8 +99,8 @@ leaf_other t slot o w s d ew other h =
     }
 
 -- ---- a day is extended
-pub slots_extended : (t u : TreeState) (ds es : List Day) (k : ℕ) (d now : Day) (ts : List NamedTrace) (words : List ℕ) → AreInSlots t ds → k < length ds → ((e : Day) → d ≡ get_or ds k e) → length words ≡ t.width → LackRefuted ts words → IsMetLeaf t d.slot words u → es ≡ set ds k now → now.slot ≡ d.slot → now.traces.items ≡ d.traces.items ++ ts → AreInSlots u es
-slots_extended t u ds es k d now ts words s within at wide lack met is slot_is traces_are =
+pub slots_extended : CommonLacks → (t u : TreeState) (ds es : List Day) (k : ℕ) (d now : Day) (ts : List NamedTrace) (words : List ℕ) → AreInSlots t ds → k < length ds → ((e : Day) → d ≡ get_or ds k e) → length words ≡ t.width → LackRefuted ts words → IsMetLeaf t d.slot words u → es ≡ set ds k now → now.slot ≡ d.slot → now.traces.items ≡ d.traces.items ++ ts → AreInSlots u es
+slots_extended common t u ds es k d now ts words s within at wide lack met is slot_is traces_are =
     let old : HasLeaf t d = subst (λ x. HasLeaf t x) (sym (at d)) (s.kept k d within) in
     let w = leaf_words u.leaves d.slot in
     let v = tree t.width (set t.leaves d.slot (Some w)) t.spare in
@@ -115,7 +116,7 @@ slots_extended t u ds es k d now ts words s within at wide lack met is slot_is t
       there = ap (λ i. is_some (get_or (set t.leaves d.slot (Some w)) i None)) slot_is ∙ ap is_some (get_or-set_same t.leaves d.slot (Some w) None inside);
       width = ap length leaf ∙ met.met.width ∙ old.width;
       bits = subst (λ ws. LackRefuted now.traces.items ws) (sym leaf) (subst (λ l. LackRefuted l w) (sym traces_are)
-          (lack_both d.traces.items ts (leaf_words t.leaves d.slot) words w (wide ∙ sym old.width) old.bits lack met.met));
+          (common d.traces.items ts (leaf_words t.leaves d.slot) words w old.bits lack (old.width ∙ sym wide) met.met));
     } in
     let done : AreInSlots v (set ds k now) = record {
       leaves = length-set t.leaves d.slot (Some w) ∙ s.leaves;

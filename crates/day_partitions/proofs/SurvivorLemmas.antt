@@ -1,17 +1,18 @@
 -- Which relations the traces of all days leave.
-use Rattle.std.proofs.Common.{◌≡◌, ℕ, ◌<◌, min, ◌⊎◌, inl, inr, List, [], ◌++◌, length, get_or, Option, Some, None, IsSome, unwrap_or, refl, sym, ap, ◌∙◌, subst, arith}
-use Rattle.std.proofs.lemmas.Bool.{cases_eq, false≢true}
+use Rattle.std.proofs.Common.{◌≡◌, ℕ, ◌<◌, List, [], length, get_or, Option, Some, None, IsSome, unwrap_or, refl, ap, ◌∙◌, subst, arith}
+use Rattle.std.proofs.lemmas.Bool.{false≢true}
 use Rattle.std.proofs.lemmas.List.{get_or_default}
 use Rattle.hypothesis_index.specs.Refuting.{IsPlaceOfSome, Refutes}
 use Rattle.hypothesis_index.specs.declared.relation.Relation.{Relation}
 use Rattle.trace_types.specs.declared.named_trace.NamedTrace.{NamedTrace}
 use Rattle.trace_types.specs.Surviving.{IsRefuted}
-use Rattle.word_rows.specs.Words.{IsCommon, bit_of}
+use Rattle.word_rows.specs.Words.{bit_of}
 use Rattle.day_partitions.specs.Books.{all_traces}
 use Rattle.day_partitions.specs.inner.Trees.{TreeState, AreCommon, leaf_bit, leaf_words}
-use Rattle.day_partitions.specs.inner.Slots.{LackRefuted, HasLeaf, AreInSlots, shown_days}
+use Rattle.pipeline_tests.specs.Rows.{LackRefuted}
+use Rattle.day_partitions.specs.inner.Slots.{HasLeaf, AreInSlots, shown_days}
 use Rattle.day_partitions.specs.declared.day.Day.{Day}
-use Rattle.day_partitions.proofs.AnyLemmas.{any_left, any_right, any_either, any_of_days, days_of_any}
+use Rattle.day_partitions.proofs.AnyLemmas.{any_of_days, days_of_any}
 
 -- a place of a relation that the traces refute
 abbrev pub IsRefutedAt : List NamedTrace → ℕ → ℕ → Type 0
@@ -50,22 +51,3 @@ common_lacks t days words s c wide = λ i b h l. (
       let within : d.slot < length t.leaves = omega (arith, s.leaves, kept.slot) in
       (c.bits i b h l).1 (d.slot, o, within, get_or_default t.leaves d.slot o None within, value),
 )
-
-low_bit : (a b : ℕ) → min a b ≡ 0 → (a ≡ 0) ⊎ (b ≡ 0)
-low_bit a b e = elim (cases_eq a 0) [ inl h ↦ inl h | inr h ↦ inr (omega arith) ]
-
--- what two lists of words have in common lacks what either list of traces refutes
-pub lack_both : (ts us : List NamedTrace) (a b c : List ℕ) → length b ≡ length a → LackRefuted ts a → LackRefuted us b → IsCommon a b c → LackRefuted (ts ++ us) c
-lack_both ts us a b c eb ha hb m = λ i n h l.
-    let la : i < length a = omega (arith, m.width) in
-    let lb : i < length b = omega arith in
-    let is : bit_of c i n ≡ min (bit_of a i n) (bit_of b i n) = m.bits i n la l in (
-      λ e. elim (low_bit (bit_of a i n) (bit_of b i n) (sym is ∙ e)) [
-        | inl z ↦ let r = (ha i n la l).0 z in (r.0, r.1, r.2, any_left (Refutes r.0) ts us r.3)
-        | inr z ↦ let r = (hb i n lb l).0 z in (r.0, r.1, r.2, any_right (Refutes r.0) ts us r.3)
-      ],
-      λ r. elim (any_either (Refutes r.0) ts us r.3) [
-        | inl f ↦ let z = (ha i n la l).1 (r.0, r.1, r.2, f) in omega arith
-        | inr f ↦ let z = (hb i n lb l).1 (r.0, r.1, r.2, f) in omega arith
-      ],
-    )

@@ -1,5 +1,5 @@
 -- Sheets of several days that are added to a book at once.
-use Rattle.std.specs.Prelude.{◌≡◌, ℕ, ◌+◌, ◌^◌, ◌<◌, ◌≤◌, not, List, [], ◌∷◌, length, All, AllPairs}
+use Rattle.std.specs.Prelude.{◌≡◌, ℕ, ◌+◌, ◌^◌, ◌<◌, ◌≤◌, false, not, List, [], ◌∷◌, length, All, AllPairs}
 use Rattle.std.specs.Prelude.{count_by, sum_by}
 use Rattle.day_partitions.specs.Books.{BookState, KeptDay, all_traces, has_day, with_added}
 use Rattle.day_partitions.specs.Books.{IsSheetOf}
@@ -26,6 +26,15 @@ pub record AreSheetsFor (b : BookState) (sheets : List DatedSheet) : Type 0 wher
   pub rising : AllPairs (λ (r s : DatedSheet). r.day < s.day) sheets
   pub each : All (λ (s : DatedSheet). IsSheetOf b.names s.day s.sheet) sheets
   pub counted : length (all_traces b.days) + trace_count sheets < 2 ^ 32
+
+-- no sheet is of a day that is kept
+abbrev pub AreNoneKept : List KeptDay → List DatedSheet → Type 0
+AreNoneKept days sheets = All (λ (s : DatedSheet). has_day days s.day ≡ false) sheets
+
+-- no sheet is of a day that is kept, and there is a spare row for each
+pub record AreAllNew (b : BookState) (sheets : List DatedSheet) : Type 0 where
+  pub none_kept : AreNoneKept b.days sheets
+  pub rows : length sheets ≤ b.spare
 
 -- the kept days and the new ones are at most 64 together
 abbrev pub HasRoomFor : BookState → List DatedSheet → Type 0

@@ -1,6 +1,6 @@
 //! What sheets of several days need, before the first of them is added.
-ghost use Rattle.std.specs.Prelude.{◌≡◌, ◌≤◌, length, vec_capacity, All, OnErr, OnOk};
-ghost use Rattle.day_partitions.specs.Batches.{new_days};
+ghost use Rattle.std.specs.Prelude.{◌≡◌, ◌≤◌, length, vec_capacity, IsOk, OnErr, OnOk};
+ghost use Rattle.day_partitions.specs.Batches.{AreNoneKept, new_days};
 ghost use Rattle.day_partitions.specs.Books.{AreRising};
 ghost use Rattle.day_partitions.specs.inner.Slots.{AreSameDays, HasTraceRoom, shown_days};
 ghost use Rattle.day_partitions.specs.inner.Rooms.{HaveTraceRoom};
@@ -33,6 +33,7 @@ fn make_trace_rooms(days: &mut Vec<Day>, sheets: &[DatedSheet]) -> Result<(), Al
     requires { AreRising (shown_days days.old.items) }
     ensures room { OnOk result (HaveTraceRoom days.new.items sheets.now) }
     ensures same { AreSameDays days.old.items days.new.items }
+    ensures sure { AreNoneKept (shown_days days.old.items) sheets.now → IsOk result }
     ensures capacity { vec_capacity days.new ≡ vec_capacity days.old }
 {
     'sheets: for dated in sheets {
@@ -55,6 +56,8 @@ pub(crate) fn make_rooms(
     ensures rows { OnOk result (tree.new ≡ with_spare_rows tree.old new) }
     ensures err { OnErr result (tree.new ≡ tree.old) }
     ensures same { AreSameDays days.old.items days.new.items }
+    ensures sure { AreNoneKept (shown_days days.old.items) sheets.now → new ≤ tree.old.spare
+        → IsOk result }
     ensures capacity { vec_capacity days.new ≡ vec_capacity days.old }
 {
     make_trace_rooms(days, sheets)?;

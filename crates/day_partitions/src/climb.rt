@@ -1,6 +1,7 @@
 //! The path from a leaf of a tree to its root.
 ghost use Rattle.std.specs.Prelude.{◌≡◌, ◌+◌, ◌/◌, ◌<◌, length};
 ghost use Rattle.day_partitions.specs.inner.Nodes.{id_at, AreRows, AreMetBut, ChangesInner};
+ghost use Rattle.day_partitions.specs.inner.Nodes.{IsTreeBut};
 
 use row_pool::{RowId, RowPool, Steps};
 use std::sync::ledger::Ledger;
@@ -31,8 +32,7 @@ pub(crate) fn climb<L: Ledger>(
     steps: &mut Steps<L>,
 )
     requires slot { slot < 64 }
-    requires rows { AreRows pool.old nodes.now leaves.now }
-    requires met { AreMetBut pool.old nodes.now leaves.now ((64 + slot) / 2) }
+    requires tree { IsTreeBut pool.old nodes.now leaves.now ((64 + slot) / 2) }
     ensures rows { AreRows pool.new nodes.now leaves.now }
     ensures met { AreMetBut pool.new nodes.now leaves.now 0 }
     ensures others { ChangesInner pool.old nodes.now leaves.now pool.new }

@@ -3,6 +3,7 @@ ghost use Rattle.std.specs.Option.{option_map};
 ghost use Rattle.word_rows.specs.Words.{AreWords};
 
 use crate::batches::{count_new, make_rooms};
+use crate::counting::count_traces;
 use crate::day::Day;
 use crate::dropping::{drop_at, drop_oldest};
 use crate::finding::{find_place, is_day_at, is_full};
@@ -10,9 +11,10 @@ use crate::placing::take_in;
 use crate::room::make_room;
 use crate::tree::Tree;
 use crate::{AddAllFault, BookFault, DatedSheet};
-use hypothesis_index::laws::{pairs_follow, places_fit};
+use hypothesis_index::laws::pairs_follow;
 use hypothesis_index::width;
 use pipeline_tests::DaySheet;
+use pipeline_tests::laws::widened_lacks;
 use row_pool::Steps;
 use std::alloc::{AllocError, Global};
 use std::marker::{Brand, Model};
@@ -54,7 +56,7 @@ impl DayBook {
     ghost use Rattle.std.specs.Option.{option_map};
     ghost use Rattle.hypothesis_index.specs.Places.{width_of};
     ghost use Rattle.refute_tests.specs.Survivors.{AreSurvivors};
-    ghost use Rattle.day_partitions.specs.Batches.{with_all, AreSheetsFor, HasRoomFor};
+    ghost use Rattle.day_partitions.specs.Batches.{with_all, AreAllNew, AreSheetsFor, HasRoomFor};
     ghost use Rattle.day_partitions.specs.Batches.{IsBatchFault};
     ghost use Rattle.day_partitions.specs.Books.{all_traces, book, has_day, with_added, IsBook};
     ghost use Rattle.day_partitions.specs.Books.{newest, traces_of, with_fewer, without_day};
@@ -87,6 +89,22 @@ impl DayBook {
         ensures kept { IsBook self.now }
     {
         self.days.len() as u32
+    }
+
+    /// How many names the words have room for.
+    pub fn names(&self) -> u32
+        ensures names { result ≡ self.now.names }
+        ensures kept { IsBook self.now }
+    {
+        self.names
+    }
+
+    /// How many traces are kept.
+    pub fn trace_count(&self) -> u32
+        ensures count { result ≡ length (all_traces self.now.days) }
+        ensures kept { IsBook self.now }
+    {
+        count_traces(&self.days) as u32
     }
 
     /// The day at a place, in days of 86,400 seconds since 1970. The days rise.
@@ -237,6 +255,7 @@ impl DayBook {
         requires { length self.old.days + days ≤ 64 }
         ensures ok { OnOk result (self.new ≡ with_spare_days self.old days) }
         ensures err { OnErr result (self.new ≡ self.old) }
+        ensures sure { days ≤ self.old.spare → IsOk result }
     {
         self.tree.reserve(days)
     }
@@ -250,7 +269,7 @@ impl DayBook {
         ensures err { OnErr result (self.new ≡ self.old) }
     {
         pairs_follow();
-        places_fit();
+        widened_lacks();
         self.tree.widen(width(names))?;
         self.names = names;
         Ok(())
@@ -264,6 +283,9 @@ impl DayBook {
         ensures fits { OnOk result (HasRoomFor self.old sheets.items) }
         ensures fault { IfErr result (IsBatchFault self.old sheets.items) }
         ensures unchanged { OnErr result (self.new ≡ self.old) }
+
+        // A spare row for each sheet is all that new days need.
+        ensures sure { AreAllNew self.old sheets.items → IsOk result }
     {
         self.add_all_from::<Brand>(sheets, Blank::new(1))
     }
@@ -281,6 +303,7 @@ impl DayBook {
         ensures fits { OnOk result (HasRoomFor self.old sheets.items) }
         ensures fault { IfErr result (IsBatchFault self.old sheets.items) }
         ensures unchanged { OnErr result (self.new ≡ self.old) }
+        ensures sure { AreAllNew self.old sheets.items → IsOk result }
     {
         let new = count_new(&self.days, &sheets);
         let days = self.days.len() + new;

@@ -7,6 +7,7 @@ mod add_all_fault;
 mod batches;
 mod book_fault;
 mod climb;
+mod counting;
 mod dated_sheet;
 mod day;
 mod day_book;

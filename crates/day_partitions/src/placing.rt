@@ -9,6 +9,7 @@ use crate::day::Day;
 use crate::finding::{find_place, is_day_at};
 use crate::tree::Tree;
 use pipeline_tests::DaySheet;
+use pipeline_tests::laws::common_lacks;
 use row_pool::Steps;
 use std::sync::ledger::Ledger;
 
@@ -32,6 +33,7 @@ fn extend<L: Ledger>(
     ensures capacity { vec_capacity days.new ≡ vec_capacity days.old }
     ensures steps { steps.new ≡ steps.old + 7 }
 {
+    common_lacks();
     let day = &mut days[place];
     tree.meet(day.slot, sheet.words().words(), steps);
     let mut traces = sheet.into_traces();

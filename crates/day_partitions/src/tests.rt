@@ -294,6 +294,7 @@ fn widen_adds_full_words_and_a_drop_brings_relations_back(rt: HostRuntime) -> Re
     assert_eq!(rt; book.words().len(), 127);
     book.widen(7)?;
     assert_eq!(rt; book.words().len(), 128);
+    assert_eq!(rt; (book.names(), book.trace_count()), (7, 2));
     assert_eq!(rt; book.words().get(126).copied(), Some(0xffff_ffff_ffff_fff5));
     assert_eq!(rt; book.words().get(127).copied(), Some(FULL));
     assert_eq!(rt; drop_one(&mut book, 0), 1);

@@ -1,5 +1,5 @@
 ghost use Rattle.std.specs.Prelude.{◌≡◌, ◌≢◌, ◌+◌, ◌-◌, ◌<◌, ◌≤◌, length, IfOk, None, Some};
-ghost use Rattle.std.specs.Prelude.{replicate, slice_set, count_by, is_some, OnOk, OnErr};
+ghost use Rattle.std.specs.Prelude.{replicate, slice_set, count_by, is_some, IsOk, OnOk, OnErr};
 ghost use Rattle.day_partitions.specs.inner.Trees.{AreCommon, IsMetLeaf, tree, widened_tree};
 ghost use Rattle.day_partitions.specs.inner.Trees.{with_spare_rows, IsMissing, IsThere};
 
@@ -132,6 +132,7 @@ impl Tree {
         requires { rows ≤ 64 }
         ensures ok { OnOk result (self.new ≡ with_spare_rows self.old rows) }
         ensures err { OnErr result (self.new ≡ self.old) }
+        ensures sure { rows ≤ self.old.spare → IsOk result }
     {
         self.pool.reserve(rows)
     }

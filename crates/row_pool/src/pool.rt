@@ -1,5 +1,5 @@
 ghost use Rattle.std.specs.Prelude.{◌≡◌, ◌≢◌, ◌+◌, ◌^◌, ◌<◌, ◌≤◌, ◌↔◌, length, None, IfSome};
-ghost use Rattle.std.specs.Prelude.{IfNone, IsNone, OnOk, OnErr};
+ghost use Rattle.std.specs.Prelude.{IfNone, IsNone, IsOk, OnOk, OnErr};
 ghost use Rattle.std.specs.FinMap as map;
 ghost use Rattle.word_rows.specs.Words.{full_words as full};
 ghost use Rattle.row_pool.specs.Pools.{pool, IsLive, IsMet, IsWider, row_at, with_row, with_spare};
@@ -57,6 +57,7 @@ impl RowPool {
         requires { map.len self.old.rows + n < 2 ^ 32 }
         ensures ok { OnOk result (self.new ≡ with_spare self.old n) }
         ensures err { OnErr result (self.new ≡ self.old) }
+        ensures sure { n ≤ self.old.spare → IsOk result }
     {
         if n <= self.spare {
             return Ok(());

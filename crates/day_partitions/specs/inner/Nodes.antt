@@ -40,6 +40,11 @@ AreMetBut p nodes leaves k =
     → IsCommon (row_at p (id_at nodes leaves (2 * m))) (row_at p (id_at nodes leaves (2 * m + 1)))
     (row_at p (id_at nodes leaves m))
 
+-- the ids have their rows, and each inner row but k is the meet of the two below it
+pub record IsTreeBut (p : Pool) (nodes : List ℕ) (leaves : List (Option ℕ)) (k : ℕ) : Type 0 where
+  pub rows : AreRows p nodes leaves
+  pub met : AreMetBut p nodes leaves k
+
 -- no row but inner ones has changed
 pub record ChangesInner (p : Pool) (nodes : List ℕ) (leaves : List (Option ℕ)) (q : Pool)
     : Type 0 where

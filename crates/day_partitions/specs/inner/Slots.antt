@@ -1,23 +1,13 @@
 -- How the days of a book stand in the leaves of its tree.
-use Rattle.std.specs.Prelude.{◌≡◌, ◌≢◌, ℕ, ◌<◌, ◌≤◌, ◌↔◌, List, length, get_or, map, None, Some}
+use Rattle.std.specs.Prelude.{◌≡◌, ◌≢◌, ℕ, ◌<◌, ◌≤◌, List, length, get_or, map, None, Some}
 use Rattle.std.specs.Prelude.{is_some, count_by, All, AllPairs, Any, Contains, false, insert}
 use Rattle.std.specs.Prelude.{slice_set, vec_capacity, ◌+◌, ◌++◌, ◌⊎◌, nat_lt}
 use Rattle.std.specs.List.{prefix_len}
-use Rattle.hypothesis_index.specs.Refuting.{IsPlaceOfSome, Refutes}
-use Rattle.hypothesis_index.specs.declared.relation.Relation.{Relation}
+use Rattle.pipeline_tests.specs.Rows.{LackRefuted}
 use Rattle.trace_types.specs.declared.named_trace.NamedTrace.{NamedTrace}
-use Rattle.trace_types.specs.Surviving.{IsRefuted}
-use Rattle.word_rows.specs.Words.{bit_of}
 use Rattle.day_partitions.specs.Books.{KeptDay, kept_day, has_day}
 use Rattle.day_partitions.specs.inner.Trees.{TreeState, IsThere, leaf_words}
 use Rattle.day_partitions.specs.declared.day.Day.{Day}
-
--- a bit of these words is 0 exactly where it is the place of a relation that some of the traces
--- refutes
-abbrev pub LackRefuted : List NamedTrace → List ℕ → Type 0
-LackRefuted traces words =
-    (i b : ℕ) → i < length words → b < 64 → (bit_of words i b ≡ 0)
-    ↔ IsPlaceOfSome (λ (r : Relation). IsRefuted (Refutes r) traces) i b
 
 -- the day has a leaf, whose words lack what its traces refute
 pub record HasLeaf (t : TreeState) (d : Day) : Type 0 where

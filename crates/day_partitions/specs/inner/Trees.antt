@@ -15,7 +15,7 @@ pub record TreeState : Type 0 where
 abbrev pub tree : ℕ → List (Option (List ℕ)) → ℕ → TreeState
 tree width leaves spare = record { width = width; leaves = leaves; spare = spare }
 
--- this bit of the words of a leaf: 1 where the leaf is missing
+-- a bit of the words of a leaf; a missing leaf stands for full words, so its bits are 1
 abbrev pub leaf_bit : ℕ → ℕ → Option (List ℕ) → ℕ
 leaf_bit i b None = 1
 leaf_bit i b (Some words) = bit_of words i b

@@ -1,10 +1,11 @@
-use Rattle.std.proofs.Common.{◌∙◌, sym, subst, length, take}
+use Rattle.std.proofs.Common.{◌≡◌, ◌∙◌, false, sym, ap, subst, length, take, IsOk}
+use Rattle.std.proofs.lemmas.Bool.{false≢true}
 use Rattle.std.proofs.lemmas.List.{get_or_read, take_all}
 use Rattle.std.proofs.lemmas.List.Elements.{All-more, All-weaker}
-use Rattle.day_partitions.specs.Books.{AreRising}
+use Rattle.day_partitions.specs.Books.{AreRising, has_day}
 use Rattle.day_partitions.specs.declared.dated_sheet.DatedSheet.{DatedSheet}
 use Rattle.day_partitions.specs.inner.Rooms.{HaveTraceRoom}
-use Rattle.day_partitions.specs.inner.Slots.{HasTraceRoom}
+use Rattle.day_partitions.specs.inner.Slots.{HasTraceRoom, shown_days}
 use Rattle.day_partitions.proofs.BatchLemmas.{room_stays, same_days_more}
 use Rattle.day_partitions.proofs.RoomLemmas.{same_shown}
 use Rattle.day_partitions.proofs.batches.make_trace_rooms.Goals as goal
@@ -30,3 +31,10 @@ sheets-preserved c =
 
 pub returns-clause-room : goal.returns-clause-room
 returns-clause-room c = subst (λ l. HaveTraceRoom c.sheets.days.items l) (take_all c.sheets.dated-index c.args.sheets.now c.sheets-test.false) c.sheets.invariant.room
+
+pub returns-in_err-make_trace_room-clause-sure : goal.returns-in_err-make_trace_room-clause-sure
+returns-in_err-make_trace_room-clause-sure c = λ none.
+    let ds = c.args.days.now.items in let ss = c.args.sheets.now in let k = c.sheets.dated-index in let s = c.dated-item.result in
+    let here : has_day (shown_days c.sheets.days.items) s.day ≡ false =
+    ap (λ l. has_day l s.day) (same_shown _ _ c.sheets.invariant.same) ∙ ap (λ (x : DatedSheet). has_day (shown_days ds) x.day) (get_or_read ss k s c.sheets-test.true c.dated-item.is s) ∙ none k s c.sheets-test.true in
+    absurd (false≢true (subst (λ r. IsOk r) c.in_err-make_trace_room.was (c.make_trace_room.ensures.sure here)))

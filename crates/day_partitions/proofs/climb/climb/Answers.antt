@@ -8,8 +8,8 @@ use Rattle.day_partitions.proofs.climb.climb.Goals as goal
 pub levels-init : goal.levels-init
 levels-init g c =
     record {
-      rows = c.requires.rows;
-      met = c.requires.met;
+      rows = c.requires.tree.rows;
+      met = c.requires.tree.met;
       others = changes_none _ _ _;
       low = omega arith;
       high = omega arith;

@@ -2,7 +2,7 @@ use Rattle.std.proofs.Common.{◌∙◌, ◌++◌, sym, ap, subst, refl, length}
 use Rattle.std.proofs.lemmas.List.{get_or_read}
 use Rattle.day_partitions.specs.declared.day.Day.{Day}
 use Rattle.day_partitions.proofs.SlotLemmas.{slots_extended}
-use Rattle.day_partitions.specs.inner.Slots.{LackRefuted}
+use Rattle.pipeline_tests.specs.Rows.{LackRefuted}
 use Rattle.day_partitions.proofs.placing.extend.Goals as goal
 
 pub returns-clause-slots : goal.returns-clause-slots
@@ -11,7 +11,7 @@ returns-clause-slots g c =
     let ds = c.args.days.now.items in
     let words = c.words-2.ensures.same ∙ c.words.ensures.same in
     let lacks = subst (λ w. LackRefuted c.args.sheet.traces w) (sym words) c.words.ensures.survivors.bits in
-    slots_extended c.args.tree.now c.meet.new.self ds _ c.args.place d _ c.args.sheet.traces c.words-2.result.now c.requires.slots c.requires.place (λ e. get_or_read ds c.args.place d c.requires.place c.index_mut-day.ensures.value e) (ap length words ∙ c.requires.width) lacks c.meet.ensures.met refl refl (c.in-Ok.ensures.items ∙ ap (λ l. d.traces.items ++ l) c.into_traces-traces.ensures)
+    slots_extended c.common_lacks.ensures c.args.tree.now c.meet.new.self ds _ c.args.place d _ c.args.sheet.traces c.words-2.result.now c.requires.slots c.requires.place (λ e. get_or_read ds c.args.place d c.requires.place c.index_mut-day.ensures.value e) (ap length words ∙ c.requires.width) lacks c.meet.ensures.met refl refl (c.in-Ok.ensures.items ∙ ap (λ l. d.traces.items ++ l) c.into_traces-traces.ensures)
 
 pub returns-clause-extended : goal.returns-clause-extended
 returns-clause-extended g c =

@@ -1,6 +1,6 @@
 use Rattle.std.proofs.Common.{◌∙◌, sym, ap, subst, length}
 use Rattle.day_partitions.proofs.SlotLemmas.{slots_inserted}
-use Rattle.day_partitions.specs.inner.Slots.{LackRefuted}
+use Rattle.pipeline_tests.specs.Rows.{LackRefuted}
 use Rattle.day_partitions.proofs.placing.open.Goals as goal
 
 pub returns-clause-slots : goal.returns-clause-slots

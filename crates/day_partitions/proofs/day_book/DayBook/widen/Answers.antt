@@ -14,7 +14,7 @@ invariant_of-self-2 c =
     let sum : a.tree.width + (c.width.result - a.tree.width) ≡ c.width.result = omega (arith, grows, i.width, c.width.ensures) in
     record {
       width = ap (λ (t : TreeState). t.width) c.in_ok-widen.ensures.ok ∙ c.width.ensures;
-      slots = slots_widened c.places_fit.ensures a.names c.width.result (c.width.result - a.tree.width) a.tree c.widen.new.self a.days.items i.kept.names i.width sum i.kept.named c.in_ok-widen.ensures.ok i.slots;
+      slots = slots_widened c.widened_lacks.ensures a.names c.width.result (c.width.result - a.tree.width) a.tree c.widen.new.self a.days.items i.kept.names i.width sum i.kept.named c.in_ok-widen.ensures.ok i.slots;
       kept = subst (λ s. IsBook (book (shown_days a.days.items) c.args.names s)) (sym (ap (λ (t : TreeState). t.spare) c.in_ok-widen.ensures.ok)) (book_widened (book_of a) c.args.names more c.requires.most i.kept);
       capacity = i.capacity;
     }

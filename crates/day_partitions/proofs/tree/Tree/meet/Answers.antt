@@ -42,8 +42,8 @@ meet_into-requires-clause-apart g c =
       λ e. r.apart 128 0 (omega arith) (omega arith) mine (λ s. omega arith) (sym second ∙ e ∙ first),
     )
 
-pub climb-requires-clause-rows : goal.climb-requires-clause-rows
-climb-requires-clause-rows g c =
+pub climb-requires-clause-tree : goal.climb-requires-clause-tree
+climb-requires-clause-tree g c =
     let a = c.self.inside in let r = c.self.invariant.rows in
     let below = leaf_within a.pool a.nodes.items a.leaves.items c.args.self.now c.args.slot c.self.invariant c.self.view_is c.requires.slot in
     let there : get_or a.leaves.items c.args.slot None ≡ Some c.in-Some.leaf = get_or_default a.leaves.items c.args.slot None c.index_mut.result.now (omega (arith, below, r.all_leaves)) ∙ sym c.index_mut.ensures.value ∙ sym c.in-Some.ensures.value in
@@ -54,21 +54,7 @@ climb-requires-clause-rows g c =
     let ids = c.deref.ensures.value ∙ ap (set a.nodes.items 64) c.replace-met.ensures.after in
     let leaves = c.deref-2.ensures.value ∙ set-set a.leaves.items c.args.slot _ _ ∙ ap (λ i. set a.leaves.items c.args.slot (Some i)) moved in
     let h = met_is a.pool a.nodes.items a.leaves.items c.args.slot c.in-Some.leaf c.args.words.now c.self.invariant below there (c.requires.width ∙ sym (ap (λ t. t.width) c.self.view_is)) c.write.new.self c.meet_into.new.self _ _ _ c.deref.result.now c.deref-2.result.now first c.write.ensures second again c.meet_into.ensures.others c.meet_into.ensures.met ids leaves in
-    h.1.rows
-
-pub climb-requires-clause-met : goal.climb-requires-clause-met
-climb-requires-clause-met g c =
-    let a = c.self.inside in let r = c.self.invariant.rows in
-    let below = leaf_within a.pool a.nodes.items a.leaves.items c.args.self.now c.args.slot c.self.invariant c.self.view_is c.requires.slot in
-    let there : get_or a.leaves.items c.args.slot None ≡ Some c.in-Some.leaf = get_or_default a.leaves.items c.args.slot None c.index_mut.result.now (omega (arith, below, r.all_leaves)) ∙ sym c.index_mut.ensures.value ∙ sym c.in-Some.ensures.value in
-    let first = get_or_read a.nodes.items 0 _ (omega (arith, r.all_nodes)) c.index.ensures 0 in
-    let again = get_or_read a.nodes.items 0 _ (omega (arith, r.all_nodes)) c.index-3.ensures 0 in
-    let second = get_or_read a.nodes.items 64 _ (omega (arith, r.all_nodes)) c.index-2.ensures 0 in
-    let moved = c.replace-met.ensures.value ∙ get_or_read a.nodes.items 64 _ (omega (arith, r.all_nodes)) c.index_mut-2.ensures.value 0 in
-    let ids = c.deref.ensures.value ∙ ap (set a.nodes.items 64) c.replace-met.ensures.after in
-    let leaves = c.deref-2.ensures.value ∙ set-set a.leaves.items c.args.slot _ _ ∙ ap (λ i. set a.leaves.items c.args.slot (Some i)) moved in
-    let h = met_is a.pool a.nodes.items a.leaves.items c.args.slot c.in-Some.leaf c.args.words.now c.self.invariant below there (c.requires.width ∙ sym (ap (λ t. t.width) c.self.view_is)) c.write.new.self c.meet_into.new.self _ _ _ c.deref.result.now c.deref-2.result.now first c.write.ensures second again c.meet_into.ensures.others c.meet_into.ensures.met ids leaves in
-    h.1.met
+    record { rows = h.1.rows; met = h.1.met }
 
 pub returns-clause-met : goal.returns-clause-met
 returns-clause-met g c =

@@ -1,7 +1,7 @@
 use Rattle.std.proofs.Common.{◌≡◌, ◌∙◌, ◌+◌, ◌/◌, sym, ap, subst, get_or, Some, None, arith, set}
 use Rattle.std.proofs.lemmas.List.{get_or_default}
 use Rattle.row_pool.specs.Pools.{IsLive}
-use Rattle.day_partitions.specs.inner.Nodes.{AreRows, AreMetBut, ChangesInner, tree_of}
+use Rattle.day_partitions.specs.inner.Nodes.{ChangesInner, IsTreeBut, tree_of}
 use Rattle.day_partitions.proofs.LeafLemmas.{id_there}
 use Rattle.day_partitions.proofs.TreeLemmas.{leaf_within, removed_is, view_is}
 use Rattle.day_partitions.proofs.tree.Tree.remove.Goals as goal
@@ -13,23 +13,14 @@ give_back-requires g c =
     let there : get_or a.leaves.items c.args.slot None ≡ Some c.in-Some.leaf = get_or_default a.leaves.items c.args.slot None c.index_mut.result.now (omega (arith, below, c.self.invariant.rows.all_leaves)) ∙ sym c.index_mut.ensures.value ∙ sym c.in-Some.ensures.value in
     subst (λ i. IsLive a.pool i) (id_there a.nodes.items a.leaves.items c.args.slot c.in-Some.leaf below there) (c.self.invariant.rows.live _ (omega (arith, below)))
 
-pub climb-requires-clause-rows : goal.climb-requires-clause-rows
-climb-requires-clause-rows g c =
+pub climb-requires-clause-tree : goal.climb-requires-clause-tree
+climb-requires-clause-tree g c =
     let a = c.self.inside in
     let below = leaf_within a.pool a.nodes.items a.leaves.items c.args.self.now c.args.slot c.self.invariant c.self.view_is c.requires.slot in
     let there : get_or a.leaves.items c.args.slot None ≡ Some c.in-Some.leaf = get_or_default a.leaves.items c.args.slot None c.index_mut.result.now (omega (arith, below, c.self.invariant.rows.all_leaves)) ∙ sym c.index_mut.ensures.value ∙ sym c.in-Some.ensures.value in
     let now = c.deref-2.ensures.value ∙ ap (set a.leaves.items c.args.slot) c.take.ensures.after in
     let h = removed_is a.pool c.give_back.new.self a.nodes.items a.leaves.items c.deref-2.result.now c.args.slot c.self.invariant below c.in-Some.leaf there c.give_back.ensures now in
-    subst (λ l. AreRows c.give_back.new.self l c.deref-2.result.now) (sym c.deref.ensures.value) h.rows
-
-pub climb-requires-clause-met : goal.climb-requires-clause-met
-climb-requires-clause-met g c =
-    let a = c.self.inside in
-    let below = leaf_within a.pool a.nodes.items a.leaves.items c.args.self.now c.args.slot c.self.invariant c.self.view_is c.requires.slot in
-    let there : get_or a.leaves.items c.args.slot None ≡ Some c.in-Some.leaf = get_or_default a.leaves.items c.args.slot None c.index_mut.result.now (omega (arith, below, c.self.invariant.rows.all_leaves)) ∙ sym c.index_mut.ensures.value ∙ sym c.in-Some.ensures.value in
-    let now = c.deref-2.ensures.value ∙ ap (set a.leaves.items c.args.slot) c.take.ensures.after in
-    let h = removed_is a.pool c.give_back.new.self a.nodes.items a.leaves.items c.deref-2.result.now c.args.slot c.self.invariant below c.in-Some.leaf there c.give_back.ensures now in
-    subst (λ l. AreMetBut c.give_back.new.self l c.deref-2.result.now ((64 + c.args.slot) / 2)) (sym c.deref.ensures.value) h.met
+    subst (λ l. IsTreeBut c.give_back.new.self l c.deref-2.result.now ((64 + c.args.slot) / 2)) (sym c.deref.ensures.value) (record { rows = h.rows; met = h.met })
 
 pub returns-clause-removed : goal.returns-clause-removed
 returns-clause-removed g c =
