@@ -1,0 +1,4 @@
+mod DayLemmas
+mod JudgeLemmas
+mod NameLemmas
+mod RecordLemmas

@@ -1,0 +1,4 @@
+pub mod Named
+pub mod Recorded
+pub mod Splitting
+pub mod inner

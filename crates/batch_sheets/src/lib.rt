@@ -1,0 +1,13 @@
+//! A batch of events as sheets of days: its traces are cut, named by a catalogue, split by day, and
+//! recorded day by day by many workers.
+#![tactic(auto)]
+
+mod days;
+mod judging;
+mod naming;
+mod recording;
+
+pub use days::{DayTraces, list_days, split_by_day};
+pub use judging::{JudgedTraces, judge_batch};
+pub use naming::name_all;
+pub use recording::{DayLines, RecordedDays, record_days};

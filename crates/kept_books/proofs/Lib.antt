@@ -1,0 +1,6 @@
+mod BookLemmas
+mod GrownLemmas
+mod LawLemmas
+mod SheetLemmas
+mod TakenLemmas
+mod ZipLemmas

@@ -1,0 +1,72 @@
+-- How many relations the traces of a list refute, whatever their names are. Each relation is a
+-- hypothesis; exclusive, apart and unshared count once for their pair.
+use Rattle.std.specs.Prelude.{◌≡◌, ◌≢◌, ◌⊎◌, ℕ, ◌≤◌, List, length}
+use Rattle.std.specs.List.{All, AllPairs}
+use Rattle.trace_types.specs.Parts.{Parts}
+use Rattle.trace_types.specs.Pipelines.{RefutesPipe, RefutesUnshared}
+use Rattle.trace_types.specs.Refuting.{RefutesBefore, RefutesExclusive, RefutesApart}
+use Rattle.trace_types.specs.Surviving.{IsRefuted}
+
+-- a relation of two names, or of two tasks
+pub data Hypothesis (N T : Type 0) : Type 0 where
+  Before : N → N → Hypothesis N T
+  Exclusive : N → N → Hypothesis N T
+  Apart : N → N → Hypothesis N T
+  Pipe : T → T → Hypothesis N T
+  Unshared : T → T → Hypothesis N T
+
+-- the pair is this one, in one order or the other
+abbrev pub IsSamePair : {X : Type 0} → X → X → X → X → Type 0
+IsSamePair a b c d = ((a ≡ c) × (b ≡ d)) ⊎ ((a ≡ d) × (b ≡ c))
+
+-- two hypotheses are one
+abbrev pub IsSame : {N T : Type 0} → Hypothesis N T → Hypothesis N T → Type 0
+IsSame (Before a b) (Before c d) = (a ≡ c) × (b ≡ d)
+IsSame (Before a b) (Exclusive c d) = ⊥
+IsSame (Before a b) (Apart c d) = ⊥
+IsSame (Before a b) (Pipe c d) = ⊥
+IsSame (Before a b) (Unshared c d) = ⊥
+IsSame (Exclusive a b) (Before c d) = ⊥
+IsSame (Exclusive a b) (Exclusive c d) = IsSamePair a b c d
+IsSame (Exclusive a b) (Apart c d) = ⊥
+IsSame (Exclusive a b) (Pipe c d) = ⊥
+IsSame (Exclusive a b) (Unshared c d) = ⊥
+IsSame (Apart a b) (Before c d) = ⊥
+IsSame (Apart a b) (Exclusive c d) = ⊥
+IsSame (Apart a b) (Apart c d) = IsSamePair a b c d
+IsSame (Apart a b) (Pipe c d) = ⊥
+IsSame (Apart a b) (Unshared c d) = ⊥
+IsSame (Pipe a b) (Before c d) = ⊥
+IsSame (Pipe a b) (Exclusive c d) = ⊥
+IsSame (Pipe a b) (Apart c d) = ⊥
+IsSame (Pipe a b) (Pipe c d) = (a ≡ c) × (b ≡ d)
+IsSame (Pipe a b) (Unshared c d) = ⊥
+IsSame (Unshared a b) (Before c d) = ⊥
+IsSame (Unshared a b) (Exclusive c d) = ⊥
+IsSame (Unshared a b) (Apart c d) = ⊥
+IsSame (Unshared a b) (Pipe c d) = ⊥
+IsSame (Unshared a b) (Unshared c d) = IsSamePair a b c d
+
+module _ {A S N T E : Type 0} (p : Parts A S N T E) where
+  -- the trace refutes the hypothesis, which is one on two different names or tasks
+  abbrev pub Refutes : Hypothesis N T → A → Type 0
+  Refutes (Before a b) trace = (a ≢ b) × RefutesBefore p a b trace
+  Refutes (Exclusive a b) trace = (a ≢ b) × RefutesExclusive p a b trace
+  Refutes (Apart a b) trace = (a ≢ b) × RefutesApart p a b trace
+  Refutes (Pipe t u) trace = (t ≢ u) × RefutesPipe p t u trace
+  Refutes (Unshared t u) trace = (t ≢ u) × RefutesUnshared p t u trace
+
+  -- different hypotheses, each of which some trace of the list refutes
+  pub record AreRefuted (traces : List A) (hypotheses : List (Hypothesis N T)) : Type 0 where
+    pub differ : AllPairs (λ h i. IsSame h i → ⊥) hypotheses
+    pub refuted : All (λ h. IsRefuted (Refutes h) traces) hypotheses
+
+  -- the number is at least that of the hypotheses that some trace of the list refutes
+  abbrev pub IsAtLeastRefuted : List A → ℕ → Type 0
+  IsAtLeastRefuted traces n = (hypotheses : List (Hypothesis N T)) → AreRefuted traces hypotheses
+      → length hypotheses ≤ n
+
+  -- the number is at most that of the hypotheses that some trace of the list refutes
+  abbrev pub IsAtMostRefuted : List A → ℕ → Type 0
+  IsAtMostRefuted traces n = (hypotheses : List (Hypothesis N T)) × AreRefuted traces hypotheses
+      × (n ≤ length hypotheses)

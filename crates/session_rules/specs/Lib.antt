@@ -1,0 +1,9 @@
+pub mod Batches
+pub mod Hypotheses
+pub mod Jobs
+pub mod KeptTraces
+pub mod ModelTexts
+pub mod Parts
+pub mod Sessions
+pub mod TraceTexts
+pub mod WatchLines

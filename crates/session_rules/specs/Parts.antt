@@ -1,0 +1,67 @@
+-- The parts of a session's text. What a part is told over stands in it; its text is a relation.
+use Rattle.std.specs.Prelude.{◌≡◌, ℕ, List, [], ◌∷◌, codes, decimal}
+use Rattle.std.specs.List.{flat_map}
+use Rattle.segment_cut.specs.Faults.{fault_reason, fault_number}
+use Rattle.text_rows.specs.Rows.{figure, row_of}
+use Rattle.trace_pass.specs.declared.watch_lines.WatchLine.{WatchLine}
+use Rattle.session_rules.specs.declared.refused.Refused.{Refused}
+use Rattle.session_rules.specs.KeptTraces.{Kept}
+use Rattle.session_rules.specs.ModelTexts.{IsModelText}
+use Rattle.session_rules.specs.TraceTexts.{IsGraphText, IsPathText, IsSlackText}
+use Rattle.session_rules.specs.WatchLines.{AreWatchLines}
+
+-- a part of a text
+pub data Part : Type 0 where
+  -- the refused traces of a batch
+  Refusals : List Refused → Part
+  -- the watch lines of the traces of one day of a batch: every so many, so many workers, the day
+  Watched : ℕ → ℕ → ℕ → List Kept → Part
+  -- a day was dropped, or all but the newest so many days: how many traces
+  Dropped : ℕ → ℕ → Part
+  KeptNewest : ℕ → ℕ → Part
+  -- the model of the kept traces
+  ModelOf : List Kept → Part
+  -- a word and the number of the kept traces
+  Header : List ℕ → ℕ → Part
+  -- of one of the kept traces: its critical path, its slacks, its graph
+  PathOf : List Kept → Kept → Part
+  SlacksOf : List Kept → Kept → Part
+  GraphOf : List Kept → Kept → Part
+
+-- `refused`, the request, the reason and its number
+abbrev pub refused_row : Refused → List ℕ
+refused_row refused =
+    row_of (codes "refused" ∷ refused.request ∷ fault_reason refused.fault
+    ∷ decimal (fault_number refused.fault) ∷ [])
+
+-- `watch`, the day, the worker, how many of its traces it had offered, and the watch number
+abbrev pub watch_row : ℕ → WatchLine → List ℕ
+watch_row day line =
+    row_of (codes "watch" ∷ decimal day ∷ decimal line.worker ∷ decimal line.done
+    ∷ decimal line.refuted ∷ [])
+
+-- a word and two numbers
+abbrev pub count_row : List ℕ → ℕ → ℕ → List ℕ
+count_row word number count = row_of (word ∷ decimal number ∷ decimal count ∷ [])
+
+-- a word and a number of traces
+abbrev pub traces_row : List ℕ → ℕ → List ℕ
+traces_row word count = row_of (word ∷ figure (codes "traces") count ∷ [])
+
+-- the bytes are watch rows of the traces
+pub record AreWatchRows (every workers day : ℕ) (traces : List Kept) (bytes : List ℕ) : Type 0 where
+  pub lines : List WatchLine
+  pub are : AreWatchLines every workers traces lines
+  pub text : bytes ≡ flat_map (watch_row day) lines
+
+-- the bytes are a text of the part
+abbrev pub IsPart : Part → List ℕ → Type 0
+IsPart (Refusals refused) bytes = bytes ≡ flat_map refused_row refused
+IsPart (Watched every workers day traces) bytes = AreWatchRows every workers day traces bytes
+IsPart (Dropped day count) bytes = bytes ≡ count_row (codes "drop") day count
+IsPart (KeptNewest days count) bytes = bytes ≡ count_row (codes "keep") days count
+IsPart (ModelOf kept) bytes = IsModelText kept bytes
+IsPart (Header word count) bytes = bytes ≡ traces_row word count
+IsPart (PathOf kept k) bytes = IsPathText kept k bytes
+IsPart (SlacksOf kept k) bytes = IsSlackText kept k bytes
+IsPart (GraphOf kept k) bytes = IsGraphText kept k bytes

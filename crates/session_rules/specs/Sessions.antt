@@ -1,0 +1,137 @@
+-- What each job does to the state of a session, and which parts it prints.
+use Rattle.std.specs.Prelude.{◌≡◌, ℕ, ◌+◌, ◌*◌, ◌<◌, ◌≤◌, List, [], ◌∷◌, ◌++◌, length, map, filter, codes}
+use Rattle.std.specs.Ordering.{nat_cmp}
+use Rattle.std.specs.Prelude.{Contains}
+use Rattle.event_lines.specs.declared.command.Command.{Command}
+use Rattle.event_lines.specs.declared.command.Command.TheVariants as commands
+use Rattle.segment_names.specs.Known.{Known, with_traces}
+use Rattle.segment_names.specs.Limits.{PassesLimit}
+use Rattle.segment_names.specs.declared.name_fault.NameFault.{NameFault}
+use Rattle.segment_names.specs.declared.name_fault.NameFault.TheVariants.{TooManyNames, TooManyTasks}
+use Rattle.trace_types.specs.declared.event.Event.{Event}
+use Rattle.trace_types.specs.declared.trace.Trace.{Trace}
+use Rattle.trace_types.specs.Batch.{traces_of}
+use Rattle.trace_types.specs.Listing.{ListsExactly}
+use Rattle.session_rules.specs.declared.job.Job.{Job}
+use Rattle.session_rules.specs.declared.job.Job.TheVariants.{Add, Control}
+use Rattle.session_rules.specs.declared.limit.Limit.{Limit}
+use Rattle.session_rules.specs.declared.limit.Limit.TheVariants.{Names, Tasks, Days}
+use Rattle.session_rules.specs.declared.refused.Refused.{Refused}
+use Rattle.session_rules.specs.Batches.{AreJudged}
+use Rattle.session_rules.specs.KeptTraces.{Kept, day_of, days_of, kept_with, newest, traces_on}
+use Rattle.session_rules.specs.KeptTraces.{with_taken, without_day}
+use Rattle.session_rules.specs.Parts.{Part, Refusals, Watched, Dropped, KeptNewest, ModelOf, Header}
+use Rattle.session_rules.specs.Parts.{PathOf, SlacksOf, GraphOf}
+
+-- the state of a session: the kept traces, by day and within a day in the order in which they were
+-- taken; the names and tasks of all traces that were ever valid, by first sight; after how many of
+-- a worker's traces a watch line is printed, 0 for none; and the grace of later adds, in
+-- microseconds
+pub record State : Type 0 where
+  pub kept : List Kept
+  pub known : Known
+  pub watch : ℕ
+  pub grace : ℕ
+
+-- where a session starts
+abbrev pub first_state : State
+first_state =
+    record { kept = []; known = record { names = []; tasks = [] }; watch = 0; grace = 0 }
+
+-- the state with other kept traces
+abbrev pub with_kept : State → List Kept → State
+with_kept s kept = record { kept = kept; known = s.known; watch = s.watch; grace = s.grace }
+
+-- the state with this watch number, or this grace
+abbrev pub with_watch : State → ℕ → State
+with_watch s every = record { kept = s.kept; known = s.known; watch = every; grace = s.grace }
+
+abbrev pub with_grace : State → ℕ → State
+with_grace s micros = record { kept = s.kept; known = s.known; watch = s.watch; grace = micros }
+
+-- valid traces with the grace that holds
+abbrev pub graced : State → List Trace → List Kept
+graced s valid = map (kept_with (1000 * s.grace)) valid
+
+-- the traces that are kept after an add of these
+abbrev pub kept_after : State → List Trace → List Kept
+kept_after s valid = with_taken s.kept (graced s valid)
+
+-- the state after an add of these valid traces
+abbrev pub state_after : State → List Trace → State
+state_after s valid = record {
+  kept = kept_after s valid;
+  known = with_traces s.known valid;
+  watch = s.watch;
+  grace = s.grace;
+}
+
+-- the most days of kept traces
+abbrev pub most_days : ℕ
+most_days = 64
+
+-- an add of these valid traces passes this limit: that of names or of tasks at the first trace
+-- after which there are too many, or else that of days
+abbrev pub PassesLimitOf : State → List Trace → Limit → Type 0
+PassesLimitOf s valid (Names count) = PassesLimit s.known valid (TooManyNames count)
+PassesLimitOf s valid (Tasks count) = PassesLimit s.known valid (TooManyTasks count)
+PassesLimitOf s valid (Days count) = ((fault : NameFault) → PassesLimit s.known valid fault → ⊥)
+    × (most_days < length (days_of (kept_after s valid)))
+    × (count ≡ length (days_of (kept_after s valid)))
+
+-- the watch lines of each of these days of a batch
+abbrev pub watch_parts : ℕ → ℕ → List Kept → List ℕ → List Part
+watch_parts every workers traces days =
+    map (λ day. Watched every workers day (traces_on day traces)) days
+
+-- so many workers add a batch of events: no limit is passed, the valid traces are kept besides, and
+-- the refused traces and the watch lines are printed, these by day
+pub record Adds (workers : ℕ) (events : List Event) (s : State) (parts : List Part)
+    (next : State) : Type 0 where
+  pub valid : List Trace
+  pub refused : List Refused
+  pub judged : AreJudged (traces_of events) valid refused
+  pub fits : (limit : Limit) → PassesLimitOf s valid limit → ⊥
+  pub after : next ≡ state_after s valid
+  pub days : List ℕ
+  pub days_are : ListsExactly nat_cmp (Contains (map day_of (graced s valid))) days
+  pub printed : parts ≡ Refusals refused ∷ watch_parts s.watch workers (graced s valid) days
+
+-- a command over the state prints these parts and leaves this state; an add is a job of its own, and
+-- no session is asked for a report yet
+abbrev pub Commands : Command → State → List Part → State → Type 0
+Commands commands.Add s parts next = ⊥
+Commands (commands.Drop day) s parts next =
+    (next ≡ with_kept s (without_day day s.kept))
+    × (parts ≡ Dropped day (length (traces_on day s.kept)) ∷ [])
+Commands (commands.Keep days) s parts next = (next ≡ with_kept s (newest days s.kept))
+    × ((count : ℕ) × (length (newest days s.kept) + count ≡ length s.kept)
+    × (parts ≡ KeptNewest days count ∷ []))
+Commands (commands.Watch every) s parts next = (next ≡ with_watch s every) × (parts ≡ [])
+Commands (commands.Grace micros) s parts next = (next ≡ with_grace s micros) × (parts ≡ [])
+Commands commands.Model s parts next = (next ≡ s) × (parts ≡ ModelOf s.kept ∷ [])
+Commands commands.Paths s parts next = (next ≡ s)
+    × (parts ≡ Header (codes "paths") (length s.kept) ∷ map (PathOf s.kept) s.kept)
+Commands commands.Slack s parts next = (next ≡ s)
+    × (parts ≡ Header (codes "slack") (length s.kept) ∷ map (SlacksOf s.kept) s.kept)
+Commands commands.Report s parts next = ⊥
+Commands commands.Graph s parts next = (next ≡ s)
+    × (parts ≡ Header (codes "graph") (length s.kept) ∷ map (GraphOf s.kept) s.kept)
+
+-- a job over the state prints these parts and leaves this state
+abbrev pub Does : ℕ → Job → State → List Part → State → Type 0
+Does workers (Add events) s parts next = Adds workers events s parts next
+Does workers (Control command) s parts next = Commands command s parts next
+
+-- a job passes this limit: it prints nothing
+abbrev pub Passes : Job → State → Limit → Type 0
+Passes (Add events) s limit = (valid : List Trace) × (refused : List Refused)
+    × AreJudged (traces_of events) valid refused × PassesLimitOf s valid limit
+Passes (Control command) s limit = ⊥
+
+-- jobs, one after another, print these parts and leave this state
+abbrev pub Leads : ℕ → List Job → State → List Part → State → Type 0
+Leads workers [] s parts last = (parts ≡ []) × (last ≡ s)
+Leads workers (job ∷ jobs) s parts last = (first : List Part) × (next : State)
+    × (rest : List Part) × Does workers job s first next × Leads workers jobs next rest last
+    × (parts ≡ first ++ rest)

@@ -1,0 +1,6 @@
+mod FoundLemmas
+mod HypothesisLemmas
+mod LawLemmas
+mod ListLemmas
+mod RefutedLemmas
+mod ShareLemmas
