@@ -23,7 +23,7 @@ use Rattle.trace_types.specs.Surviving.{Survives}
 use Rattle.model_meet.specs.ModelStates.{ModelState}
 use Rattle.weighted_dag.specs.Graphs.{Graph, IsEdge, IsGraph, weight_of}
 use Rattle.trace_graph.specs.VertexOrder.{IsEarlier, IsVertexOrder}
-use Rattle.trace_graph.specs.TraceGraphs.{IsDependency, IsTraceGraph}
+use Rattle.trace_graph.specs.TraceGraphs.{HasVertices, IsDependency, IsTraceGraph}
 use Rattle.trace_graph.specs.inner.Keys.{AreKeys, IsKeyBefore, Key, duration_of, index_in, key_at, name_in, no_key}
 use Rattle.trace_graph.specs.inner.Successors.{AreKnown, AreLists, name_at}
 
@@ -253,6 +253,21 @@ module _ (trace : NamedTrace) (model : ModelState) (keys : List Key) (a : AreKey
         rw (ev, ew) (one.s, other.s, one.got, other.got, lower_first trace.segments keys a v w one.s other.s lt within one.got other.got);
   }
 
+  pub vertices_made : HasVertices by_number trace order made
+  vertices_made = record {
+    form = form;
+    vertices = vertices;
+    count = many_weights ∙ sym many_order;
+    weights = λ v i s iv got.
+        let (first, ei) = index_of v i iv in
+        let one = vertex_of trace.segments keys a v first in
+        let e : one.s ≡ s = same_segment trace.segments (key_at keys v).2 i one.s s one.got got ei in
+        let start : (key_at keys v).0 ≡ s.start = one.start ∙ ap (λ (x : NamedSegment). x.start) e in
+        let end : (key_at keys v).1 ≡ s.end = one.end ∙ ap (λ (x : NamedSegment). x.end) e in
+        let weight : weight_of made v ≡ unsigned_abs (s.end -ℤ s.start) = get_or-map duration_of keys v no_key 0 first ∙ (ap (λ (z : ℤ). unsigned_abs (z -ℤ (key_at keys v).0)) end ∙ ap (λ (z : ℤ). unsigned_abs (s.end -ℤ z)) start) in
+        ap (λ (n : ℕ). s.start +ℤ pos n) weight ∙ duration_added s.start s.end s.ordered;
+  }
+
   module _ (traces : List NamedTrace) (tells : AreSurvivors traces model.words) where
     is_dependency : (v w i j : ℕ) → slice_get order v ≡ Some i → slice_get order w ≡ Some j → IsEdge made v w → IsDependency by_number traces trace i j
     is_dependency v w i j iv jw edge =
@@ -295,15 +310,8 @@ module _ (trace : NamedTrace) (model : ModelState) (keys : List Key) (a : AreKey
 
     pub graph_made : IsTraceGraph by_number traces trace order made
     graph_made = record {
-      vertices = vertices;
-      count = many_weights ∙ sym many_order;
-      weights = λ v i s iv got.
-          let (first, ei) = index_of v i iv in
-          let one = vertex_of trace.segments keys a v first in
-          let e : one.s ≡ s = same_segment trace.segments (key_at keys v).2 i one.s s one.got got ei in
-          let start : (key_at keys v).0 ≡ s.start = one.start ∙ ap (λ (x : NamedSegment). x.start) e in
-          let end : (key_at keys v).1 ≡ s.end = one.end ∙ ap (λ (x : NamedSegment). x.end) e in
-          let weight : weight_of made v ≡ unsigned_abs (s.end -ℤ s.start) = get_or-map duration_of keys v no_key 0 first ∙ (ap (λ (z : ℤ). unsigned_abs (z -ℤ (key_at keys v).0)) end ∙ ap (λ (z : ℤ). unsigned_abs (s.end -ℤ z)) start) in
-          ap (λ (n : ℕ). s.start +ℤ pos n) weight ∙ duration_added s.start s.end s.ordered;
+      vertices = vertices_made.vertices;
+      count = vertices_made.count;
+      weights = vertices_made.weights;
       edges = λ v w i j iv jw. (is_dependency v w i j iv jw, is_edge v w i j iv jw);
     }

@@ -18,6 +18,16 @@ module _ {A S N T E : Type 0} (p : Parts A S N T E) where
     pub earlier : IsEarlier p s i t j
     pub survives : Survives (RefutesExclusive p (p.name s) (p.name t)) traces
 
+  -- the graph has a vertex for each segment of the trace, in their order, each with its duration in
+  -- nanoseconds
+  pub record HasVertices (trace : A) (order : List ℕ) (g : Graph) : Type 0 where
+    pub form : IsGraph g
+    pub vertices : IsVertexOrder p trace order
+    pub count : length g.weights ≡ length order
+    pub weights : (v i : ℕ) (s : S) → slice_get order v ≡ Some i
+        → slice_get (p.segments trace) i ≡ Some s
+        → (p.start s +ℤ pos (weight_of g v)) ≡ p.end s
+
   -- the graph of a trace under what a list of traces leaves: its vertices are the segments in their
   -- order, each with its duration in nanoseconds, and its edges the dependencies
   pub record IsTraceGraph (traces : List A) (trace : A) (order : List ℕ) (g : Graph) : Type 0 where

@@ -1,7 +1,7 @@
 ghost use Rattle.std.specs.Prelude.{List, IfOk};
 ghost use Rattle.refute_tests.specs.Clearing.{HaveNamesBelow};
 ghost use Rattle.refute_tests.specs.Survivors.{AreSurvivors};
-ghost use Rattle.trace_graph.specs.TraceGraphs.{IsTraceGraph};
+ghost use Rattle.trace_graph.specs.TraceGraphs.{HasVertices, IsTraceGraph};
 ghost use Rattle.trace_types.specs.Parts.{by_number};
 ghost use Rattle.trace_types.specs.declared.named_trace.NamedTrace.{NamedTrace};
 
@@ -20,8 +20,9 @@ use weighted_dag::{Dag, NumberList};
 /// only error is that memory ran out.
 pub fn graph(alloc: Global, trace: &NamedTrace, model: &Model) -> Result<OrderedGraph, AllocError>
     requires { HaveNamesBelow model.now.names trace.now }
-    ensures { IfOk result (λ g. (traces : List NamedTrace) → AreSurvivors traces model.now.words
-        → IsTraceGraph by_number traces trace.now g.order g.dag) }
+    ensures vertices { IfOk result (λ g. HasVertices by_number trace.now g.order g.dag) }
+    ensures graph { IfOk result (λ g. (traces : List NamedTrace) → AreSurvivors traces
+        model.now.words → IsTraceGraph by_number traces trace.now g.order g.dag) }
 {
     let segments = trace.segments.items();
     let keys = sort_keys(alloc, segments)?;

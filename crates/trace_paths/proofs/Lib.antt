@@ -1,0 +1,5 @@
+pub mod AllPathsLemmas
+pub mod BookLemmas
+pub mod OrderLemmas
+pub mod PathLemmas
+pub mod TableLemmas

@@ -1,0 +1,4 @@
+pub mod CriticalPaths
+pub mod Durations
+pub mod NameOrders
+pub mod Tables

@@ -1,0 +1,12 @@
+-- Durations by the numbers of names.
+use Rattle.std.specs.Prelude.{◌≡◌, ℕ, ◌<◌, nat_eq, List, [], length, slice_index_or}
+use Rattle.trace_types.specs.declared.named_segment.NamedSegment.{NamedSegment}
+use Rattle.trace_types.specs.Parts.{by_number}
+use Rattle.trace_paths.specs.Durations.{durations_of}
+
+-- a list for each number below this one: how long each of the segments with that name lasts
+pub record IsTableOf (names : ℕ) (segments : List NamedSegment) (table : List (List ℕ)) : Type 0
+  where
+    pub count : length table ≡ names
+    pub lists : (n : ℕ) → n < names
+        → slice_index_or table n [] ≡ durations_of by_number nat_eq n segments

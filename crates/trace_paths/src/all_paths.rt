@@ -1,0 +1,41 @@
+ghost use Rattle.std.specs.Prelude.{All, IfOk};
+ghost use Rattle.std.specs.Borrow.{Bor};
+ghost use Rattle.std.specs.List.{AllZip};
+ghost use Rattle.refute_tests.specs.Clearing.{HaveNamesBelow};
+ghost use Rattle.trace_paths.specs.CriticalPaths.{IsPathUnder};
+ghost use Rattle.trace_types.specs.declared.named_trace.NamedTrace.{NamedTrace};
+
+use crate::critical::critical_path;
+use model_meet::Model;
+use rayon::prelude::*;
+use std::alloc::{AllocError, Global};
+use std::thread::Threads;
+use trace_types::{NamedSegmentList, NamedTrace};
+
+/// How few traces are worth a thread of their own.
+const LEAST_PIECE: usize = 16;
+
+/// Finds the critical path of each trace, by all processors. The names of the traces are below the
+/// model's. The only error is that memory ran out.
+pub fn critical_paths<R: Threads + Sync>(
+    rt: &R,
+    alloc: Global,
+    traces: &[&NamedTrace],
+    model: &Model,
+) -> Result<Vec<NamedSegmentList>, AllocError>
+    requires { All (λ (t : Bor NamedTrace). HaveNamesBelow model.now.names t.now) traces.now }
+    ensures { IfOk result (λ paths. AllZip
+        (λ (t : Bor NamedTrace) path. IsPathUnder model.now t.now path) traces.now paths.items) }
+{
+    let paths: Result<Vec<NamedSegmentList>, AllocError> = traces
+        .par_iter()
+        .with_min_len(LEAST_PIECE)
+        .map(
+            |trace: &&NamedTrace| -> Result<NamedSegmentList, AllocError>
+                requires { HaveNamesBelow model.now.names trace.now.now }
+                ensures { IfOk result (IsPathUnder model.entry.now trace.now.now) }
+            { critical_path(alloc, trace, model) },
+        )
+        .collect(rt, alloc)?;
+    paths
+}
