@@ -1,0 +1,3 @@
+pub mod MedianLemmas
+pub mod ReportLemmas
+pub mod RowLemmas

@@ -1,0 +1,104 @@
+use Rattle.std.proofs.Common.{◌≡◌, ◌<◌, ◌≤◌, ℕ, List, map, length, get_or, All, Contains, arith, sym, ap, ◌∙◌, subst}
+use Rattle.std.specs.Borrow.{Bor}
+use Rattle.std.specs.Prelude.{nat_eq, sum_by}
+use Rattle.std.specs.List.{AllZip}
+use Rattle.std.proofs.lemmas.List.{length-map}
+use Rattle.std.proofs.lemmas.Slice.Zip.{AllZip-long}
+use Rattle.day_partitions.specs.Books.{all_traces}
+use Rattle.model_meet.specs.ModelStates.{ModelState}
+use Rattle.refute_tests.specs.Clearing.{HaveNamesBelow}
+use Rattle.refute_tests.specs.Survivors.{AreSurvivors}
+use Rattle.trace_types.specs.declared.named_segment.NamedSegment.{NamedSegment}
+use Rattle.trace_types.specs.declared.named_trace.NamedTrace.{NamedTrace}
+use Rattle.trace_types.specs.Listing.{ListsExactly}
+use Rattle.trace_types.specs.NamedSegments.{number_of_name}
+use Rattle.trace_types.specs.Parts.{by_number, segments_of}
+use Rattle.trace_paths.specs.CriticalPaths.{IsCriticalPath, IsNamedPath, IsPathUnder}
+use Rattle.trace_paths.specs.Durations.{path_length}
+use Rattle.trace_paths.specs.NameOrders.{AreNamesOf, number_cmp}
+use Rattle.trace_paths.specs.Tables.{IsTableOf}
+use Rattle.latency_report.specs.declared.segment_row.SegmentRow.{SegmentRow}
+use Rattle.latency_report.specs.inner.TableRows.{list_at}
+use Rattle.latency_report.specs.Numbers.{AreFigures}
+use Rattle.latency_report.specs.Reports.{IsReport, IsRowOf}
+use Rattle.latency_report.proofs.ReportLemmas.{durations_tell, joined, latencies_shown, paths_are, paths_named, row_of, segments_at, segments_below, segments_shown, short_paths, short_traces, traces_at}
+use Rattle.latency_report.proofs.RowLemmas.{listed_as}
+use Rattle.latency_report.proofs.reporting.report.Goals as goal
+
+pub tabulate_paths-requires : goal.tabulate_paths-requires
+tabulate_paths-requires g c =
+    let named : All (IsNamedPath c.names-names.result) c.in_ok-paths.paths.items =
+    subst (λ (k : ℕ). All (IsNamedPath k) c.in_ok-paths.paths.items) (ap (λ (m : ModelState). m.names) c.new-model.ensures)
+    (paths_named c.new-model.result c.deref.result.now c.in_ok-paths.paths.items c.in_ok-paths.ensures) in
+    subst (All (IsNamedPath c.names-names.result)) (sym c.deref-3.ensures.value) named
+
+pub make_rows-requires-clause-short : goal.make_rows-requires-clause-short
+make_rows-requires-clause-short g c =
+    let seen = ap length c.deref-2.ensures.value in
+    let few = c.in_ok-traces.ensures.few in
+    short_traces c.names-names.result c.deref-2.result.now c.in_ok-durations.durations c.in_ok-durations.ensures (omega arith)
+
+pub make_rows-requires-clause-short_steps : goal.make_rows-requires-clause-short_steps
+make_rows-requires-clause-short_steps g c =
+    let named : All (IsNamedPath c.names-names.result) c.in_ok-paths.paths.items =
+    subst (λ (k : ℕ). All (IsNamedPath k) c.in_ok-paths.paths.items) (ap (λ (m : ModelState). m.names) c.new-model.ensures)
+    (paths_named c.new-model.result c.deref.result.now c.in_ok-paths.paths.items c.in_ok-paths.ensures) in
+    let many : length c.in_ok-paths.paths.items ≡ length c.deref.result.now = AllZip-long (λ (t : Bor NamedTrace) (path : List NamedSegment). IsPathUnder c.new-model.result t.now path) c.deref.result.now c.in_ok-paths.paths.items c.in_ok-paths.ensures in
+    let seen = ap length c.deref.ensures.value in
+    let few = c.in_ok-traces.ensures.few in
+    let three = ap length c.deref-3.ensures.value in
+    short_paths c.names-names.result c.deref-3.result.now c.in_ok-on_paths.on_paths c.in_ok-on_paths.ensures
+    (subst (All (IsNamedPath c.names-names.result)) (sym c.deref-3.ensures.value) named) (omega arith)
+
+pub add_lengths-requires-clause-few : goal.add_lengths-requires-clause-few
+add_lengths-requires-clause-few g c =
+    let many : length c.in_ok-paths.paths.items ≡ length c.deref.result.now = AllZip-long (λ (t : Bor NamedTrace) (path : List NamedSegment). IsPathUnder c.new-model.result t.now path) c.deref.result.now c.in_ok-paths.paths.items c.in_ok-paths.ensures in
+    let seen = ap length c.deref.ensures.value in
+    let few = c.in_ok-traces.ensures.few in
+    let five = ap length c.deref-5.ensures.value in
+    omega arith
+
+pub add_lengths-requires-clause-short : goal.add_lengths-requires-clause-short
+add_lengths-requires-clause-short g c =
+    let named : All (IsNamedPath c.names-names.result) c.in_ok-paths.paths.items =
+    subst (λ (k : ℕ). All (IsNamedPath k) c.in_ok-paths.paths.items) (ap (λ (m : ModelState). m.names) c.new-model.ensures)
+    (paths_named c.new-model.result c.deref.result.now c.in_ok-paths.paths.items c.in_ok-paths.ensures) in
+    subst (All (λ (path : List NamedSegment). length path ≤ 512)) (sym c.deref-5.ensures.value) (λ k d lt. (named k d lt).few)
+
+pub returns : goal.returns
+returns g c =
+    let named : All (IsNamedPath c.names-names.result) c.in_ok-paths.paths.items =
+    subst (λ (k : ℕ). All (IsNamedPath k) c.in_ok-paths.paths.items) (ap (λ (m : ModelState). m.names) c.new-model.ensures)
+    (paths_named c.new-model.result c.deref.result.now c.in_ok-paths.paths.items c.in_ok-paths.ensures) in
+    let known = c.args.catalogue.now.names in
+    let traces = all_traces c.args.book.now.days in
+    let ts = c.in_ok-traces.traces.items in
+    let paths = c.in_ok-paths.paths.items in
+    let model = c.new-model.result in
+    let are : traces_at ts ≡ traces = c.in_ok-traces.ensures.traces in
+    let tells : AreSurvivors traces model.words = subst (AreSurvivors traces) (sym (ap (λ (m : ModelState). m.words) c.new-model.ensures)) c.words.ensures.survivors in
+    let zipped : AllZip (λ (t : Bor NamedTrace) (path : List NamedSegment). IsPathUnder model t.now path) ts paths =
+    subst (λ (l : List (Bor NamedTrace)). AllZip (λ (t : Bor NamedTrace) (path : List NamedSegment). IsPathUnder model t.now path) l paths) c.deref.ensures.value c.in_ok-paths.ensures in
+    let segments = segments_at c.deref-2.result.now in
+    let same : segments ≡ segments_of by_number traces = segments_shown c.deref-2.result.now ∙ ap (λ (l : List (Bor NamedTrace)). segments_of by_number (traces_at l)) c.deref-2.ensures.value ∙ ap (segments_of by_number) are in
+    let count : c.names-names.result ≡ c.args.book.now.names = c.names-names.ensures.count ∙ c.requires in
+    let below : All (λ (t : Bor NamedTrace). HaveNamesBelow c.names-names.result t.now) c.deref-2.result.now =
+    subst (All (λ (t : Bor NamedTrace). HaveNamesBelow c.names-names.result t.now)) (sym c.deref-2.ensures.value)
+    (subst (λ (k : ℕ). All (λ (t : Bor NamedTrace). HaveNamesBelow k t.now) ts) (sym count) c.in_ok-traces.ensures.below) in
+    let steps = c.in_ok-on_paths.ensures in
+    let rows = c.in_ok-rows.ensures in
+    record {
+      paths = paths;
+      critical_paths = subst (λ (l : List NamedTrace). AllZip (IsCriticalPath by_number traces) l paths) are (paths_are model traces tells ts paths zipped);
+      count = omega (arith, c.len.ensures, c.in_ok-traces.traces.ok.0, ap length are, length-map ts (λ (t : Bor NamedTrace). t.now));
+      critical = c.add_lengths.ensures ∙ ap (sum_by (path_length by_number)) c.deref-5.ensures.value;
+      latency = subst (λ (l : List ℕ). AreFigures l c.in_ok-latency.latency)
+          (ap (map (λ (t : Bor NamedTrace). t.now.latency)) c.deref-4.ensures.value ∙ (latencies_shown ts ∙ ap (map (λ (t : NamedTrace). t.latency)) are)) c.in_ok-latency.ensures;
+      names = subst (λ (l : List SegmentRow). AreNamesOf known traces (map (λ (r : SegmentRow). r.name) l)) (sym c.of.ensures)
+          (subst (λ (l : List NamedSegment). ListsExactly (number_cmp known) (Contains (map number_of_name l)) (map (λ (r : SegmentRow). r.name) c.in_ok-rows.rows.items)) same
+          (listed_as (number_cmp known) (λ n. 0 < length (list_at c.in_ok-durations.durations n)) (Contains (map number_of_name segments)) (map (λ (r : SegmentRow). r.name) c.in_ok-rows.rows.items)
+          (durations_tell c.names-names.result segments c.in_ok-durations.durations c.in_ok-durations.ensures (segments_below c.names-names.result c.deref-2.result.now below)) rows.names));
+      rows = subst (All (λ (r : SegmentRow). IsRowOf by_number nat_eq traces paths r.name r)) (sym c.of.ensures)
+          (λ k d lt. row_of c.names-names.result traces segments paths c.in_ok-durations.durations c.in_ok-on_paths.on_paths (get_or c.in_ok-rows.rows.items k d) same c.in_ok-durations.ensures
+          (subst (λ (l : List (List NamedSegment)). IsTableOf c.names-names.result (joined l) c.in_ok-on_paths.on_paths) c.deref-3.ensures.value steps) named (rows.each k d lt));
+    }
