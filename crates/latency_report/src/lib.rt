@@ -10,6 +10,8 @@ mod rows;
 mod segment_row;
 mod segment_row_list;
 mod tables;
+#[cfg(test)]
+mod tests;
 
 pub use figures::Figures;
 pub use full_report::FullReport;

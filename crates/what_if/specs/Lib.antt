@@ -1,0 +1,2 @@
+pub mod Forecasts
+pub mod ForecastLaws
