@@ -1,0 +1,5 @@
+mod BookLemmas
+mod EdgeLemmas
+mod PrintLemmas
+mod ShownLemmas
+mod TextLemmas

@@ -1,0 +1,13 @@
+use Rattle.std.proofs.Common.{◌≡◌, ◌∷◌, [], take}
+use Rattle.std.specs.List.{flat_map}
+use Rattle.trace_types.specs.declared.named_trace.NamedTrace.{NamedTrace}
+use Rattle.trace_rows.specs.inner.ShownTraces.{PrintsShown}
+use Rattle.trace_rows.proofs.PrintLemmas.{done}
+use Rattle.trace_rows.proofs.trace_texts.print_each.Given as goal
+
+-- the parts so far
+abbrev pub invariant-loop-trace : goal.invariant-loop-trace
+invariant-loop-trace g l = record {
+  printed : PrintsShown g.S.Sink.written g.S.Sink.faults done l.fn.sink l.sink l.book (g.K.TraceTexts.part l.texts) (flat_map (λ (t : NamedTrace). t ∷ []) (take l.trace-index l.traces)) l.fn.buffer l.buffer;
+  counted : g.S.Sink.faults l.sink ≡ g.S.Sink.faults l.fn.sink;
+}

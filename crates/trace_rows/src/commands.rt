@@ -1,0 +1,130 @@
+ghost use Rattle.std.specs.Prelude.{◌≡◌, ◌∷◌, List, length, map, codes};
+ghost use Rattle.day_partitions.specs.Books.{all_traces};
+ghost use Rattle.kept_books.specs.Shown.{AreShown};
+ghost use Rattle.session_rules.specs.KeptTraces.{Kept};
+ghost use Rattle.session_rules.specs.Parts.{GraphOf, Header, IsPart, PathOf, SlacksOf};
+ghost use Rattle.session_rules.specs.Parts.{traces_row};
+ghost use Rattle.text_rows.specs.Printing.{PrintsText, print_faults};
+ghost use Rattle.text_rows.specs.TextsOfParts.{PrintsTexts};
+ghost use Rattle.trace_rows.specs.inner.ShownTraces.{PrintsWhole, traces_in};
+
+use crate::graph_texts::GraphTexts;
+use crate::numbered_book::NumberedBook;
+use crate::path_texts::PathTexts;
+use crate::session_part::SessionPart;
+use crate::slack_texts::SlackTexts;
+use crate::trace_texts::{TraceTexts, print_days};
+use day_partitions::DayBook;
+use mystery_io::Sink;
+use segment_names::Catalogue;
+use std::alloc::Global;
+use text_rows::laws::part_calls_follow;
+use text_rows::{Field, PrintFault, RowBuffer, print_row};
+
+/// Counts the traces of a book.
+fn count_traces(book: &NumberedBook<'_>) -> u64
+    ensures { result ≡ length (traces_in book.now) }
+{
+    let mut count = 0;
+    for place in 0..book.days() {
+        count += book.traces(place).len() as u64;
+    }
+    count
+}
+
+/// Prints a header: a word and the number of traces.
+fn print_header<S: Sink>(
+    sink: &mut S,
+    buffer: &mut RowBuffer,
+    word: &str,
+    book: &NumberedBook<'_>,
+) -> Result<(), PrintFault>
+    ensures { PrintsText S.written S.faults result sink.old sink.new buffer.old buffer.new
+        (traces_row word.now (length (traces_in book.now))) }
+{
+    let count = u128::from(count_traces(book));
+    print_row(
+        sink,
+        buffer,
+        &[Field::Word(word), Field::Figure("traces", count)],
+    )
+}
+
+/// Prints a header of this word and the parts of all traces of a book.
+fn print_whole<S: Sink, K: TraceTexts>(
+    alloc: Global,
+    book: &NumberedBook<'_>,
+    word: &str,
+    texts: &K,
+    sink: &mut S,
+    buffer: &mut RowBuffer,
+) -> Result<(), PrintFault>
+    ensures printed { PrintsWhole S.written S.faults result sink.old sink.new book.now word.now
+        (K.part texts.now) buffer.old buffer.new }
+    ensures counted { S.faults sink.new ≡ print_faults result (S.faults sink.old) }
+{
+    part_calls_follow::<S, SessionPart>();
+    print_header(sink, buffer, word, book)?;
+    print_days(alloc, book, texts, sink, buffer)
+}
+
+/// Prints the critical path of each trace of a book whose names are those of the catalogue: a
+/// header with the number of traces, then the paths, by day and within a day in the order in which
+/// the traces were taken. Times are in nanoseconds.
+///
+/// The graph of a trace is made when its turn comes. After an error a prefix of the text was
+/// printed, and nothing is said of the buffer.
+pub fn print_paths<S: Sink>(
+    alloc: Global,
+    book: &DayBook,
+    catalogue: &Catalogue,
+    sink: &mut S,
+    buffer: &mut RowBuffer,
+) -> Result<(), PrintFault>
+    requires names { book.now.names ≡ length catalogue.now.names }
+    ensures printed { (kept : List Kept) → AreShown catalogue.now (all_traces book.now.days) kept
+        → PrintsTexts S.written S.faults result sink.old sink.new IsPart
+        (Header (codes "paths") (length kept) ∷ map (PathOf kept) kept) buffer.old buffer.new }
+    ensures counted { S.faults sink.new ≡ print_faults result (S.faults sink.old) }
+{
+    let book = NumberedBook::new(book, catalogue);
+    print_whole(alloc, &book, "paths", &PathTexts, sink, buffer)
+}
+
+/// Prints the longest length of each trace of a book and the slacks of its segments, as
+/// `print_paths` prints paths.
+pub fn print_slacks<S: Sink>(
+    alloc: Global,
+    book: &DayBook,
+    catalogue: &Catalogue,
+    sink: &mut S,
+    buffer: &mut RowBuffer,
+) -> Result<(), PrintFault>
+    requires names { book.now.names ≡ length catalogue.now.names }
+    ensures printed { (kept : List Kept) → AreShown catalogue.now (all_traces book.now.days) kept
+        → PrintsTexts S.written S.faults result sink.old sink.new IsPart
+        (Header (codes "slack") (length kept) ∷ map (SlacksOf kept) kept) buffer.old buffer.new }
+    ensures counted { S.faults sink.new ≡ print_faults result (S.faults sink.old) }
+{
+    let book = NumberedBook::new(book, catalogue);
+    print_whole(alloc, &book, "slack", &SlackTexts, sink, buffer)
+}
+
+/// Prints the transitive reduction of the graph of each trace of a book, as `print_paths` prints
+/// paths.
+pub fn print_graphs<S: Sink>(
+    alloc: Global,
+    book: &DayBook,
+    catalogue: &Catalogue,
+    sink: &mut S,
+    buffer: &mut RowBuffer,
+) -> Result<(), PrintFault>
+    requires names { book.now.names ≡ length catalogue.now.names }
+    ensures printed { (kept : List Kept) → AreShown catalogue.now (all_traces book.now.days) kept
+        → PrintsTexts S.written S.faults result sink.old sink.new IsPart
+        (Header (codes "graph") (length kept) ∷ map (GraphOf kept) kept) buffer.old buffer.new }
+    ensures counted { S.faults sink.new ≡ print_faults result (S.faults sink.old) }
+{
+    let book = NumberedBook::new(book, catalogue);
+    print_whole(alloc, &book, "graph", &GraphTexts, sink, buffer)
+}

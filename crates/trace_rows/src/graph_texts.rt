@@ -1,0 +1,201 @@
+ghost use Rattle.std.specs.Prelude.{◌≡◌, ◌<◌, ◌++◌, [], ◌∷◌, codes, decimal, length};
+ghost use Rattle.std.specs.List.{flat_map, range_with_len};
+ghost use Rattle.session_rules.specs.Parts.{GraphOf};
+ghost use Rattle.session_rules.specs.TraceTexts.{edges_of};
+ghost use Rattle.text_rows.specs.Printing.{PrintsText};
+ghost use Rattle.trace_rows.specs.inner.NumberedGraphs.{edge_row, edge_rows, graph_rows};
+ghost use Rattle.trace_rows.specs.inner.NumberedGraphs.{named_row, vertex_row};
+ghost use Rattle.weighted_dag.specs.Graphs.{order_of};
+
+use crate::laws::{graph_is_shown, names_are_shown};
+use crate::numbered_book::NumberedBook;
+use crate::numbered_graph::NumberedGraph;
+use crate::session_part::SessionPart;
+use crate::trace_texts::TraceTexts;
+use crate::vertex_rows::{VertexRows, print_first};
+use mystery_io::Sink;
+use std::alloc::Global;
+use text_rows::laws::{calls_follow, part_calls_follow, parts_follow};
+use text_rows::{Field, PrintFault, RowBuffer, Rows, print_row, print_rows};
+use trace_graph::OrderedGraph;
+use trace_types::NamedTrace;
+use weighted_dag::reduce;
+
+/// The reduced graphs of traces.
+#[derive(Clone, Copy)]
+pub(crate) struct GraphTexts;
+
+/// The vertices of a graph.
+#[derive(Drop)]
+struct NumberRows<'a> {
+    graph: &'a NumberedGraph<'a>,
+}
+
+/// The edges of a graph, by the vertex that they begin with.
+#[derive(Drop)]
+struct EdgeRows<'a> {
+    graph: &'a NumberedGraph<'a>,
+}
+
+/// The edges that begin with one vertex, by the vertex that they lead to.
+#[derive(Clone, Copy)]
+struct EdgesFrom {
+    vertex: u32,
+}
+
+impl VertexRows for NumberRows<'_> {
+    ghost text = { λ rows v. vertex_row rows.graph.now v };
+
+    ghost has = { λ rows v. v < length rows.graph.now.order };
+
+    fn print<S: Sink>(
+        &self,
+        sink: &mut S,
+        buffer: &mut RowBuffer,
+        vertex: u32,
+    ) -> Result<(), PrintFault> {
+        let name = self.graph.name(vertex);
+        print_row(
+            sink,
+            buffer,
+            &[
+                Field::Word("vertex"),
+                Field::Number(u128::from(vertex)),
+                Field::Word(name.task.as_str()),
+                Field::Word(name.start.as_str()),
+                Field::Word(name.end.as_str()),
+                Field::Number(u128::from(self.graph.weights()[vertex as usize])),
+            ],
+        )
+    }
+}
+
+impl Rows for EdgesFrom {
+    type Item = u32;
+
+    ghost text = { λ rows w. edge_row rows.vertex w };
+
+    fn print<S: Sink>(
+        &self,
+        sink: &mut S,
+        buffer: &mut RowBuffer,
+        item: &u32,
+    ) -> Result<(), PrintFault> {
+        print_row(
+            sink,
+            buffer,
+            &[
+                Field::Word("edge"),
+                Field::Number(u128::from(self.vertex)),
+                Field::Number(u128::from(*item)),
+            ],
+        )
+    }
+}
+
+impl VertexRows for EdgeRows<'_> {
+    ghost text = { λ rows v. edge_rows rows.graph.now v };
+
+    ghost has = { λ rows v. v < length rows.graph.now.order };
+
+    fn print<S: Sink>(
+        &self,
+        sink: &mut S,
+        buffer: &mut RowBuffer,
+        vertex: u32,
+    ) -> Result<(), PrintFault> {
+        let successors = self.graph.successors(vertex);
+        print_rows(sink, buffer, &EdgesFrom { vertex }, successors)
+    }
+}
+
+/// Counts the edges of a graph.
+fn count_edges(graph: &NumberedGraph<'_>) -> u128
+    ensures { result ≡ length (edges_of graph.now.graph) }
+{
+    let mut count = 0;
+    for vertex in 0..graph.count() {
+        count += graph.successors(vertex).len() as u128;
+    }
+    count
+}
+
+/// Prints the row of a trace with the numbers of vertices and edges.
+fn print_counts_row<S: Sink>(
+    sink: &mut S,
+    buffer: &mut RowBuffer,
+    graph: &NumberedGraph<'_>,
+) -> Result<(), PrintFault>
+    ensures { PrintsText S.written S.faults result sink.old sink.new buffer.old buffer.new
+        (named_row (codes "trace") graph.now.trace
+        (decimal (order_of graph.now.graph) ∷ decimal (length (edges_of graph.now.graph)) ∷ [])) }
+{
+    let trace = graph.trace();
+    print_row(
+        sink,
+        buffer,
+        &[
+            Field::Word("trace"),
+            Field::Word(trace.request.as_str()),
+            Field::Number(u128::from(trace.day)),
+            Field::Number(u128::from(trace.latency)),
+            Field::Number(u128::from(graph.count())),
+            Field::Number(count_edges(graph)),
+        ],
+    )
+}
+
+/// Prints the vertices and the edges of a graph.
+fn print_parts_of_graph<S: Sink>(
+    sink: &mut S,
+    buffer: &mut RowBuffer,
+    graph: &NumberedGraph<'_>,
+) -> Result<(), PrintFault>
+    ensures { PrintsText S.written S.faults result sink.old sink.new buffer.old buffer.new
+        (flat_map (vertex_row graph.now) (range_with_len 0 (order_of graph.now.graph))
+        ++ flat_map (edge_rows graph.now) (range_with_len 0 (order_of graph.now.graph))) }
+{
+    calls_follow::<S>();
+    let count = graph.count();
+    print_first(sink, buffer, &NumberRows { graph }, count)?;
+    print_first(sink, buffer, &EdgeRows { graph }, count)
+}
+
+/// Prints a graph: its row, its vertices and its edges.
+fn print_graph<S: Sink>(
+    sink: &mut S,
+    buffer: &mut RowBuffer,
+    graph: &NumberedGraph<'_>,
+) -> Result<(), PrintFault>
+    ensures { PrintsText S.written S.faults result sink.old sink.new buffer.old buffer.new
+        (graph_rows graph.now) }
+{
+    calls_follow::<S>();
+    print_counts_row(sink, buffer, graph)?;
+    print_parts_of_graph(sink, buffer, graph)
+}
+
+impl TraceTexts for GraphTexts {
+    ghost part = { λ _ kept k. GraphOf kept k };
+
+    fn print<S: Sink>(
+        &self,
+        alloc: Global,
+        book: &NumberedBook<'_>,
+        trace: &NamedTrace,
+        sink: &mut S,
+        buffer: &mut RowBuffer,
+    ) -> Result<(), PrintFault> {
+        graph_is_shown();
+        names_are_shown();
+        parts_follow::<SessionPart>();
+        part_calls_follow::<S, SessionPart>();
+        let OrderedGraph { order, dag } = book.graph_of(alloc, trace)?;
+        let reduced = OrderedGraph {
+            order,
+            dag: reduce(alloc, &dag)?,
+        };
+        let numbered = NumberedGraph::new(book.catalogue(), trace, &reduced);
+        print_graph(sink, buffer, &numbered)
+    }
+}

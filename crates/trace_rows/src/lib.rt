@@ -1,0 +1,17 @@
+//! The printed critical paths, slacks and graphs of the traces of a book of days, whose names are
+//! numbers of a catalogue.
+#![tactic(auto)]
+
+mod commands;
+mod graph_texts;
+mod kept_trace;
+mod laws;
+mod numbered_book;
+mod numbered_graph;
+mod path_texts;
+mod session_part;
+mod slack_texts;
+mod trace_texts;
+mod vertex_rows;
+
+pub use commands::{print_graphs, print_paths, print_slacks};

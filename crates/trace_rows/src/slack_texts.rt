@@ -1,0 +1,118 @@
+ghost use Rattle.std.specs.Prelude.{◌≡◌, ◌<◌, [], ◌∷◌, codes, decimal, length};
+ghost use Rattle.session_rules.specs.Parts.{SlacksOf};
+ghost use Rattle.text_rows.specs.Printing.{PrintsText};
+ghost use Rattle.trace_rows.specs.inner.NumberedGraphs.{named_row, segment_row, slack_rows};
+
+use crate::laws::{graph_is_shown, names_are_shown};
+use crate::numbered_book::NumberedBook;
+use crate::numbered_graph::NumberedGraph;
+use crate::session_part::SessionPart;
+use crate::trace_texts::TraceTexts;
+use crate::vertex_rows::{VertexRows, print_first};
+use mystery_io::Sink;
+use slack::{SlackTable, longest_and_slacks};
+use std::alloc::Global;
+use text_rows::laws::{calls_follow, part_calls_follow, parts_follow};
+use text_rows::{Field, PrintFault, RowBuffer, print_row};
+use trace_types::NamedTrace;
+
+/// The slacks of traces.
+#[derive(Clone, Copy)]
+pub(crate) struct SlackTexts;
+
+/// The segments of a trace with their slacks.
+#[derive(Drop)]
+struct SegmentRows<'a> {
+    graph: &'a NumberedGraph<'a>,
+    slacks: &'a [u128],
+}
+
+impl VertexRows for SegmentRows<'_> {
+    ghost text = { λ rows v. segment_row rows.graph.now rows.slacks.now v };
+
+    ghost has = { λ rows v. (v < length rows.graph.now.order) × (v < length rows.slacks.now) };
+
+    fn print<S: Sink>(
+        &self,
+        sink: &mut S,
+        buffer: &mut RowBuffer,
+        vertex: u32,
+    ) -> Result<(), PrintFault> {
+        let name = self.graph.name(vertex);
+        print_row(
+            sink,
+            buffer,
+            &[
+                Field::Word("segment"),
+                Field::Word(name.task.as_str()),
+                Field::Word(name.start.as_str()),
+                Field::Word(name.end.as_str()),
+                Field::Number(u128::from(self.graph.weights()[vertex as usize])),
+                Field::Number(self.slacks[vertex as usize]),
+            ],
+        )
+    }
+}
+
+/// Prints the row of a trace with its longest length.
+fn print_length_row<S: Sink>(
+    sink: &mut S,
+    buffer: &mut RowBuffer,
+    graph: &NumberedGraph<'_>,
+    longest: u128,
+) -> Result<(), PrintFault>
+    ensures { PrintsText S.written S.faults result sink.old sink.new buffer.old buffer.new
+        (named_row (codes "trace") graph.now.trace (decimal longest ∷ [])) }
+{
+    let trace = graph.trace();
+    print_row(
+        sink,
+        buffer,
+        &[
+            Field::Word("trace"),
+            Field::Word(trace.request.as_str()),
+            Field::Number(u128::from(trace.day)),
+            Field::Number(u128::from(trace.latency)),
+            Field::Number(longest),
+        ],
+    )
+}
+
+/// Prints the slacks of a trace.
+fn print_table<S: Sink>(
+    sink: &mut S,
+    buffer: &mut RowBuffer,
+    graph: &NumberedGraph<'_>,
+    table: &SlackTable,
+) -> Result<(), PrintFault>
+    requires { length table.now.slacks.items ≡ length graph.now.order }
+    ensures { PrintsText S.written S.faults result sink.old sink.new buffer.old buffer.new
+        (slack_rows graph.now table.now.longest table.now.slacks.items) }
+{
+    calls_follow::<S>();
+    print_length_row(sink, buffer, graph, table.longest)?;
+    let slacks = table.slacks.as_slice();
+    print_first(sink, buffer, &SegmentRows { graph, slacks }, graph.count())
+}
+
+impl TraceTexts for SlackTexts {
+    ghost part = { λ _ kept k. SlacksOf kept k };
+
+    fn print<S: Sink>(
+        &self,
+        alloc: Global,
+        book: &NumberedBook<'_>,
+        trace: &NamedTrace,
+        sink: &mut S,
+        buffer: &mut RowBuffer,
+    ) -> Result<(), PrintFault> {
+        graph_is_shown();
+        names_are_shown();
+        parts_follow::<SessionPart>();
+        part_calls_follow::<S, SessionPart>();
+        let graph = book.graph_of(alloc, trace)?;
+        let table = longest_and_slacks(alloc, &graph.dag)?;
+        let numbered = NumberedGraph::new(book.catalogue(), trace, &graph);
+        print_table(sink, buffer, &numbered, &table)
+    }
+}
