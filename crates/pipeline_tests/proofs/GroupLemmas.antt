@@ -1,14 +1,15 @@
 -- One more task: it has a group, or handles nothing.
-use Rattle.std.proofs.Common.{◌≡◌, ℕ, ◌+◌, ◌<◌, ◌≤◌, ◌==◌, true, List, [], ◌∷◌, ◌++◌, length, All, sym, ap, ◌∙◌, subst, ⊎_elim, arith}
-use Rattle.std.proofs.lemmas.Bool.{cases_lt, eqb-true, eq-eqb}
-use Rattle.std.proofs.lemmas.List.Elements.{All-push, All-weaker, All-contains, All-contains_itself, All-filter, filter_passes, Contains-append_left, Contains-push}
+use Rattle.std.proofs.Common.{◌≡◌, ℕ, ◌+◌, ◌<◌, ◌≤◌, ◌==◌, Bool, true, false, List, [], ◌∷◌, ◌++◌, length, get_or, set, take, All, refl, sym, ap, ◌∙◌, subst, ⊎_elim, arith}
+use Rattle.std.proofs.lemmas.Bool.{cases_Bool, cases_eq, cases_lt, cond-false, eqb-true, eq-eqb, false≢true}
+use Rattle.std.proofs.lemmas.List.{get_or-set_same, get_or-set_other}
+use Rattle.std.proofs.lemmas.List.Elements.{All-head, All-tail, All-more, All-push, All-weaker, All-contains, All-contains_itself, All-filter, filter_passes, Contains-append_left, Contains-push}
 use Rattle.std.proofs.lemmas.List.Quantifiers.{all_pairs_push}
 use Rattle.std.proofs.lemmas.Option.{slice_get_within}
 use Rattle.std.specs.List.{Contains}
 use Rattle.pipeline_tests.proofs.ElementLemmas.{Contains-kept}
 use Rattle.pipeline_tests.specs.declared.groups.TaskStays.{TaskStays}
 use Rattle.pipeline_tests.specs.declared.stays.Stay.{Stay}
-use Rattle.pipeline_tests.specs.inner.Groups.{of_task, IsGroup, AreGroups}
+use Rattle.pipeline_tests.specs.inner.Groups.{of_task, AreMarked, IsGroup, AreGroups}
 use Rattle.pipeline_tests.specs.inner.Stays.{IsStay, AreStays}
 use Rattle.trace_types.specs.Parts.{by_number}
 use Rattle.trace_types.specs.Pipelines.{HandlesAt}
@@ -23,6 +24,39 @@ of_stays t stays s c = All-contains (Contains stays) (of_task t stays) s (All-fi
 
 of_own : (t : ℕ) (stays : List Stay) (s : Stay) → Contains (of_task t stays) s → s.task ≡ t
 of_own t stays s c = eqb-true s.task t (All-contains (λ (s : Stay). (s.task == t) ≡ true) (of_task t stays) s (filter_passes (λ (s : Stay). s.task == t) stays) c)
+
+abbrev Marked : List Bool → Stay → Type 0
+Marked marks s = get_or marks s.first.task false ≡ true
+
+-- a task that is not marked has no stay
+none_marked : (marks : List Bool) (t : ℕ) (stays : List Stay) → AreMarked marks stays → All (λ (s : Stay). s.first.task ≡ s.task) stays → get_or marks t false ≡ false → length (of_task t stays) ≡ 0
+none_marked marks t [] a own f = refl
+none_marked marks t (s ∷ ss) a own f =
+    ap (λ (l : List Stay). length l) (cond-false (s.task == t) (s ∷ of_task t ss) (of_task t ss) other) ∙ none_marked marks t ss (All-tail (Marked marks) s ss a) (All-tail (λ (x : Stay). x.first.task ≡ x.task) s ss own) f
+  where
+    other : (s.task == t) ≡ false
+    other = ⊎_elim
+        (λ (e : (s.task == t) ≡ true). absurd (false≢true (
+        sym f ∙ ap (λ (u : ℕ). get_or marks u false) (sym (All-head (λ (x : Stay). x.first.task ≡ x.task) s ss own ∙ eqb-true s.task t e)) ∙ All-head (Marked marks) s ss a)))
+        (λ (e : (s.task == t) ≡ false). e)
+        (cases_Bool (s.task == t))
+
+pub none_of_task : (trace : NamedTrace) (n : ℕ) (marks : List Bool) (t : ℕ) (stays : List Stay) → All (IsStay trace n) stays → AreMarked marks stays → get_or marks t false ≡ false → length (of_task t stays) ≡ 0
+none_of_task trace n marks t stays sound a f =
+    none_marked marks t stays a (All-weaker (IsStay trace n) (λ (x : Stay). x.first.task ≡ x.task) (λ x s. s.starts.handles.task) stays sound) f
+
+-- one more task is marked
+pub marked_more : (marks : List Bool) (stays : List Stay) (i : ℕ) (s : Stay) → i < length stays → s ≡ get_or stays i s → s.first.task < length marks → AreMarked marks (take i stays) → AreMarked (set marks s.first.task true) (take (i + 1) stays)
+marked_more marks stays i s l e small a =
+    All-more (Marked (set marks s.first.task true)) stays i s l
+    (All-weaker (Marked marks) (Marked (set marks s.first.task true)) still (take i stays) a)
+    (ap (λ (x : Stay). get_or (set marks s.first.task true) x.first.task false) (sym e) ∙ get_or-set_same marks s.first.task true false small)
+  where
+    still : (x : Stay) → Marked marks x → Marked (set marks s.first.task true) x
+    still x h = ⊎_elim
+        (λ (same : x.first.task ≡ s.first.task). ap (λ (u : ℕ). get_or (set marks s.first.task true) u false) same ∙ get_or-set_same marks s.first.task true false small)
+        (λ (other : x.first.task ≡ s.first.task → ⊥). get_or-set_other marks s.first.task x.first.task true false other ∙ h)
+        (cases_eq x.first.task s.first.task)
 
 pub no_groups : (trace : NamedTrace) → AreGroups trace 0 []
 no_groups trace = record {

@@ -13,7 +13,7 @@ use Rattle.hypothesis_index.specs.declared.bit_place.BitPlace.{BitPlace}
 use Rattle.hypothesis_index.specs.declared.relation.Relation.{Relation}
 use Rattle.hypothesis_index.specs.declared.relation.Relation.TheVariants.{Before, Exclusive, Apart, Pipe, Unshared}
 use Rattle.pipeline_tests.specs.DayLaws.{RowsClearRefuted, MetRowsSurvive, FullWordsSurvive, CommonLacks, CommonSurvives, OrderOfTracesIsFree, WidenedLacks, WidenedSurvive, SurvivorsAreUnique}
-use Rattle.pipeline_tests.specs.Rows.{AreWholeRows, IsRefutedPlace, IsWholeRow, LackRefuted}
+use Rattle.pipeline_tests.specs.Rows.{AreWholeRows, IsRefutedPlace, IsWholeRow}
 use Rattle.refute_tests.specs.Clearing.{HaveNamesBelow}
 use Rattle.trace_types.specs.declared.named_segment.NamedSegment.{NamedSegment}
 use Rattle.trace_types.specs.declared.named_trace.NamedTrace.{NamedTrace}

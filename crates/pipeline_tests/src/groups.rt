@@ -1,5 +1,5 @@
 ghost use Rattle.std.specs.Prelude.{◌≡◌, IfOk};
-ghost use Rattle.pipeline_tests.specs.inner.Groups.{AreGroups, of_task};
+ghost use Rattle.pipeline_tests.specs.inner.Groups.{AreGroups, AreMarked, of_task};
 
 use crate::stays::{Stay, stays_of};
 use std::alloc::{AllocError, Global};
@@ -25,6 +25,17 @@ fn stays_in(alloc: Global, stays: &[Stay], task: u32) -> Result<Vec<Stay>, Alloc
         .collect(alloc)
 }
 
+/// Marks the tasks that have a stay.
+fn mark_tasks(stays: &[Stay]) -> [bool; 64]
+    ensures { AreMarked result stays.now }
+{
+    let mut marks = [false; 64];
+    for stay in stays {
+        marks[stay.first.task as usize] = true;
+    }
+    marks
+}
+
 /// Groups the stays of a trace by task, the tasks rising. The only error is that memory ran out.
 pub(crate) fn by_task(alloc: Global, trace: &NamedTrace) -> Result<Vec<TaskStays>, AllocError>
     ensures { IfOk result (λ groups. AreGroups trace.now 64 groups.items) }
@@ -36,9 +47,10 @@ pub(crate) fn by_task(alloc: Global, trace: &NamedTrace) -> Result<Vec<TaskStays
     if none {
         return Ok(groups);
     }
+    let marks = mark_tasks(all);
     for task in 0..64 {
-        let own = stays_in(alloc, all, task)?;
-        if !own.is_empty() {
+        if marks[task as usize] {
+            let own = stays_in(alloc, all, task)?;
             groups.push(TaskStays { task, stays: own })?;
         }
     }

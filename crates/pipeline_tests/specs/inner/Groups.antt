@@ -1,5 +1,6 @@
 -- Stays by task.
-use Rattle.std.specs.Prelude.{◌≡◌, ℕ, ◌<◌, ◌==◌, List, length, filter, All, AllPairs}
+use Rattle.std.specs.Prelude.{◌≡◌, ℕ, ◌<◌, ◌==◌, Bool, true, false, List, length, filter}
+use Rattle.std.specs.Prelude.{All, AllPairs, slice_index_or}
 use Rattle.std.specs.List.{Contains}
 use Rattle.pipeline_tests.specs.declared.groups.TaskStays.{TaskStays}
 use Rattle.pipeline_tests.specs.declared.stays.Stay.{Stay}
@@ -12,6 +13,10 @@ use Rattle.trace_types.specs.declared.named_trace.NamedTrace.{NamedTrace}
 -- the stays of the task
 abbrev pub of_task : ℕ → List Stay → List Stay
 of_task task stays = filter (λ (s : Stay). s.task == task) stays
+
+-- the task of each stay's first segment is marked
+abbrev pub AreMarked : List Bool → List Stay → Type 0
+AreMarked marks stays = All (λ (s : Stay). slice_index_or marks s.first.task false ≡ true) stays
 
 -- it has the stays of its task with every element that the task handles in the trace
 pub record IsGroup (trace : NamedTrace) (g : TaskStays) : Type 0 where
