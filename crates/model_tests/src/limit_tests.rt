@@ -8,7 +8,7 @@ use std::test::Fail;
 use trace_types::Event;
 
 /// Makes a trace of one task with so many events, a microsecond apart.
-pub(crate) fn one_task(alloc: Global, count: u64) -> Result<Vec<Event>, AllocError> {
+fn one_task(alloc: Global, count: u64) -> Result<Vec<Event>, AllocError> {
     let mut events = Vec::new(alloc);
     for time in 0..count {
         let name = format!(in alloc; "e{time}")?;

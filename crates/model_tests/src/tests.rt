@@ -2,7 +2,7 @@ use crate::inputs::{are_below, cut_traces, name_traces};
 use crate::model_texts::relations_text;
 use crate::worked_inputs::{IN_ORDER, TURNED, page_load, push_request};
 use pipeline_tests::DaySheet;
-use std::alloc::{AllocError, Global};
+use std::alloc::Global;
 use std::rt::HostRuntime;
 use std::test::Fail;
 use trace_types::Event;
@@ -75,21 +75,16 @@ fn name_of(code: &str) -> &str {
     ""
 }
 
-/// The rows of the page load's model after the header, appended to a text.
-pub(crate) fn push_page_load_rows(text: &mut String) -> Result<(), AllocError> {
-    for (first, second) in &ORDERS {
-        for field in ["hb\t", name_of(first), "\t", name_of(second), "\n"] {
-            text.push_str(field)?;
-        }
-    }
-    text.push_str("pipe\tpage head\tdownload\n")
-}
-
 #[test]
 fn page_load_has_its_relations(rt: HostRuntime) -> Result<(), Fail> {
     let alloc = rt.alloc();
     let mut expected = String::new(alloc);
-    push_page_load_rows(&mut expected)?;
+    for (first, second) in &ORDERS {
+        for field in ["hb\t", name_of(first), "\t", name_of(second), "\n"] {
+            expected.push_str(field)?;
+        }
+    }
+    expected.push_str("pipe\tpage head\tdownload\n")?;
     let text = relations_of(alloc, page_load(alloc)?, 0);
     assert!(rt; text == Some(expected));
     Ok(())
