@@ -30,7 +30,7 @@ fn graph_of(alloc: Global, events: &[(&str, &str, u64)], grace: u64) -> Option<O
 }
 
 /// A segment, two that start at its end, and one that starts when the longer of these ends.
-pub(crate) const TWO_WAYS: [(&str, &str, u64); 8] = [
+const TWO_WAYS: [(&str, &str, u64); 8] = [
     ("a", "s", 0),
     ("a", "e", 5),
     ("b", "s", 5),

@@ -1,9 +1,6 @@
-//! Tests from the lines of an input to the printed relations, graphs, reports and forecasts, by
-//! public calls alone.
+//! Tests from the lines of an input to the printed relations and graphs, by public calls alone.
 #![tactic(auto)]
 
-#[cfg(test)]
-mod forecast_tests;
 #[cfg(test)]
 mod graph_tests;
 #[cfg(test)]
@@ -14,8 +11,6 @@ mod limit_tests;
 mod model_texts;
 #[cfg(test)]
 mod plain_tests;
-#[cfg(test)]
-mod report_tests;
 #[cfg(test)]
 mod tests;
 #[cfg(test)]
