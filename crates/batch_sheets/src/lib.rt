@@ -6,8 +6,6 @@ mod days;
 mod judging;
 mod naming;
 mod recording;
-#[cfg(test)]
-mod tests;
 
 pub use days::{DayTraces, list_days, split_by_day};
 pub use judging::{JudgedTraces, judge_batch};

@@ -7,9 +7,9 @@ use Rattle.trace_rows.proofs.numbered_book.NumberedBook.graph_of.Goals as goal
 pub returns-clause-graph : goal.returns-clause-graph
 returns-clause-graph c =
     let tell = subst (λ (b : NumberedBook). AreSurvivors (traces_in b) c.words.result.now) c.self.view_is c.words.ensures.survivors in
-    graph_told (traces_in c.args.self.now) _ _ _ _ _ _ c.new-model.ensures tell c.in_ok-made.ensures
+    graph_told (traces_in c.args.self.now) _ _ _ _ _ _ c.new-model.ensures tell c.in_ok-made.ensures.graph
 
 pub returns-clause-numbered : goal.returns-clause-numbered
 returns-clause-numbered c =
     let tell = subst (λ (b : NumberedBook). AreSurvivors (traces_in b) c.words.result.now) c.self.view_is c.words.ensures.survivors in
-    numbered_graph (traces_in c.args.self.now) _ _ _ _ c.requires (graph_told (traces_in c.args.self.now) _ _ _ _ _ _ c.new-model.ensures tell c.in_ok-made.ensures)
+    numbered_graph (traces_in c.args.self.now) _ _ _ _ c.requires (graph_told (traces_in c.args.self.now) _ _ _ _ _ _ c.new-model.ensures tell c.in_ok-made.ensures.graph)
