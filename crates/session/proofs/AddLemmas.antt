@@ -1,0 +1,95 @@
+-- What an add does to the state that a session shows, and what it prints.
+use Rattle.std.proofs.Common.{◌≡◌, ℕ, ◌<◌, ◌+◌, ◌*◌, List, [], ◌∷◌, length, map, Contains, refl, sym, ap, ◌∙◌, subst, arith}
+use Rattle.std.specs.List.{AllZip, flat_map}
+use Rattle.day_partitions.specs.Batches.{HasRoomFor, new_days, with_all}
+use Rattle.day_partitions.specs.Books.{BookState, all_traces}
+use Rattle.day_partitions.specs.declared.dated_sheet.DatedSheet.{DatedSheet}
+use Rattle.batch_sheets.specs.declared.recording.DayLines.{DayLines}
+use Rattle.kept_books.specs.BookLaws.{DaysAreCounted, GrownShows, SheetsShow}
+use Rattle.kept_books.specs.Shown.{AreShown}
+use Rattle.std.specs.Ordering.{nat_cmp}
+use Rattle.trace_types.specs.Listing.{ListsExactly}
+use Rattle.segment_names.specs.Known.{with_traces}
+use Rattle.segment_names.specs.Limits.{PassesLimit}
+use Rattle.segment_names.specs.declared.name_fault.NameFault.{NameFault}
+use Rattle.segment_names.specs.declared.name_fault.NameFault.TheVariants as names
+use Rattle.session_rules.specs.Batches.{AreJudged}
+use Rattle.session_rules.specs.KeptTraces.{Kept, day_of, days_of, kept_with, with_taken}
+use Rattle.session_rules.specs.Parts.{IsPart, Part, Refusals, refused_row, watch_row}
+use Rattle.session_rules.specs.Sessions.{Adds, PassesLimitOf, State, graced, kept_after, state_after, watch_parts}
+use Rattle.session_rules.specs.declared.limit.Limit.{Limit}
+use Rattle.session_rules.specs.declared.limit.Limit.TheVariants.{Names, Tasks, Days}
+use Rattle.session_rules.specs.declared.refused.Refused.{Refused}
+use Rattle.text_rows.specs.TextsOfParts.{AreTexts}
+use Rattle.trace_types.specs.declared.event.Event.{Event}
+use Rattle.trace_types.specs.declared.trace.Trace.{Trace}
+use Rattle.trace_types.specs.Batch.{traces_of}
+use Rattle.session.specs.SessionStates.{SessionState, Shows}
+use Rattle.session.specs.AddLaws.{IsAdded, added_text, day_text, session_after}
+use Rattle.session.specs.Sheets.{AreLinesOn, graced_by}
+
+-- ---- the text
+day_told : (every workers : ℕ) (kept : List Kept) (days : List ℕ) (watched : List DayLines) → AllZip (AreLinesOn every workers kept) days watched → AreTexts IsPart (watch_parts every workers kept days) (flat_map day_text watched)
+day_told every workers kept [] [] z = refl
+day_told every workers kept [] (w ∷ ws) z = absurd z
+day_told every workers kept (d ∷ ds) [] z = absurd z
+day_told every workers kept (d ∷ ds) (w ∷ ws) z = (
+  day_text w,
+  flat_map day_text ws,
+  record { lines = w.lines; are = z.0.lines; text = ap (λ e. flat_map (watch_row e) w.lines) z.0.same },
+  day_told every workers kept ds ws z.1,
+  refl,
+)
+
+abbrev parts_of : ℕ → ℕ → List Refused → List Kept → List ℕ → List Part
+parts_of every workers refused kept days = Refusals refused ∷ watch_parts every workers kept days
+
+pub told : (every workers : ℕ) (refused : List Refused) (kept : List Kept) (days : List ℕ) (watched : List DayLines) → AllZip (AreLinesOn every workers kept) days watched → AreTexts IsPart (parts_of every workers refused kept days) (added_text refused watched)
+told every workers refused kept days watched z = (flat_map refused_row refused, flat_map day_text watched, refl, day_told every workers kept days watched z, refl)
+
+module _ (grown : GrownShows) (shown : SheetsShow) (counted : DaysAreCounted) (old : SessionState) (s : State) (h : Shows old s) (wide : BookState) (valid : List Trace) (sheets : List DatedSheet) (watched : List DayLines) (a : IsAdded old wide valid sheets watched) where
+  same_graced : graced_by old.grace valid ≡ graced s valid
+  same_graced = ap (λ g. map (kept_with (1000 * g)) valid) h.grace
+
+  before_shown : AreShown (with_traces old.known valid) (all_traces wide.days) s.kept
+  before_shown = subst (λ ds. AreShown (with_traces old.known valid) (all_traces ds) s.kept) (sym a.days) (grown old.known valid (all_traces old.book.days) s.kept a.kept h.traces)
+
+  pub after_shown : AreShown (with_traces old.known valid) (all_traces (with_all wide sheets).days) (kept_after s valid)
+  after_shown = subst (λ k. AreShown (with_traces old.known valid) (all_traces (with_all wide sheets).days) (with_taken s.kept k)) same_graced
+      (shown (with_traces old.known valid) wide s.kept (graced_by old.grace valid) sheets a.recorded.named a.book before_shown a.recorded.shown a.recorded.parts)
+
+  pub after_days : length wide.days + new_days wide.days sheets ≡ length (days_of (kept_after s valid))
+  after_days =
+      counted (with_traces old.known valid) wide s.kept (graced_by old.grace valid) sheets a.recorded.named a.book before_shown a.recorded.shown a.recorded.parts
+      ∙ ap (λ k. length (days_of (with_taken s.kept k))) same_graced
+
+  pub no_name_limit : (fault : NameFault) → PassesLimit s.known valid fault → ⊥
+  no_name_limit = subst (λ k. (fault : NameFault) → PassesLimit k valid fault → ⊥) h.known a.none
+
+  pub adds : (events : List Event) (refused : List Refused) → AreJudged (traces_of events) valid refused → HasRoomFor wide sheets → Adds old.workers events s (parts_of s.watch old.workers refused (graced s valid) a.recorded.days) (state_after s valid)
+  adds events refused judged room = record {
+    valid = valid;
+    refused = refused;
+    judged = judged;
+    fits = fits;
+    after = refl;
+    days = a.recorded.days;
+    days_are = subst (λ k. ListsExactly nat_cmp (Contains (map day_of k)) a.recorded.days) same_graced a.recorded.days_are;
+    printed = refl;
+  }
+    where
+      fits : (limit : Limit) → PassesLimitOf s valid limit → ⊥
+      fits (Names count) p = no_name_limit (names.TooManyNames count) p
+      fits (Tasks count) p = no_name_limit (names.TooManyTasks count) p
+      fits (Days count) p = (let e = after_days in let few = room in let many = p.1 in absurd (omega (arith, e, few, many)))
+
+  pub shows_after : Shows (session_after old wide valid sheets) (state_after s valid)
+  shows_after = record {
+    known = ap (λ k. with_traces k valid) h.known;
+    watch = h.watch;
+    grace = h.grace;
+    traces = after_shown;
+  }
+
+  pub passes_days : (days : ℕ) → 64 < days → days ≡ length wide.days + new_days wide.days sheets → PassesLimitOf s valid (Days days)
+  passes_days days many is = (no_name_limit, (let e = after_days in omega (arith, e, many, is)), is ∙ after_days)

@@ -1,0 +1,4 @@
+mod AddLemmas
+mod KnownLemmas
+mod SheetLemmas
+mod SplitLemmas

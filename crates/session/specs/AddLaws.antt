@@ -1,0 +1,102 @@
+-- What holds of the traces of an add, over the definitions alone.
+use Rattle.std.specs.Prelude.{◌≡◌, ℕ, ◌+◌, ◌<◌, ◌≤◌, ◌++◌, ◌∷◌, List, All, length}
+use Rattle.std.specs.List.{AllZip, flat_map}
+use Rattle.batch_sheets.specs.declared.recording.DayLines.{DayLines}
+use Rattle.day_partitions.specs.Batches.{HasRoomFor, new_days, with_all}
+use Rattle.day_partitions.specs.Books.{BookState, IsBook}
+use Rattle.segment_names.specs.Limits.{PassesLimit}
+use Rattle.segment_names.specs.declared.name_fault.NameFault.{NameFault}
+use Rattle.session_rules.specs.KeptTraces.{Kept}
+use Rattle.session_rules.specs.Parts.{IsPart, Refusals, refused_row, watch_row}
+use Rattle.session_rules.specs.Sessions.{Adds, PassesLimitOf, State, graced, most_days, state_after}
+use Rattle.session_rules.specs.Sessions.{watch_parts}
+use Rattle.session_rules.specs.declared.limit.Limit.TheVariants.{Days}
+use Rattle.text_rows.specs.TextsOfParts.{AreTexts}
+use Rattle.session.specs.SessionStates.{SessionState, Shows}
+use Rattle.session.specs.Sheets.{AreLinesOn, AreSheets, graced_by}
+use Rattle.batch_sheets.specs.Named.{IsKnownTrace}
+use Rattle.day_partitions.specs.Batches.{trace_count}
+use Rattle.day_partitions.specs.declared.dated_sheet.DatedSheet.{DatedSheet}
+use Rattle.kept_books.specs.BookLaws.{AreSheetsOf}
+use Rattle.segment_names.specs.Known.{Known, with_traces}
+use Rattle.segment_names.specs.Limits.{IsKept}
+use Rattle.session_rules.specs.Batches.{AreJudged}
+use Rattle.session_rules.specs.declared.refused.Refused.{Refused}
+use Rattle.trace_types.specs.Batch.{requests_of, traces_of}
+use Rattle.trace_types.specs.declared.event.Event.{Event}
+use Rattle.trace_types.specs.declared.named_trace.NamedTrace.{NamedTrace}
+use Rattle.trace_types.specs.declared.trace.Trace.{Trace}
+
+-- each name of the traces is known once they are added
+abbrev pub ValidAreKnown : Type 0
+ValidAreKnown = (known : Known) (valid : List Trace)
+    → All (IsKnownTrace (with_traces known valid)) valid
+
+-- there are no fewer names then
+abbrev pub NamesGrow : Type 0
+NamesGrow = (known : Known) (valid : List Trace) → IsKept known
+    → length known.names ≤ length (with_traces known valid).names
+
+-- a batch has no more valid traces than requests
+abbrev pub NoMoreAreValid : Type 0
+NoMoreAreValid = (events : List Event) (valid : List Trace) (refused : List Refused)
+    → AreJudged (traces_of events) valid refused → length valid ≤ length (requests_of events)
+
+-- sheets of traces have no more traces than there are
+abbrev pub NoMoreAreSheeted : Type 0
+NoMoreAreSheeted = (named : List NamedTrace) (sheets : List DatedSheet)
+    → AreSheetsOf sheets named → trace_count sheets ≤ length named
+
+-- a session after an add of recorded sheets to its book, which was widened to its names then
+abbrev pub session_after : SessionState → BookState → List Trace → List DatedSheet → SessionState
+session_after old wide valid sheets = record {
+  workers = old.workers;
+  known = with_traces old.known valid;
+  book = with_all wide sheets;
+  watch = old.watch;
+  grace = old.grace;
+}
+
+-- the valid traces of a batch are recorded, no limit of names or tasks is passed, and the book has
+-- the days of the session's
+pub record IsAdded (old : SessionState) (wide : BookState) (valid : List Trace)
+    (sheets : List DatedSheet) (watched : List DayLines) : Type 0 where
+  pub kept : IsKept old.known
+  pub days : wide.days ≡ old.book.days
+  pub book : IsBook wide
+  pub none : (fault : NameFault) → PassesLimit old.known valid fault → ⊥
+  pub recorded : AreSheets (with_traces old.known valid) old.workers old.watch
+      (graced_by old.grace valid) sheets watched
+
+-- where the book has room for their days, an add of the sheets leads the session on as the
+-- definition of an add says
+abbrev pub AddLeadsOn : Type 0
+AddLeadsOn = (old : SessionState) (s : State) (events : List Event) (valid : List Trace)
+    (refused : List Refused) (wide : BookState) (sheets : List DatedSheet)
+    (watched : List DayLines) → Shows old s → (a : IsAdded old wide valid sheets watched)
+    → AreJudged (traces_of events) valid refused → HasRoomFor wide sheets
+    → Adds old.workers events s
+    (Refusals refused ∷ watch_parts s.watch old.workers (graced s valid) a.recorded.days)
+    (state_after s valid)
+    × Shows (session_after old wide valid sheets) (state_after s valid)
+
+-- where there would be too many days, the add passes the limit of days
+abbrev pub AddPassesDays : Type 0
+AddPassesDays = (old : SessionState) (s : State) (valid : List Trace) (wide : BookState)
+    (sheets : List DatedSheet) (watched : List DayLines) (days : ℕ) → Shows old s
+    → IsAdded old wide valid sheets watched → most_days < days
+    → days ≡ length wide.days + new_days wide.days sheets → PassesLimitOf s valid (Days days)
+
+-- the watch rows of a day, and the text of an add
+abbrev pub day_text : DayLines → List ℕ
+day_text watched = flat_map (watch_row watched.day) watched.lines
+
+abbrev pub added_text : List Refused → List DayLines → List ℕ
+added_text refused watched = flat_map refused_row refused ++ flat_map day_text watched
+
+-- the rows of the refused traces, and then the watch rows by day, are a text of the parts of an add
+abbrev pub AddIsTold : Type 0
+AddIsTold = (every workers : ℕ) (refused : List Refused) (kept : List Kept) (days : List ℕ)
+    (watched : List DayLines) → AllZip (AreLinesOn every workers kept) days watched
+    → AreTexts IsPart (Refusals refused ∷ watch_parts every workers kept days)
+    (added_text refused watched)

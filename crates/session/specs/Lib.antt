@@ -1,0 +1,3 @@
+pub mod AddLaws
+pub mod SessionStates
+pub mod Sheets

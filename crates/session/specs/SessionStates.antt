@@ -1,0 +1,33 @@
+-- What a contract sees of a session, and which state of the definition it shows.
+use Rattle.std.specs.Prelude.{◌≡◌, ℕ, ◌<◌, ◌≤◌, length}
+use Rattle.day_partitions.specs.Books.{BookState, all_traces}
+use Rattle.kept_books.specs.Shown.{AreShown}
+use Rattle.segment_names.specs.Known.{Known}
+use Rattle.session_rules.specs.Sessions.{State}
+
+-- how many workers it has, its catalogue, its book of days, after how many of a worker's traces a
+-- watch line is printed, and the grace of later adds in microseconds
+pub record SessionState : Type 0 where
+  pub workers : ℕ
+  pub known : Known
+  pub book : BookState
+  pub watch : ℕ
+  pub grace : ℕ
+
+-- the greatest grace, in microseconds: a second
+abbrev pub most_micros : ℕ
+most_micros = 1000000
+
+-- what every session keeps
+pub record IsSession (s : SessionState) : Type 0 where
+  pub some : 0 < s.workers
+  pub few : s.workers ≤ 64
+  pub names : s.book.names ≡ length s.known.names
+  pub within : s.grace ≤ most_micros
+
+-- the session has the state: the same names, watch number and grace, and in its book the kept traces
+pub record Shows (session : SessionState) (s : State) : Type 0 where
+  pub known : session.known ≡ s.known
+  pub watch : session.watch ≡ s.watch
+  pub grace : session.grace ≡ s.grace
+  pub traces : AreShown session.known (all_traces session.book.days) s.kept

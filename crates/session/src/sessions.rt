@@ -1,0 +1,61 @@
+ghost use Rattle.std.specs.Prelude.{◌≡◌, ◌<◌, ◌≤◌, IfOk};
+ghost use Rattle.session_rules.specs.Sessions.{first_state};
+ghost use Rattle.session.specs.SessionStates.{Shows};
+
+use day_partitions::DayBook;
+use segment_names::Catalogue;
+use std::alloc::{AllocError, Global};
+use std::marker::Model;
+
+/// A session: a catalogue that grows with each add, a book of days, the watch number and the grace
+/// of later adds, and how many workers share the traces of a day.
+#[derive(Drop)]
+pub struct Session {
+    pub(crate) alloc: Global,
+    pub(crate) workers: u32,
+    pub(crate) catalogue: Catalogue,
+    pub(crate) book: DayBook,
+    pub(crate) watch: u32,
+    pub(crate) grace: u32,
+}
+
+impl Model for Session {
+    ghost use Rattle.session.specs.SessionStates.{IsSession, SessionState};
+
+    ghost Value = { SessionState };
+
+    ghost view = { λ s. record {
+      workers = s.workers;
+      known = s.catalogue;
+      book = s.book;
+      watch = s.watch;
+      grace = s.grace;
+    } };
+
+    ghost invariant = { λ s. IsSession (record {
+      workers = s.workers;
+      known = s.catalogue;
+      book = s.book;
+      watch = s.watch;
+      grace = s.grace;
+    }) };
+}
+
+impl Session {
+    /// Starts a session without traces, for 1 to 64 workers. The only error is that memory ran out.
+    pub fn new(alloc: Global, workers: u32) -> Result<Session, AllocError>
+        requires some { 0 < workers }
+        requires few { workers ≤ 64 }
+        ensures workers { IfOk result (λ s. s.workers ≡ workers) }
+        ensures first { IfOk result (λ s. Shows s first_state) }
+    {
+        Ok(Session {
+            alloc,
+            workers,
+            catalogue: Catalogue::new(alloc),
+            book: DayBook::new(alloc, 0)?,
+            watch: 0,
+            grace: 0,
+        })
+    }
+}
