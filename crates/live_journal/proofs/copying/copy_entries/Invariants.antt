@@ -1,0 +1,8 @@
+use Rattle.std.proofs.Common.{◌≡◌, ◌≤◌, length, take, vec_capacity}
+use Rattle.live_journal.proofs.copying.copy_entries.Given as goal
+
+abbrev pub invariant-loop-entry : goal.invariant-loop-entry
+invariant-loop-entry l = record {
+  copied : l.copy.items ≡ take l.entry-index l.entries;
+  room : length l.entries ≤ vec_capacity l.copy;
+}

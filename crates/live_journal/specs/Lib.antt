@@ -1,0 +1,4 @@
+pub mod Replays
+pub mod Journals
+pub mod Faults
+pub mod inner
