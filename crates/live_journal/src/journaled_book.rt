@@ -115,6 +115,7 @@ impl JournaledBook {
         requires sheet { IsSheetOf self.old.names day sheet }
         requires most { length sheet.traces ≤ 429496 }
         ensures added { OnOk result (self.new ≡ with_entry self.old (Rolled day sheet.traces)) }
+        ensures journal { IsJournal self.new.entries }
         ensures position { IfOk result (λ position. position ≡ length self.old.entries) }
         ensures room { OnOk result (length self.old.entries < 10000) }
         ensures fits { OnOk result (IsOneTooMany (replay self.old.entries) day → ⊥) }
@@ -147,6 +148,7 @@ impl JournaledBook {
     /// an error the book is unchanged.
     pub fn drop_day(&mut self, day: u32) -> Result<u32, DeedFault>
         ensures added { OnOk result (self.new ≡ with_entry self.old (Dropped day)) }
+        ensures journal { IsJournal self.new.entries }
         ensures count { IfOk result (λ n. n ≡ dropped_by self.old.entries (Dropped day)) }
         ensures room { OnOk result (length self.old.entries < 10000) }
         ensures fault { IfErr result (IsDeedFault self.old.entries) }
@@ -162,6 +164,7 @@ impl JournaledBook {
     /// After an error the book is unchanged.
     pub fn keep_newest(&mut self, days: u32) -> Result<u32, DeedFault>
         ensures added { OnOk result (self.new ≡ with_entry self.old (Kept days)) }
+        ensures journal { IsJournal self.new.entries }
         ensures count { IfOk result (λ n. n ≡ dropped_by self.old.entries (Kept days)) }
         ensures room { OnOk result (length self.old.entries < 10000) }
         ensures fault { IfErr result (IsDeedFault self.old.entries) }

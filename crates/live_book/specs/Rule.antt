@@ -1,0 +1,85 @@
+-- The rule of a shared book: what holds between any two atomic steps of any threads.
+use Rattle.std.specs.Prelude.{◌≡◌, ℕ, ◌+◌, ◌^◌, ◌<◌, ◌≤◌, ◌⊎◌, Bool, false, cond, Option, Some, List, [], ◌∷◌, length, sum_by}
+use mathlib.Core.Option.{some}
+use mathlib.Core.List.{IsPrefix}
+use lib.ListN.{get_elem?}
+use Rattle.atomic_table.specs.Table.{State, Me}
+use Rattle.live_journal.specs.declared.entry.Entry.{Entry}
+use Rattle.live_journal.specs.Journals.{JournalState, journal}
+use Rattle.live_book.specs.declared.rule.Plan.{Plan}
+use Rattle.live_book.specs.declared.rule.Knowledge.{Knowledge}
+use Rattle.live_book.specs.declared.rule.Stage.{Stage}
+use Rattle.live_book.specs.declared.rule.Stage.TheVariants.{Resting, Waiting, InTurn, Seeing}
+use Rattle.live_book.specs.Views.{empty_view, has_ticket, holds, is_in_turn, times}
+
+-- the table as plain data, and one seat of it; the words are the tickets drawn, the ticket served
+-- and the number of entries, and the slot has the book
+abbrev pub TableState : Type 0
+TableState = State (Option JournalState) Knowledge
+
+abbrev pub SeatState : Type 0
+SeatState = Me (Option JournalState) Knowledge
+
+-- each caller has this property
+abbrev pub Each : (Knowledge → Type 0) → List Knowledge → Type 0
+Each F callers = (id : ℕ) (k : Knowledge) → get_elem? callers id ≡ some k → F k
+
+-- what is counted of each caller, together
+abbrev pub total : (Knowledge → ℕ) → List Knowledge → ℕ
+total f callers = sum_by f callers
+
+-- how many callers have this property
+abbrev pub callers_with : (Knowledge → Bool) → List Knowledge → ℕ
+callers_with p callers = total (λ k. cond (p k) 1 0) callers
+
+-- the caller carries the numbers of names and turns at opening, or was joined to another
+abbrev pub IsOpened : Plan → Knowledge → Type 0
+IsOpened plan k = ((k.names ≡ plan.names) × (k.all ≡ plan.turns)) ⊎ (k ≡ empty_view)
+
+-- a ticket is at least the one served and below those drawn; in turn it is the one served, and the
+-- found journal, and after the see the front, is the longest front
+abbrev pub IsStage : ℕ → ℕ → List Entry → List Entry → Stage → Type 0
+IsStage drawn served longest front Resting = Unit {0}
+IsStage drawn served longest front (Waiting ticket) = (served ≤ ticket) × (ticket < drawn)
+IsStage drawn served longest front (InTurn ticket found) =
+    (ticket ≡ served) × (ticket < drawn) × (found ≡ longest)
+IsStage drawn served longest front (Seeing ticket) =
+    (ticket ≡ served) × (ticket < drawn) × (front ≡ longest)
+
+-- some caller has this front
+pub record IsFront (callers : List Knowledge) (longest : List Entry) : Type 0 where
+  pub id : ℕ
+  pub caller : Knowledge
+  pub has : get_elem? callers id ≡ some caller
+  pub front : caller.front ≡ longest
+
+-- each of these fronts begins the longest
+abbrev pub AllBegin : List (List Entry) → List Entry → Type 0
+AllBegin [] longest = Unit {0}
+AllBegin (front ∷ fronts) longest = IsPrefix front longest × AllBegin fronts longest
+
+pub record IsLive (plan : Plan) (s : TableState) : Type 0 where
+  pub drawn : ℕ
+  pub served : ℕ
+  pub longest : List Entry
+  pub words : s.words ≡ drawn ∷ served ∷ length longest ∷ []
+  -- the turns that callers have left and the tickets drawn are the turns at opening
+  pub turns : total (λ k. k.turns) s.views + drawn ≡ plan.turns
+  pub fits : plan.turns < 2 ^ 64
+  pub opened : Each (IsOpened plan) s.views
+  -- each ticket that was served was passed on once
+  pub passes : total (λ k. k.passes) s.views ≡ served
+  -- the tickets held are different, and as many as were drawn and not served
+  pub differ : (ticket : ℕ) → callers_with (λ k. holds ticket k.stage) s.views ≤ 1
+  pub held : served + callers_with (λ k. has_ticket k.stage) s.views ≡ drawn
+  pub stages : Each (λ k. IsStage drawn served longest k.front k.stage) s.views
+  -- each front, and each that a caller has heard of, begins the longest
+  pub fronts : Each (λ k. IsPrefix k.front longest) s.views
+  pub heard : Each (λ k. AllBegin k.heard longest) s.views
+  pub is_front : IsFront s.views longest
+  -- no position stands twice, in one view or in two, and none is past the entries
+  pub once : (position : ℕ) → total (times position) s.views ≤ 1
+  pub below : (position : ℕ) → length longest ≤ position → total (times position) s.views ≡ 0
+  -- where no view is in its turn, the book is in its slot, and its journal is the longest front
+  pub home : Each (λ k. is_in_turn k.stage ≡ false) s.views
+      → s.homes ≡ some (Some (journal plan.names longest)) ∷ []

@@ -1,0 +1,40 @@
+//! A shared book of days: callers on many threads roll sheets into it, drop days, ask for the
+//! relations that survive, and read its journal.
+//!
+//! The book with its journal stands in the one slot of a table, beside three words: the tickets
+//! drawn, the ticket served and the number of entries. A call draws a ticket, waits until it is the
+//! one served, takes the book out of the slot, and brings it back before it passes its turn on. The
+//! rule of the table is `IsLive` (specs/Rule.antt); it holds between any two atomic steps of any
+//! threads.
+//!
+//! A caller's front is the journal as far as it has seen it. After each of the five calls that wait
+//! it is the whole journal as the call left it, and it begins with the front before. So the fronts
+//! of two callers that were joined tell one story, and what a caller is told is the replay of its
+//! front.
+//!
+//! What a program has to know:
+//!
+//! - A caller that is dropped keeps its turns out: no other caller can make those calls.
+//! - A thread that dies in its turn stops all others: they wait for a turn that is never passed on.
+//! - No order is promised between callers that were never joined, and no progress: no contract says
+//!   that a turn ever comes.
+#![tactic(auto)]
+
+mod asking;
+mod callers;
+mod dropping;
+mod journals;
+mod live_book;
+mod plays;
+mod rolling;
+mod rule;
+mod sharing;
+mod single_steps;
+#[cfg(test)]
+mod tests;
+mod turns;
+
+pub use callers::Caller;
+pub use live_book::LiveBook;
+pub use live_journal::{DeedFault, Entry, RollFault};
+pub use rule::{Knowledge, OneJournal, Plan, Stage};
