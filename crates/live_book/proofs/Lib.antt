@@ -4,3 +4,4 @@ pub mod StageLemmas
 pub mod StepLemmas
 pub mod AllowLemmas
 pub mod TurnLemmas
+pub mod LawLemmas

@@ -24,14 +24,19 @@ mod asking;
 mod callers;
 mod dropping;
 mod journals;
+pub mod laws;
 mod live_book;
 mod plays;
 mod rolling;
 mod rule;
+#[cfg(test)]
+mod service_tests;
 mod sharing;
 mod single_steps;
 #[cfg(test)]
 mod tests;
+#[cfg(test)]
+mod thread_tests;
 mod turns;
 
 pub use callers::Caller;

@@ -1,0 +1,293 @@
+ghost use Rattle.std.specs.Prelude.{◌≡◌, ◌≢◌, ◌<◌, ◌≤◌, ◌≤ℤ◌, length, IfOk, None};
+ghost use Rattle.refute_tests.specs.Clearing.{HaveNamesBelow};
+ghost use Rattle.day_partitions.specs.Books.{IsSheetOf};
+ghost use Rattle.live_book.specs.Callers.{IsOf};
+
+use crate::{Caller, DeedFault, Entry, LiveBook, RollFault};
+use hypothesis_index::width;
+use pipeline_tests::DaySheet;
+use std::alloc::{AllocError, Global};
+use std::sync::Wait;
+use std::test::Fail;
+use trace_types::{NamedSegment, NamedSegmentList, NamedTrace, Text};
+
+pub(crate) const FULL: u64 = u64::MAX;
+/// The last word of two names when a touching trace is kept.
+pub(crate) const TOUCHED: u64 = 0xffff_ffff_ffff_fff5;
+
+/// Makes a segment that is alone in its task and has no element.
+fn segment(name: u32, start: i64, end: i64) -> NamedSegment
+    requires name { name ≤ 1 }
+    requires ordered { start ≤ℤ end }
+    ensures name { result.name ≡ name }
+    ensures task { result.task ≡ name }
+    ensures element { result.element ≡ None }
+{
+    NamedSegment {
+        name,
+        task: name,
+        element: None,
+        start,
+        end,
+    }
+}
+
+/// Makes a trace of the day with two such segments.
+fn pair(
+    alloc: Global,
+    day: u32,
+    first: NamedSegment,
+    second: NamedSegment,
+) -> Result<NamedTrace, AllocError>
+    requires names { first.name ≢ second.name }
+    requires below { (first.name < 2) × (second.name < 2) }
+    requires tasks { first.task ≢ second.task }
+    requires one { first.element ≡ None }
+    requires other { second.element ≡ None }
+    ensures day { IfOk result (λ t. t.day ≡ day) }
+    ensures named { IfOk result (HaveNamesBelow 2) }
+{
+    let request = Text::new(alloc, "r1")?;
+    let segments = Vec::from_array(alloc, [first, second])?;
+    Ok(NamedTrace {
+        request,
+        day,
+        latency: 30,
+        grace: 0,
+        segments: NamedSegmentList::of(segments),
+    })
+}
+
+/// Makes a trace in which segment 0 ends where segment 1 starts, or one in which segment 1 comes
+/// first.
+pub(crate) fn trace_of(alloc: Global, day: u32, touching: bool) -> Result<NamedTrace, AllocError>
+    ensures day { IfOk result (λ t. t.day ≡ day) }
+    ensures named { IfOk result (HaveNamesBelow 2) }
+{
+    if touching {
+        return pair(alloc, day, segment(0, 0, 10), segment(1, 10, 30));
+    }
+    pair(alloc, day, segment(1, 0, 5), segment(0, 5, 9))
+}
+
+/// Makes the sheet of one such trace.
+pub(crate) fn sheet_of(alloc: Global, day: u32, touching: bool) -> Result<DaySheet, AllocError>
+    ensures sheet { IfOk result (IsSheetOf 2 day) }
+    ensures one { IfOk result (λ d. length d.traces ≡ 1) }
+{
+    let trace = trace_of(alloc, day, touching)?;
+    let traces = Vec::from_array(alloc, [trace])?;
+    DaySheet::plain(alloc, traces, 2)
+}
+
+/// Rolls a sheet of one trace. Gives nothing where no turn or no memory is left, as the calls below.
+pub(crate) fn roll<R: Wait>(
+    rt: &R,
+    alloc: Global,
+    book: &LiveBook,
+    caller: &mut Caller,
+    day: u32,
+    touching: bool,
+) -> Option<Result<u32, RollFault>>
+    requires names { book.now.names ≡ 2 }
+    requires of { IsOf book.now caller.old }
+    ensures of { IsOf book.now caller.new }
+{
+    let sheet = sheet_of(alloc, day, touching).ok()?;
+    if caller.turns() == 0 {
+        return None;
+    }
+    Some(book.roll(rt, caller, day, sheet))
+}
+
+/// Drops a day.
+pub(crate) fn drop_day<R: Wait>(
+    rt: &R,
+    book: &LiveBook,
+    caller: &mut Caller,
+    day: u32,
+) -> Option<Result<u32, DeedFault>>
+    requires of { IsOf book.now caller.old }
+    ensures of { IsOf book.now caller.new }
+{
+    if caller.turns() == 0 {
+        return None;
+    }
+    Some(book.drop_day(rt, caller, day))
+}
+
+/// Keeps so many of the newest days.
+pub(crate) fn keep<R: Wait>(
+    rt: &R,
+    book: &LiveBook,
+    caller: &mut Caller,
+    days: u32,
+) -> Option<Result<u32, DeedFault>>
+    requires of { IsOf book.now caller.old }
+    ensures of { IsOf book.now caller.new }
+{
+    if caller.turns() == 0 {
+        return None;
+    }
+    Some(book.keep_newest(rt, caller, days))
+}
+
+/// Asks for the words of two names.
+pub(crate) fn ask<R: Wait>(
+    rt: &R,
+    alloc: Global,
+    book: &LiveBook,
+    caller: &mut Caller,
+) -> Option<Vec<u64>>
+    requires names { book.now.names ≡ 2 }
+    requires of { IsOf book.now caller.old }
+    ensures of { IsOf book.now caller.new }
+{
+    let mut words = Vec::from_elem(alloc, 0u64, width(2) as usize).ok()?;
+    if caller.turns() == 0 {
+        return None;
+    }
+    book.ask(rt, caller, words.as_mut_slice());
+    Some(words)
+}
+
+/// Reads the journal from a position on.
+pub(crate) fn read<R: Wait>(
+    rt: &R,
+    book: &LiveBook,
+    caller: &mut Caller,
+    from: u32,
+) -> Option<Vec<Entry>>
+    requires of { IsOf book.now caller.old }
+    ensures of { IsOf book.now caller.new }
+{
+    if caller.turns() == 0 {
+        return None;
+    }
+    book.journal(rt, caller, from).ok()
+}
+
+/// The kind of an entry as a letter, its number, and how many traces it has.
+pub(crate) fn row_of(entry: &Entry) -> (char, u32, usize) {
+    match entry {
+        Entry::Rolled { day, traces } => ('r', *day, traces.items().len()),
+        Entry::Dropped { day } => ('d', *day, 0),
+        Entry::Kept { days } => ('k', *days, 0),
+    }
+}
+
+/// The name, the start and the end of each segment of an entry's first trace.
+fn segments_of(alloc: Global, entry: &Entry) -> Result<Vec<(u32, i64, i64)>, AllocError> {
+    let mut rows = Vec::new(alloc);
+    let Entry::Rolled { traces, .. } = entry else {
+        return Ok(rows);
+    };
+    let Some(trace) = traces.items().first() else {
+        return Ok(rows);
+    };
+    for segment in trace.segments.items() {
+        rows.push((segment.name, segment.start, segment.end))?;
+    }
+    Ok(rows)
+}
+
+#[test]
+fn a_rolled_day_is_dropped_by_another_caller(rt: HostRuntime) -> Result<(), Fail> {
+    let alloc = rt.alloc();
+    let (book, mut first) = LiveBook::open(alloc, 2, 20)?;
+    let Some(Ok(0)) = roll(&rt, alloc, &book, &mut first, 0, true) else {
+        return Err(Fail::from("not rolled"));
+    };
+    let mut second = book.split(&mut first, 5);
+    assert_eq!(rt; (first.turns(), second.turns()), (14, 5));
+    let Some(Ok(1)) = drop_day(&rt, &book, &mut second, 0) else {
+        return Err(Fail::from("not dropped"));
+    };
+    let Some(words) = ask(&rt, alloc, &book, &mut first) else {
+        return Err(Fail::from("not asked"));
+    };
+    assert_eq!(rt; words.len(), 127);
+    assert!(rt; words.iter().all(|word| *word == FULL));
+    book.join(&mut first, second);
+    let Some(entries) = read(&rt, &book, &mut first, 0) else {
+        return Err(Fail::from("not read"));
+    };
+    assert_eq!(rt; entries.len(), 2);
+    assert_eq!(rt; row_of(&entries[0]), ('r', 0, 1));
+    assert_eq!(rt; row_of(&entries[1]), ('d', 0, 0));
+    let segments = segments_of(alloc, &entries[0])?;
+    assert_eq!(rt; segments.len(), 2);
+    assert_eq!(rt; (segments[0], segments[1]), ((0, 0, 10), (1, 10, 30)));
+    assert_eq!(rt; first.turns(), 16);
+    Ok(())
+}
+
+#[test]
+fn a_65th_day_is_told_and_its_sheet_comes_back(rt: HostRuntime) -> Result<(), Fail> {
+    let alloc = rt.alloc();
+    let (book, mut caller) = LiveBook::open(alloc, 2, 100)?;
+    'days: for day in 0..64u32 {
+        let Some(Ok(position)) = roll(&rt, alloc, &book, &mut caller, day, true) else {
+            return Err(Fail::from("not rolled"));
+        };
+        assert_eq!(rt; position, day);
+    }
+    let Some(Err(RollFault::TooManyDays { sheet, days })) = roll(
+        &rt,
+        alloc,
+        &book,
+        &mut caller,
+        64,
+        true,
+    ) else {
+        return Err(Fail::from("rolled"));
+    };
+    assert_eq!(rt; (days, sheet.traces().len()), (65, 1));
+    let Some(Ok(64)) = roll(&rt, alloc, &book, &mut caller, 3, false) else {
+        return Err(Fail::from("not rolled"));
+    };
+    assert_eq!(rt; caller.turns(), 34);
+    Ok(())
+}
+
+#[test]
+fn an_entry_past_the_last_is_told(rt: HostRuntime) -> Result<(), Fail> {
+    let alloc = rt.alloc();
+    let (book, mut caller) = LiveBook::open(alloc, 2, 10_010)?;
+    let Some(Ok(0)) = roll(&rt, alloc, &book, &mut caller, 7, true) else {
+        return Err(Fail::from("not rolled"));
+    };
+    'entries: for _ in 0..9_999u32 {
+        let Some(Ok(0)) = keep(&rt, &book, &mut caller, 64) else {
+            return Err(Fail::from("not kept"));
+        };
+    }
+    let Some(Err(DeedFault::JournalFull { entries })) = drop_day(&rt, &book, &mut caller, 7) else {
+        return Err(Fail::from("dropped"));
+    };
+    assert_eq!(rt; entries, 10_000);
+    let Some(Err(RollFault::JournalFull { sheet, entries })) = roll(
+        &rt,
+        alloc,
+        &book,
+        &mut caller,
+        8,
+        true,
+    ) else {
+        return Err(Fail::from("rolled"));
+    };
+    assert_eq!(rt; (entries, sheet.traces().len()), (10_000, 1));
+    assert_eq!(rt;
+        read(&rt, &book, &mut caller, 9_999).map(|entries| entries.len()),
+        Some(1)
+    );
+    assert_eq!(rt;
+        read(&rt, &book, &mut caller, 10_001).map(|entries| entries.len()),
+        Some(0)
+    );
+    assert_eq!(rt;
+        ask(&rt, alloc, &book, &mut caller).map(|words| words[126]),
+        Some(TOUCHED)
+    );
+    Ok(())
+}

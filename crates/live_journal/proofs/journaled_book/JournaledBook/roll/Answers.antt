@@ -8,12 +8,12 @@ use Rattle.live_journal.proofs.journaled_book.JournaledBook.roll.Goals as goal
 
 pub add-requires-clause-counted : goal.add-requires-clause-counted
 add-requires-clause-counted c =
-    let few : length c.self.inside.entries.items < 10000 = (let most = c.self.invariant.journal.few in omega (arith, c.if-entries-eq10000.false)) in
+    let few : length c.self.inside.entries.items < 10000 = (let most = c.self.invariant.journal.few in omega arith) in
     room_for c.self.inside.book.days c.self.inside.entries.items (length c.args.sheet.traces) c.self.invariant.days c.self.invariant.journal few c.requires.most
 
 pub invariant_of-self-2 : goal.invariant_of-self-2
 invariant_of-self-2 c =
-    let few : length c.self.inside.entries.items < 10000 = (let most = c.self.invariant.journal.few in omega (arith, c.if-entries-eq10000.false)) in
+    let few : length c.self.inside.entries.items < 10000 = (let most = c.self.invariant.journal.few in omega arith) in
     let same : c.in-Ok.traces ≡ c.args.sheet.traces = c.in-Ok.ensures ∙ c.traces.ensures in
     let e : Entry = Rolled c.args.day c.args.sheet.traces in
     grown c.self.inside.book c.add.new.self c.self.inside.entries.items c.push_reserved.new.self.items e c.self.invariant
