@@ -34,9 +34,9 @@ pub positions_differ : PositionsDiffer
 positions_differ plan s i j p k l h a b = ⊎_elim
     (λ (t : j ≡ i). t)
     (λ (t : j ≢ i).
-        let one : total (times p) s.views ≤ 1 = h.live.once p in
-        let less : total (times p) (set s.views i empty_view) + times p k ≡ total (times p) s.views + 0 = total_set (times p) s.views i k empty_view h.first in
-        let most = total_at (times p) (set s.views i empty_view) j l (set_else s.views i j empty_view t ∙ h.second) in absurd (omega arith))
+    let one : total (times p) s.views ≤ 1 = h.live.once p in
+    let less : total (times p) (set s.views i empty_view) + times p k ≡ total (times p) s.views + 0 = total_set (times p) s.views i k empty_view h.first in
+    let most = total_at (times p) (set s.views i empty_view) j l (set_else s.views i j empty_view t ∙ h.second) in absurd (omega arith))
     (cases_eq j i)
 
 pub positions_stand : PositionsStand

@@ -29,8 +29,6 @@ mod live_book;
 mod plays;
 mod rolling;
 mod rule;
-#[cfg(test)]
-mod service_tests;
 mod sharing;
 mod single_steps;
 #[cfg(test)]

@@ -191,6 +191,36 @@ fn segments_of(alloc: Global, entry: &Entry) -> Result<Vec<(u32, i64, i64)>, All
     Ok(rows)
 }
 
+/// Rolls a sheet of each of 64 days. Answers whether each was rolled and stands at its position.
+fn roll_days<R: Wait>(rt: &R, alloc: Global, book: &LiveBook, caller: &mut Caller) -> bool
+    requires names { book.now.names ≡ 2 }
+    requires of { IsOf book.now caller.old }
+    ensures of { IsOf book.now caller.new }
+{
+    'days: for day in 0..64u32 {
+        let Some(Ok(position)) = roll(rt, alloc, book, caller, day, true) else {
+            return false;
+        };
+        if position != day {
+            return false;
+        }
+    }
+    true
+}
+
+/// Keeps the newest 64 days 9,999 times. Answers whether no trace was dropped.
+fn keep_often<R: Wait>(rt: &R, book: &LiveBook, caller: &mut Caller) -> bool
+    requires of { IsOf book.now caller.old }
+    ensures of { IsOf book.now caller.new }
+{
+    'keeps: for _ in 0..9_999u32 {
+        let Some(Ok(0)) = keep(rt, book, caller, 64) else {
+            return false;
+        };
+    }
+    true
+}
+
 #[test]
 fn a_rolled_day_is_dropped_by_another_caller(rt: HostRuntime) -> Result<(), Fail> {
     let alloc = rt.alloc();
@@ -198,6 +228,9 @@ fn a_rolled_day_is_dropped_by_another_caller(rt: HostRuntime) -> Result<(), Fail
     let Some(Ok(0)) = roll(&rt, alloc, &book, &mut first, 0, true) else {
         return Err(Fail::from("not rolled"));
     };
+    if first.turns() < 5 {
+        return Err(Fail::from("too few turns"));
+    }
     let mut second = book.split(&mut first, 5);
     assert_eq!(rt; (first.turns(), second.turns()), (14, 5));
     let Some(Ok(1)) = drop_day(&rt, &book, &mut second, 0) else {
@@ -226,12 +259,7 @@ fn a_rolled_day_is_dropped_by_another_caller(rt: HostRuntime) -> Result<(), Fail
 fn a_65th_day_is_told_and_its_sheet_comes_back(rt: HostRuntime) -> Result<(), Fail> {
     let alloc = rt.alloc();
     let (book, mut caller) = LiveBook::open(alloc, 2, 100)?;
-    'days: for day in 0..64u32 {
-        let Some(Ok(position)) = roll(&rt, alloc, &book, &mut caller, day, true) else {
-            return Err(Fail::from("not rolled"));
-        };
-        assert_eq!(rt; position, day);
-    }
+    assert!(rt; roll_days(&rt, alloc, &book, &mut caller));
     let Some(Err(RollFault::TooManyDays { sheet, days })) = roll(
         &rt,
         alloc,
@@ -257,11 +285,7 @@ fn an_entry_past_the_last_is_told(rt: HostRuntime) -> Result<(), Fail> {
     let Some(Ok(0)) = roll(&rt, alloc, &book, &mut caller, 7, true) else {
         return Err(Fail::from("not rolled"));
     };
-    'entries: for _ in 0..9_999u32 {
-        let Some(Ok(0)) = keep(&rt, &book, &mut caller, 64) else {
-            return Err(Fail::from("not kept"));
-        };
-    }
+    assert!(rt; keep_often(&rt, &book, &mut caller));
     let Some(Err(DeedFault::JournalFull { entries })) = drop_day(&rt, &book, &mut caller, 7) else {
         return Err(Fail::from("dropped"));
     };
@@ -285,9 +309,9 @@ fn an_entry_past_the_last_is_told(rt: HostRuntime) -> Result<(), Fail> {
         read(&rt, &book, &mut caller, 10_001).map(|entries| entries.len()),
         Some(0)
     );
-    assert_eq!(rt;
-        ask(&rt, alloc, &book, &mut caller).map(|words| words[126]),
-        Some(TOUCHED)
-    );
+    let Some(words) = ask(&rt, alloc, &book, &mut caller) else {
+        return Err(Fail::from("not asked"));
+    };
+    assert_eq!(rt; words.get(126).copied(), Some(TOUCHED));
     Ok(())
 }
