@@ -75,8 +75,8 @@ pub record TakesIn (before other now : CallerState) : Type 0 where
   pub once : (position : ℕ) → count_by (λ (p : ℕ). p == position) now.positions ≤ 1
   pub most : now.turns ≤ now.all
 
--- the caller had one turn and passed it on, in which it has seen the whole journal, its front then;
--- the front before begins it
+-- the caller spent one turn and passed it on; its front begins with the front before, and is a
+-- journal
 pub record HasTurn (before now : CallerState) : Type 0 where
   pub same : record before {
     turns = now.turns;

@@ -3,7 +3,7 @@ use std::marker::Model;
 
 /// One who may use a shared book, from one thread at a time. Contracts see of which book it is, the
 /// calls that it may still make, the journal as far as it has seen it, and the positions of its own
-/// entries. A caller that is dropped keeps its turns out.
+/// entries. Dropping a caller does not return its turns.
 #[derive(Drop)]
 pub struct Caller {
     pub(crate) seat: BookSeat,

@@ -3,8 +3,8 @@
 ghost use Rattle.live_book.specs.Laws.{FrontsAgree, OneIsInTurn, PositionsDiffer, PositionsStand, TicketsDiffer};
 
 /// Between any two atomic steps of any threads, of any two fronts one is a prefix of the other, no
-/// two callers hold one ticket or are in their turn, and no position stands twice or past the
-/// entries.
+/// two callers hold one ticket or are in their turn, no two have one position, and none stands
+/// past the entries.
 pub fn rule_says()
     ensures fronts { FrontsAgree }
     ensures tickets { TicketsDiffer }

@@ -8,13 +8,13 @@
 //! threads.
 //!
 //! A caller's front is the journal as far as it has seen it. After each of the five calls that wait
-//! it is the whole journal as the call left it, and it begins with the front before. So the fronts
-//! of two callers that were joined tell one story, and what a caller is told is the replay of its
-//! front.
+//! it begins with the front before, and what the caller is told is the replay of its front. That it
+//! is then the whole journal as the call left it follows from the kinds of step, which no call can
+//! pass over; no clause of a call says so.
 //!
 //! What a program has to know:
 //!
-//! - A caller that is dropped keeps its turns out: no other caller can make those calls.
+//! - Dropping a caller does not return its turns: no other caller can make those calls.
 //! - A thread that dies in its turn stops all others: they wait for a turn that is never passed on.
 //! - No order is promised between callers that were never joined, and no progress: no contract says
 //!   that a turn ever comes.
