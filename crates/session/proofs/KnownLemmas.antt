@@ -155,3 +155,26 @@ valid_few events valid refused j =
     let c = zip_long IsJudged (traces_of events) j.verdicts j.each in
     let d = length-map (requests_of events) (trace_of events) in
     omega (arith, a, b, c, d)
+
+few_filter : {X : Type 0} (p : X → Bool) (xs : List X) → length (filter p xs) ≤ length xs
+few_filter p [] = omega arith
+few_filter p (x ∷ xs) =
+    let rest = few_filter p xs in
+    elim (cases_Bool (p x)) [
+      | inl good ↦ let e = ap length (cond-true (p x) (x ∷ filter p xs) (filter p xs) good) in omega (arith, e, rest)
+      | inr bad ↦ let e = ap length (cond-false (p x) (x ∷ filter p xs) (filter p xs) bad) in omega (arith, e, rest)
+    ]
+
+few_firsts : {X : Type 0} (same : X → X → Bool) (xs : List X) → length (firsts_of same xs) ≤ length xs
+few_firsts same [] = omega arith
+few_firsts same (x ∷ xs) =
+    let fewer = few_filter (λ y. not (same x y)) (firsts_of same xs) in
+    let rest = few_firsts same xs in
+    omega (arith, fewer, rest)
+
+-- events have no more requests than there are events
+pub requests_few : (events : List Event) → length (requests_of events) ≤ length events
+requests_few events =
+    let few = few_firsts bytes_eq (map (λ (e : Event). e.request) events) in
+    let long = length-map events (λ (e : Event). e.request) in
+    omega (arith, few, long)

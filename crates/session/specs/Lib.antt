@@ -1,3 +1,5 @@
 pub mod AddLaws
+pub mod Carrying
 pub mod SessionStates
 pub mod Sheets
+pub mod inner

@@ -1,13 +1,27 @@
-//! A session: the jobs of the lines of an input, the state that a session starts in, and how the
-//! traces of a batch are recorded. No call carries out a whole job yet.
+//! A session: the jobs of the lines of an input, the state that a session starts in, and
+//! `Session::command`, which carries out one job and writes its text. An add cuts a batch of events
+//! into traces, names them, records them by many workers and adds their days to the book, all or
+//! none; the other commands drop days, set a number or print what the kept traces leave.
 #![tactic(auto)]
 
+mod add_fault;
+mod added_text;
+mod adding;
 mod batch_records;
+mod command_fault;
+mod commands;
+mod controls;
 mod job_list;
 pub mod laws;
+mod session_part;
 mod sessions;
+mod views;
 
 pub use batch_records::record_batch;
+pub use command_fault::CommandFault;
 pub use job_list::jobs;
 pub use session_rules::Job;
 pub use sessions::Session;
+
+#[cfg(test)]
+mod tests;

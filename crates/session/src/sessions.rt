@@ -1,5 +1,6 @@
 ghost use Rattle.std.specs.Prelude.{◌≡◌, ◌<◌, ◌≤◌, IfOk};
 ghost use Rattle.session_rules.specs.Sessions.{first_state};
+ghost use Rattle.session.specs.Carrying.{kept_count};
 ghost use Rattle.session.specs.SessionStates.{Shows};
 
 use day_partitions::DayBook;
@@ -57,5 +58,12 @@ impl Session {
             watch: 0,
             grace: 0,
         })
+    }
+
+    /// Returns how many traces are kept.
+    pub fn trace_count(&self) -> u32
+        ensures { result ≡ kept_count self.now }
+    {
+        self.book.trace_count()
     }
 }

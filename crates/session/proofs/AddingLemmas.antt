@@ -1,0 +1,101 @@
+-- The steps of an add: its names, its days, and why one is not taken.
+use Rattle.std.proofs.Common.{◌≡◌, ℕ, ◌+◌, ◌*◌, ◌<◌, ◌≤◌, List, ◌∷◌, length, map, refl, sym, ap, ◌∙◌, subst, arith}
+use Rattle.std.specs.List.{AllZip}
+use Rattle.batch_sheets.specs.declared.recording.DayLines.{DayLines}
+use Rattle.day_partitions.specs.Batches.{IsBatchFault, with_all}
+use Rattle.day_partitions.specs.Books.{BookState, IsBook, with_names}
+use Rattle.day_partitions.specs.declared.add_all_fault.AddAllFault.{AddAllFault}
+use Rattle.day_partitions.specs.declared.add_all_fault.AddAllFault.TheVariants as sheeting
+use Rattle.day_partitions.specs.declared.dated_sheet.DatedSheet.{DatedSheet}
+use Rattle.segment_names.specs.Known.{Known, with_traces}
+use Rattle.segment_names.specs.Limits.{HasCause, IsKept, PassesLimit}
+use Rattle.segment_names.specs.declared.name_fault.NameFault.{NameFault}
+use Rattle.segment_names.specs.declared.name_fault.NameFault.TheVariants as names
+use Rattle.session_rules.specs.Batches.{AreJudged}
+use Rattle.session_rules.specs.KeptTraces.{Kept, kept_with}
+use Rattle.session_rules.specs.Parts.{Refusals}
+use Rattle.session_rules.specs.Sessions.{State, graced, state_after, watch_parts}
+use Rattle.session_rules.specs.declared.limit.Limit.TheVariants.{Names, Tasks, Days}
+use Rattle.session_rules.specs.declared.refused.Refused.{Refused}
+use Rattle.trace_types.specs.Batch.{traces_of}
+use Rattle.trace_types.specs.declared.event.Event.{Event}
+use Rattle.trace_types.specs.declared.trace.Trace.{Trace}
+use Rattle.session.specs.AddLaws.{AddIsTold, AddLeadsOn, AddPassesDays, IsAdded, session_after}
+use Rattle.session.specs.SessionStates.{SessionState, Shows}
+use Rattle.session.specs.Sheets.{AreLinesOn, AreSheets, graced_by}
+use Rattle.session.specs.declared.add_fault.AddFault.{AddFault}
+use Rattle.session.specs.declared.add_fault.AddFault.TheVariants.{Memory, Over}
+use Rattle.session.specs.inner.AddFaults.{HasAddCause, HasNamesCause, fault_of_names, fault_of_sheets}
+use Rattle.session.specs.inner.AddSteps.{AreBooked, AreNamed, HasDaysCause, IsAddOf, PassDays}
+use Rattle.session.specs.inner.Changes.{session_with_book, session_with_names}
+
+-- why names are not added
+pub names_cause : (fault : NameFault) (known : Known) (valid : List Trace) → HasCause (PassesLimit known valid) fault → HasNamesCause known valid (fault_of_names fault)
+names_cause names.Memory known valid h = h
+names_cause (names.TooManyNames count) known valid h = h
+names_cause (names.TooManyTasks count) known valid h = h
+
+-- why days are not added
+pub days_cause : (fault : AddAllFault) (old : SessionState) (valid : List Trace) (sheets : List DatedSheet) (watched : List DayLines) → IsBook old.book → AreSheets old.known old.workers old.watch (graced_by old.grace valid) sheets watched → IsBatchFault old.book sheets fault
+    → HasDaysCause old valid (fault_of_sheets fault)
+days_cause (sheeting.Memory back) old valid sheets watched book recorded h = tt
+days_cause (sheeting.TooManyDays back days) old valid sheets watched book recorded h = record { book = book; sheets = sheets; watched = watched; recorded = recorded; many = h.1; count = h.2 }
+
+-- a session with these fields, whose names and tasks were added and whose book was widened
+abbrev pub session_of : ℕ → Known → BookState → ℕ → ℕ → SessionState
+session_of workers known book watch grace = record { workers = workers; known = known; book = book; watch = watch; grace = grace }
+
+pub are_named : (old : SessionState) (valid : List Trace) (workers : ℕ) (known after : Known) (book wide : BookState) (watch grace count : ℕ) → session_of workers known book watch grace ≡ old → IsKept known → ((fault : NameFault) → PassesLimit known valid fault → ⊥)
+    → after ≡ with_traces known valid → count ≡ length after.names → wide ≡ with_names book count → AreNamed old valid (session_of workers after wide watch grace)
+are_named old valid workers known after book wide watch grace count view kept none added long widened = subst (λ (s : SessionState). AreNamed s valid (session_of workers after wide watch grace)) view (record {
+  kept = kept;
+  none = none;
+  is = ap (λ k. session_of workers k wide watch grace) added ∙ ap (λ b. session_of workers (with_traces known valid) b watch grace) (widened ∙ ap (with_names book) (long ∙ ap (λ (k : Known). length k.names) added));
+})
+
+-- an add whose names are not added
+pub named_cause : (fault : AddFault) (old : SessionState) (s : State) (events : List Event) (valid : List Trace) (refused : List Refused) → Shows old s → AreJudged (traces_of events) valid refused → HasNamesCause old.known valid fault → HasAddCause events s fault
+named_cause Memory old s events valid refused shown j h = tt
+named_cause (Over (Names count)) old s events valid refused shown j h = (valid, refused, j, subst (λ k. PassesLimit k valid (names.TooManyNames count)) shown.known h)
+named_cause (Over (Tasks count)) old s events valid refused shown j h = (valid, refused, j, subst (λ k. PassesLimit k valid (names.TooManyTasks count)) shown.known h)
+named_cause (Over (Days count)) old s events valid refused shown j h = absurd h
+
+-- names that are known, and then days
+module _ (old : SessionState) (valid : List Trace) (wide : SessionState) (named : AreNamed old valid wide) where
+  is_added : (sheets : List DatedSheet) (watched : List DayLines) → IsBook wide.book → AreSheets wide.known wide.workers wide.watch (graced_by wide.grace valid) sheets watched → IsAdded old wide.book valid sheets watched
+  is_added sheets watched book recorded = record {
+    kept = named.kept;
+    days = ap (λ (x : SessionState). x.book.days) named.is;
+    book = book;
+    none = named.none;
+    recorded = subst (λ (x : SessionState). AreSheets x.known x.workers x.watch (graced_by x.grace valid) sheets watched) named.is recorded;
+  }
+
+  -- the add whose days were added
+  pub add_of : (leads : AddLeadsOn) (tells : AddIsTold) (s : State) (events : List Event) (refused : List Refused) (new : SessionState) (watched : List DayLines) → Shows old s → AreJudged (traces_of events) valid refused → AreBooked wide valid new watched → IsAddOf old.workers events s new refused watched
+  add_of leads tells s events refused new watched shown j b =
+      let added = is_added b.sheets watched b.book b.recorded in
+      let led = leads old s events valid refused wide.book b.sheets watched shown added j b.room in
+      let same : session_after old wide.book valid b.sheets ≡ new = sym (b.is ∙ ap (λ (x : SessionState). session_with_book x (with_all wide.book b.sheets)) named.is) in
+      let graces : graced_by old.grace valid ≡ graced s valid = ap (λ g. map (kept_with (1000 * g)) valid) shown.grace in
+      record {
+        parts = Refusals refused ∷ watch_parts s.watch old.workers (graced s valid) added.recorded.days;
+        next = state_after s valid;
+        does = led.0;
+        shows = subst (λ (x : SessionState). Shows x (state_after s valid)) same led.1;
+        told = tells s.watch old.workers refused (graced s valid) added.recorded.days watched
+            (subst (λ (k : List Kept). AllZip (AreLinesOn s.watch old.workers k) added.recorded.days watched) graces
+            (subst (λ e. AllZip (AreLinesOn e old.workers (graced_by old.grace valid)) added.recorded.days watched) shown.watch added.recorded.lines));
+      }
+
+  -- an add whose days are not added
+  pub booked_cause : (passes : AddPassesDays) (fault : AddFault) (s : State) (events : List Event) (refused : List Refused) → Shows old s → AreJudged (traces_of events) valid refused → HasDaysCause wide valid fault → HasAddCause events s fault
+  booked_cause passes Memory s events refused shown j h = tt
+  booked_cause passes (Over (Names count)) s events refused shown j h = absurd h
+  booked_cause passes (Over (Tasks count)) s events refused shown j h = absurd h
+  booked_cause passes (Over (Days days)) s events refused shown j h = (
+    valid,
+    refused,
+    j,
+    passes old s valid wide.book h.sheets h.watched days shown (is_added h.sheets h.watched h.book h.recorded) h.many h.count,
+  )

@@ -1,0 +1,100 @@
+-- What the commands of control lines do to the state that a session shows, and what they print.
+use Rattle.std.proofs.Common.{◌≡◌, ℕ, ◌+◌, List, [], ◌∷◌, length, Option, inl, inr, refl, sym, ap, ◌∙◌, subst, arith}
+use Rattle.std.specs.Prelude.{Result, Ok, Err, codes}
+use Rattle.std.proofs.lemmas.List.{append-nil}
+use Rattle.day_partitions.specs.Books as books
+use Rattle.day_partitions.specs.Books.{IsBook, all_traces, traces_of, with_fewer}
+use Rattle.event_lines.specs.declared.command.Command.{Command}
+use Rattle.event_lines.specs.declared.command.Command.TheVariants as commands
+use Rattle.kept_books.specs.BookLaws.{DropShows, NewestShow}
+use Rattle.kept_books.specs.Shown.{AreShown, IsShown}
+use Rattle.session_rules.specs.KeptTraces.{Kept, newest, traces_on, without_day}
+use Rattle.session_rules.specs.Parts.{Dropped, IsPart, KeptNewest, Part, count_row}
+use Rattle.session_rules.specs.Sessions.{Commands, State, with_grace, with_kept, with_watch}
+use Rattle.text_rows.specs.PartsFollow.{CallPrintsOnePart, NoPartIsPrinted}
+use Rattle.text_rows.specs.Printing.{PrintsText}
+use Rattle.text_rows.specs.TextsOfParts.{PrintsPart, PrintsTexts}
+use Rattle.text_rows.specs.declared.print_fault.PrintFault.{PrintFault}
+use Rattle.session.specs.Carrying.{kept_count}
+use Rattle.session.specs.SessionStates.{SessionState, Shows}
+use Rattle.session.specs.inner.Changes.{session_with_book, session_with_grace, session_with_watch}
+use Rattle.session.specs.inner.Steps.{PrintsStep, PrintsSteps}
+use Rattle.session.proofs.SheetLemmas.{zip_length}
+
+module _ {S : Type 0} (written : S → Option (List ℕ)) (faults : S → ℕ) where
+  pub drop_step : (drop : DropShows) (one : CallPrintsOnePart written faults IsPart (Unit {0})) (before after : SessionState) (day count : ℕ) (result : Result (Unit {0}) PrintFault) (old new : S) (held holds : List ℕ)
+      → after ≡ session_with_book before (with_fewer before.book (books.without_day day before.book.days)) → count ≡ length (traces_of before.book.days day) → IsBook before.book → PrintsText written faults result old new held holds (count_row (codes "drop") day count)
+      → PrintsSteps written faults result old new (commands.Drop day) before after held holds
+  drop_step drop one before after day count result old new held holds is counted book printed s shown =
+      let d = drop before.known before.book s.kept day book shown.traces in
+      let next : State = with_kept s (without_day day s.kept) in
+      record {
+        parts = Dropped day (length (traces_on day s.kept)) ∷ [];
+        next = next;
+        does = (refl, refl);
+        shows = subst (λ a. Shows a next) (sym is) (record { known = shown.known; watch = shown.watch; grace = shown.grace; traces = d.0 });
+        printed = one (Dropped day (length (traces_on day s.kept))) (count_row (codes "drop") day count) result old new held holds (ap (count_row (codes "drop") day) (counted ∙ d.1)) printed;
+      }
+
+  pub keep_step : (shows : NewestShow) (one : CallPrintsOnePart written faults IsPart (Unit {0})) (before after : SessionState) (days count : ℕ) (result : Result (Unit {0}) PrintFault) (old new : S) (held holds : List ℕ)
+      → after ≡ session_with_book before (with_fewer before.book (books.newest days before.book.days)) → count + kept_count after ≡ kept_count before → IsBook before.book → PrintsText written faults result old new held holds (count_row (codes "keep") days count)
+      → PrintsSteps written faults result old new (commands.Keep days) before after held holds
+  keep_step newest_shows one before after days count result old new held holds is counted book printed s shown =
+      let n = newest_shows before.known before.book s.kept days book shown.traces in
+      let next : State = with_kept s (newest days s.kept) in
+      let shows : Shows after next = subst (λ a. Shows a next) (sym is) (record { known = shown.known; watch = shown.watch; grace = shown.grace; traces = n }) in
+      record {
+        parts = KeptNewest days count ∷ [];
+        next = next;
+        does = (refl, (count, add_up _ _ _ _ _ counted (zip_length (IsShown before.known) (all_traces before.book.days) s.kept shown.traces) (zip_length (IsShown after.known) (all_traces after.book.days) (newest days s.kept) shows.traces), refl));
+        shows = shows;
+        printed = one (KeptNewest days count) (count_row (codes "keep") days count) result old new held holds refl printed;
+      }
+    where
+      add_up : (count left all shown_left shown_all : ℕ) → count + left ≡ all → all ≡ shown_all → left ≡ shown_left → shown_left + count ≡ shown_all
+      add_up count left all shown_left shown_all e f g = omega (arith, e, f, g)
+
+  pub watch_step : (none : NoPartIsPrinted IsPart) (before after : SessionState) (every : ℕ) (old : S) (held : List ℕ) → after ≡ session_with_watch before every → PrintsSteps {T = Unit {0}} written faults (Ok tt) old old (commands.Watch every) before after held held
+  watch_step none before after every old held is s shown = record {
+    parts = [];
+    next = with_watch s every;
+    does = (refl, refl);
+    shows = subst (λ a. Shows a (with_watch s every)) (sym is) (record { known = shown.known; watch = refl; grace = shown.grace; traces = shown.traces });
+    printed = record { all = none (written old) held; prefix = tt; counted = refl };
+  }
+
+  pub grace_step : (none : NoPartIsPrinted IsPart) (before after : SessionState) (micros : ℕ) (old : S) (held : List ℕ) → after ≡ session_with_grace before micros → PrintsSteps {T = Unit {0}} written faults (Ok tt) old old (commands.Grace micros) before after held held
+  grace_step none before after micros old held is s shown = record {
+    parts = [];
+    next = with_grace s micros;
+    does = (refl, refl);
+    shows = subst (λ a. Shows a (with_grace s micros)) (sym is) (record { known = shown.known; watch = shown.watch; grace = refl; traces = shown.traces });
+    printed = record { all = none (written old) held; prefix = tt; counted = refl };
+  }
+
+  -- a command that changes nothing and prints parts of the kept traces
+  pub view_step : (command : Command) (parts : List Kept → List Part) → ((s : State) → Commands command s (parts s.kept) s) → (before : SessionState) (result : Result (Unit {0}) PrintFault) (old new : S) (held holds : List ℕ)
+      → ((kept : List Kept) → AreShown before.known (all_traces before.book.days) kept → PrintsTexts written faults result old new IsPart (parts kept) held holds) → PrintsSteps written faults result old new command before before held holds
+  view_step command parts does before result old new held holds printed s shown = record {
+    parts = parts s.kept;
+    next = s;
+    does = does s;
+    shows = shown;
+    printed = printed s.kept shown.traces;
+  }
+
+  -- a call that prints one part prints the parts that are this one
+  pub one_part : (part : Part) (result : Result (Unit {0}) PrintFault) (old new : S) (held holds : List ℕ) → PrintsPart written faults result old new (IsPart part) held holds → PrintsTexts written faults result old new IsPart (part ∷ []) held holds
+  one_part part (Ok x) old new held holds p = record {
+    all = record { text = p.all.0; told = (p.all.0, [], p.all.1, refl, sym (append-nil p.all.0)); prints = p.all.2 };
+    prefix = tt;
+    counted = p.counted;
+  }
+  one_part part (Err e) old new held holds p = record {
+    all = tt;
+    prefix = elim p.prefix [
+      | inl f ↦ record { first = []; rest = part ∷ []; split = refl; text = []; told = refl; prefix = rw (append-nil held) f }
+      | inr q ↦ record { first = part ∷ []; rest = []; split = refl; text = q.0; told = (q.0, [], q.1, refl, sym (append-nil q.0)); prefix = q.2 }
+    ];
+    counted = p.counted;
+  }

@@ -1,0 +1,104 @@
+-- How many traces a book has after sheets are added, or after a day is dropped.
+use Rattle.std.proofs.Common.{◌≡◌, ℕ, ◌+◌, ◌*◌, ◌<◌, ◌≤◌, ◌^◌, inl, inr, not, ◌==◌, nat_lt, if◌then◌else◌, List, [], ◌∷◌, ◌++◌, length, map, All, refl, sym, ap, ◌∙◌, subst, zero-add, arith}
+use Rattle.std.proofs.lemmas.Bool.{cases_Bool, cond-true, cond-false}
+use Rattle.std.proofs.lemmas.List.{append-nil, length-append, length-map}
+use Rattle.std.proofs.lemmas.List.Sums.{sum_by-cons}
+use Rattle.day_partitions.specs.Batches.{AreSheetsFor, trace_count, with_all}
+use Rattle.day_partitions.specs.Books.{BookState, IsSheetOf, KeptDay, all_traces, kept_day, with_added, with_traces, without_day}
+use Rattle.day_partitions.specs.declared.dated_sheet.DatedSheet.{DatedSheet}
+use Rattle.batch_sheets.specs.declared.recording.DayLines.{DayLines}
+use Rattle.kept_books.specs.Shown.{IsShown}
+use Rattle.segment_names.specs.Known.{Known}
+use Rattle.session_rules.specs.KeptTraces.{Kept, kept_with}
+use Rattle.trace_types.specs.declared.named_trace.NamedTrace.{NamedTrace}
+use Rattle.trace_types.specs.declared.trace.Trace.{Trace}
+use Rattle.session.specs.AddLaws.{NoMoreAreSheeted}
+use Rattle.session.specs.Sheets.{AreSheets, graced_by}
+use Rattle.session.proofs.SheetLemmas.{zip_length}
+
+-- sums of plain numbers
+below : (all own rest mine more : ℕ) → all ≡ own + rest → rest ≡ mine + more → all ≡ (own + mine) + more
+below all own rest mine more e f = omega (arith, e, f)
+
+same : (all own more rest one : ℕ) → all ≡ one + rest → one ≡ own + more → all ≡ (own + rest) + more
+same all own more rest one e f = omega (arith, e, f)
+
+above : (all one rest : ℕ) → all ≡ one + rest → all ≡ rest + one
+above all one rest e = omega (arith, e)
+
+along : (all mid old one rest count : ℕ) → all ≡ mid + rest → mid ≡ old + one → count ≡ one + rest → all ≡ old + count
+along all mid old one rest count e f g = omega (arith, e, f, g)
+
+-- ---- more traces of a day
+long_with : (day : ℕ) (ts : List NamedTrace) (ks : List KeptDay) → length (all_traces (with_traces day ts ks)) ≡ length (all_traces ks) + length ts
+long_with day ts [] = ap length (append-nil ts) ∙ sym (zero-add (length ts))
+long_with day ts (k ∷ ks) = elim (cases_Bool (nat_lt k.day day)) [
+  | inl low ↦
+      ap (λ l. length (all_traces l)) (cond-true (nat_lt k.day day) (k ∷ with_traces day ts ks) (if k.day == day then kept_day day (k.traces ++ ts) ∷ ks else kept_day day ts ∷ k ∷ ks) low)
+      ∙ below _ _ _ _ _ (length-append k.traces (all_traces (with_traces day ts ks))) (long_with day ts ks)
+      ∙ ap (λ n. n + length ts) (sym (length-append k.traces (all_traces ks)))
+  | inr other ↦
+      ap (λ l. length (all_traces l)) (cond-false (nat_lt k.day day) (k ∷ with_traces day ts ks) (if k.day == day then kept_day day (k.traces ++ ts) ∷ ks else kept_day day ts ∷ k ∷ ks) other)
+      ∙ elim (cases_Bool (k.day == day)) [
+        | inl is ↦
+            ap (λ l. length (all_traces l)) (cond-true (k.day == day) (kept_day day (k.traces ++ ts) ∷ ks) (kept_day day ts ∷ k ∷ ks) is)
+            ∙ same _ _ _ _ _ (length-append (k.traces ++ ts) (all_traces ks)) (length-append k.traces ts)
+            ∙ ap (λ n. n + length ts) (sym (length-append k.traces (all_traces ks)))
+        | inr high ↦
+            ap (λ l. length (all_traces l)) (cond-false (k.day == day) (kept_day day (k.traces ++ ts) ∷ ks) (kept_day day ts ∷ k ∷ ks) high)
+            ∙ above _ _ _ (length-append ts (all_traces (k ∷ ks)))
+      ]
+]
+
+abbrev sheet_long : DatedSheet → ℕ
+sheet_long s = length s.sheet.traces
+
+long_all : (b : BookState) (sheets : List DatedSheet) → length (all_traces (with_all b sheets).days) ≡ length (all_traces b.days) + trace_count sheets
+long_all b [] = omega arith
+long_all b (s ∷ ss) = along _ _ _ _ _ _ (long_all (with_added b s.day s.sheet.traces) ss) (long_with s.day s.sheet.traces b.days) (sum_by-cons sheet_long s ss)
+
+pub same_names : (b : BookState) (sheets : List DatedSheet) → (with_all b sheets).names ≡ b.names
+same_names b [] = refl
+same_names b (s ∷ ss) = same_names (with_added b s.day s.sheet.traces) ss
+
+-- ---- the sheets of a batch
+module _ (few : NoMoreAreSheeted) (known : Known) (workers every grace : ℕ) (valid : List Trace) (sheets : List DatedSheet) (watched : List DayLines) (r : AreSheets known workers every (graced_by grace valid) sheets watched) where
+  sheeted : trace_count sheets ≤ length valid
+  sheeted =
+      let a = few r.named sheets r.parts in
+      let b = zip_length (IsShown known) r.named (graced_by grace valid) r.shown in
+      let c = length-map valid (kept_with (1000 * grace)) in
+      fits _ _ _ _ a b c
+    where
+      fits : (count named kept long : ℕ) → count ≤ named → named ≡ kept → kept ≡ long → count ≤ long
+      fits count named kept long a b c = omega (arith, a, b, c)
+
+  pub sheets_for : (b : BookState) → b.names ≡ length known.names → length (all_traces b.days) + length valid < 2 ^ 32 → AreSheetsFor b sheets
+  sheets_for b names many = record {
+    rising = r.parts.rising;
+    each = subst (λ n. All (λ (s : DatedSheet). IsSheetOf n s.day s.sheet) sheets) (sym names) r.fit;
+    counted = under _ _ _ sheeted many;
+  }
+    where
+      under : (old count long : ℕ) → count ≤ long → old + long < 2 ^ 32 → old + count < 2 ^ 32
+      under old count long a b = omega (arith, a, b)
+
+  pub count_after : (b : BookState) → length (all_traces (with_all b sheets).days) ≤ length (all_traces b.days) + length valid
+  count_after b = under _ _ _ _ (long_all b sheets) sheeted
+    where
+      under : (all old count long : ℕ) → all ≡ old + count → count ≤ long → all ≤ old + long
+      under all old count long e l = omega (arith, e, l)
+
+-- ---- a day dropped
+pub drop_few : (day : ℕ) (ks : List KeptDay) → length (all_traces (without_day day ks)) ≤ length (all_traces ks)
+drop_few day [] = omega arith
+drop_few day (k ∷ ks) = elim (cases_Bool (not (k.day == day))) [
+  | inl stays ↦ more _ _ _ _ _ (ap (λ l. length (all_traces l)) (cond-true (not (k.day == day)) (k ∷ without_day day ks) (without_day day ks) stays) ∙ length-append k.traces (all_traces (without_day day ks))) (length-append k.traces (all_traces ks)) (drop_few day ks)
+  | inr goes ↦ less _ _ _ _ _ (ap (λ l. length (all_traces l)) (cond-false (not (k.day == day)) (k ∷ without_day day ks) (without_day day ks) goes)) (length-append k.traces (all_traces ks)) (drop_few day ks)
+]
+  where
+    more : (left all own rest old : ℕ) → left ≡ own + rest → all ≡ own + old → rest ≤ old → left ≤ all
+    more left all own rest old e f l = omega (arith, e, f, l)
+
+    less : (left rest all own old : ℕ) → left ≡ rest → all ≡ own + old → rest ≤ old → left ≤ all
+    less left rest all own old e f l = omega (arith, e, f, l)

@@ -1,0 +1,62 @@
+-- The steps of an add over a session: its names, then its days, and what is printed of both.
+use Rattle.std.specs.Prelude.{◌≡◌, ℕ, ◌+◌, ◌<◌, List, length, ⊤}
+use Rattle.batch_sheets.specs.declared.recording.DayLines.{DayLines}
+use Rattle.day_partitions.specs.Batches.{HasRoomFor, new_days, with_all}
+use Rattle.day_partitions.specs.Books.{IsBook}
+use Rattle.day_partitions.specs.declared.dated_sheet.DatedSheet.{DatedSheet}
+use Rattle.segment_names.specs.Limits.{IsKept, PassesLimit}
+use Rattle.segment_names.specs.declared.name_fault.NameFault.{NameFault}
+use Rattle.session_rules.specs.Parts.{IsPart, Part}
+use Rattle.session_rules.specs.Sessions.{Adds, State, most_days}
+use Rattle.session_rules.specs.declared.limit.Limit.TheVariants.{Names, Tasks, Days}
+use Rattle.session_rules.specs.declared.refused.Refused.{Refused}
+use Rattle.text_rows.specs.TextsOfParts.{AreTexts}
+use Rattle.trace_types.specs.declared.event.Event.{Event}
+use Rattle.trace_types.specs.declared.trace.Trace.{Trace}
+use Rattle.session.specs.AddLaws.{added_text}
+use Rattle.session.specs.SessionStates.{SessionState, Shows}
+use Rattle.session.specs.Sheets.{AreSheets, graced_by}
+use Rattle.session.specs.declared.add_fault.AddFault.{AddFault}
+use Rattle.session.specs.declared.add_fault.AddFault.TheVariants.{Memory, Over}
+use Rattle.session.specs.inner.Changes.{session_with_book, session_with_names}
+
+-- the names and tasks of the valid traces were added, and none of their limits is passed
+pub record AreNamed (old : SessionState) (valid : List Trace) (named : SessionState) : Type 0 where
+  pub kept : IsKept old.known
+  pub none : (fault : NameFault) → PassesLimit old.known valid fault → ⊥
+  pub is : named ≡ session_with_names old valid
+
+-- the valid traces were recorded, and their sheets added to a book with room for their days
+pub record AreBooked (old : SessionState) (valid : List Trace) (new : SessionState)
+    (watched : List DayLines) : Type 0 where
+  pub book : IsBook old.book
+  pub sheets : List DatedSheet
+  pub recorded : AreSheets old.known old.workers old.watch (graced_by old.grace valid) sheets watched
+  pub room : HasRoomFor old.book sheets
+  pub is : new ≡ session_with_book old (with_all old.book sheets)
+
+-- the valid traces were recorded, and with their days there would be too many: so many
+pub record PassDays (old : SessionState) (valid : List Trace) (days : ℕ) : Type 0 where
+  pub book : IsBook old.book
+  pub sheets : List DatedSheet
+  pub watched : List DayLines
+  pub recorded : AreSheets old.known old.workers old.watch (graced_by old.grace valid) sheets watched
+  pub many : most_days < days
+  pub count : days ≡ length old.book.days + new_days old.book.days sheets
+
+-- memory ran out, or there would be so many days
+abbrev pub HasDaysCause : SessionState → List Trace → AddFault → Type 0
+HasDaysCause old valid Memory = ⊤
+HasDaysCause old valid (Over (Names count)) = ⊥
+HasDaysCause old valid (Over (Tasks count)) = ⊥
+HasDaysCause old valid (Over (Days days)) = PassDays old valid days
+
+-- the events were added from this state, and the session shows the state after it; the rows of
+-- these refused traces and watch lines are a text of its parts
+pub record IsAddOf (workers : ℕ) (events : List Event) (s : State) (session : SessionState)
+    (refused : List Refused) (watched : List DayLines) : Type 0 where
+  pub parts : List Part
+  pub next : State
+  pub does : Adds workers events s parts next
+  pub shows : Shows session next
+  pub told : AreTexts IsPart parts (added_text refused watched)

@@ -1,0 +1,160 @@
+ghost use Rattle.std.specs.Prelude.{IsTrue};
+ghost use Rattle.session.specs.Carrying.{IsReadyCommand};
+ghost use Rattle.trace_types.specs.Times.{AreTimely};
+
+use crate::{CommandFault, Job, Session};
+use event_lines::{Command, lines_rise};
+use mystery_io::{MemSink, OpenGate, Sink};
+use std::alloc::{AllocError, Global};
+use std::test::Fail;
+use std::thread::Threads;
+use trace_types::{Event, EventList, Text};
+
+/// A day in nanoseconds.
+const DAY: u64 = 86_400_000_000_000;
+
+/// Makes an event of the one task.
+fn event(
+    alloc: Global,
+    line: u32,
+    request: &str,
+    name: &str,
+    time: u64,
+) -> Result<Event, AllocError> {
+    Ok(Event {
+        line,
+        request: Text::new(alloc, request)?,
+        machine: Text::new(alloc, "m")?,
+        task: Text::new(alloc, "a")?,
+        event: Text::new(alloc, name)?,
+        time,
+        send: None,
+        recv: None,
+    })
+}
+
+/// Tells whether no event is later than the latest time.
+fn are_timely(events: &[Event]) -> bool
+    ensures { IsTrue result → AreTimely events.now }
+{
+    events
+        .iter()
+        .all(|event| event.time <= 4_102_444_800_000_000_000)
+}
+
+/// Carries out an add of these events, or answers `Memory` where a job may not have them.
+fn add<R: Threads + Sync, S: Sink>(
+    rt: &R,
+    session: Session,
+    events: Vec<Event>,
+    out: &mut S,
+) -> Result<Session, CommandFault> {
+    if events.len() > 1000 {
+        return Err(CommandFault::Memory);
+    }
+    if session.trace_count() > 1000 {
+        return Err(CommandFault::Memory);
+    }
+    if !lines_rise(&events) || !are_timely(&events) {
+        return Err(CommandFault::Memory);
+    }
+    let events = EventList::of(events);
+    session.command(rt, Job::Add { events }, out, &OpenGate)
+}
+
+/// Carries out the command of a control line, or answers `Memory` where there are many traces.
+fn control<R: Threads + Sync, S: Sink>(
+    rt: &R,
+    session: Session,
+    command: Command,
+    out: &mut S,
+) -> Result<Session, CommandFault>
+    requires { IsReadyCommand command }
+{
+    if session.trace_count() > 1000 {
+        return Err(CommandFault::Memory);
+    }
+    session.command(rt, Job::Control { command }, out, &OpenGate)
+}
+
+/// Makes the events of two traces on the days 1 and 2, and of a third that has an event twice.
+fn batch(alloc: Global) -> Result<Vec<Event>, AllocError> {
+    let mut events = Vec::new(alloc);
+    for (line, request, name, time) in [
+        (1, "r1", "s", DAY),
+        (2, "r1", "e", DAY + 10_000),
+        (3, "r2", "s", 2 * DAY),
+        (4, "r2", "e", 2 * DAY + 10_000),
+        (5, "r3", "s", 2 * DAY),
+        (6, "r3", "s", 2 * DAY + 10_000),
+    ] {
+        events.push(event(alloc, line, request, name, time)?)?;
+    }
+    Ok(events)
+}
+
+#[test]
+fn a_session_adds_drops_keeps_and_prints(rt: HostRuntime) -> Result<(), Fail> {
+    let alloc = rt.alloc();
+    let mut out = MemSink::new(alloc, 100, Vec::new(alloc), 1000)?;
+    let mut session = Session::new(alloc, 1)?;
+    session = control(&rt, session, Command::Watch { every: 1 }, &mut out)?;
+    session = add(&rt, session, batch(alloc)?, &mut out)?;
+    session = control(&rt, session, Command::Model, &mut out)?;
+    session = control(&rt, session, Command::Drop { day: 1 }, &mut out)?;
+    session = control(&rt, session, Command::Paths, &mut out)?;
+    session = control(&rt, session, Command::Slack, &mut out)?;
+    session = control(&rt, session, Command::Graph, &mut out)?;
+    session = control(&rt, session, Command::Keep { days: 0 }, &mut out)?;
+    let _session = control(&rt, session, Command::Model, &mut out)?;
+    assert_eq!(rt;
+        out.bytes(),
+        b"refused\tr3\trepeated event\t6\n\
+          watch\t1\t0\t1\t0\n\
+          watch\t2\t0\t1\t0\n\
+          model\ttraces=2\tdays=2\tsegments=1\ttasks=1\thb=0\tmx=0\tpipe=0\n\
+          drop\t1\t1\n\
+          paths\ttraces=1\n\
+          path\tr2\t2\t10000\t10000\t1\n\
+          step\ta\ts\te\t10000\n\
+          slack\ttraces=1\n\
+          trace\tr2\t2\t10000\t10000\n\
+          segment\ta\ts\te\t10000\t0\n\
+          graph\ttraces=1\n\
+          trace\tr2\t2\t10000\t1\t0\n\
+          vertex\t0\ta\ts\te\t10000\n\
+          keep\t0\t1\n\
+          model\ttraces=0\tdays=0\tsegments=0\ttasks=0\thb=0\tmx=0\tpipe=0\n"
+            .as_slice()
+    );
+    Ok(())
+}
+
+#[test]
+fn an_add_of_65_days_writes_nothing(rt: HostRuntime) -> Result<(), Fail> {
+    let alloc = rt.alloc();
+    let mut out = MemSink::new(alloc, 100, Vec::new(alloc), 1000)?;
+    let mut events = Vec::new(alloc);
+    for day in 0..65u32 {
+        let request = format!(in alloc; "r{day}")?;
+        let time = u64::from(day) * DAY;
+        events.push(event(alloc, 2 * day + 1, request.as_str(), "s", time)?)?;
+        events.push(event(alloc, 2 * day + 2, request.as_str(), "e", time + 5_000)?)?;
+    }
+    let session = Session::new(alloc, 2)?;
+    let fault = add(&rt, session, events, &mut out).err();
+    assert_eq!(rt; fault, Some(CommandFault::TooManyDays { days: 65 }));
+    assert_eq!(rt; out.bytes(), b"".as_slice());
+    Ok(())
+}
+
+#[test]
+fn a_write_that_fails_leaves_a_prefix(rt: HostRuntime) -> Result<(), Fail> {
+    let alloc = rt.alloc();
+    let mut out = MemSink::new(alloc, 5, [2].to_vec(alloc)?, 1000)?;
+    let session = Session::new(alloc, 1)?;
+    let fault = control(&rt, session, Command::Drop { day: 3 }, &mut out).err();
+    assert_eq!(rt; fault, Some(CommandFault::Write));
+    assert_eq!(rt; out.bytes(), b"drop\t".as_slice());
+    Ok(())
+}
