@@ -1,0 +1,162 @@
+-- A job does one thing, or it passes one limit.
+use Rattle.std.proofs.Common.{◌≡◌, ◌↔◌, ℕ, ◌+◌, ◌≤◌, List, [], ◌∷◌, take, Contains, map, Result, Ok, Err, Ordering, refl, sym, ◌∙◌, ap, subst, arith, inl, inr, AllPairs, nat_cmp}
+use Rattle.std.specs.List.{AllZip}
+use Rattle.std.specs.Cmp.{IsTotalOrder}
+use Rattle.std.specs.declared.cmp.Ordering.TheVariants.{Less}
+use Rattle.std.proofs.lemmas.Bool.{cases_lt}
+use Rattle.std.proofs.lemmas.Cmp.{nat_cmp_total}
+use Rattle.event_lines.specs.declared.command.Command.TheVariants as commands
+use Rattle.segment_cut.specs.Cutting.{IsCut}
+use Rattle.segment_cut.specs.Faults.{IsTraceFault}
+use Rattle.segment_cut.specs.declared.trace_fault.TraceFault.{TraceFault}
+use Rattle.segment_names.specs.Known.{Known, with_traces}
+use Rattle.segment_names.specs.Limits.{Fits, IsPassed, PassesLimit}
+use Rattle.segment_names.specs.declared.name_fault.NameFault.{NameFault}
+use Rattle.segment_names.specs.declared.name_fault.NameFault.TheVariants as faults
+use Rattle.session_rules.specs.Batches.{AreJudged, IsJudged, refused_of, valid_of}
+use Rattle.session_rules.specs.KeptTraces.{day_of}
+use Rattle.session_rules.specs.Parts.{Part, Refusals, KeptNewest}
+use Rattle.session_rules.specs.Sessions.{Adds, Does, Passes, PassesLimitOf, State, graced, state_after, watch_parts}
+use Rattle.session_rules.specs.declared.job.Job.{Job}
+use Rattle.session_rules.specs.declared.job.Job.TheVariants.{Add, Control}
+use Rattle.session_rules.specs.declared.limit.Limit.{Limit}
+use Rattle.session_rules.specs.declared.limit.Limit.TheVariants.{Names, Tasks, Days}
+use Rattle.session_rules.specs.declared.refused.Refused.{Refused}
+use Rattle.trace_types.specs.Batch.{PlainTrace, traces_of}
+use Rattle.trace_types.specs.Listing.{ListsExactly}
+use Rattle.trace_types.specs.declared.event.Event.{Event}
+use Rattle.trace_types.specs.declared.trace.Trace.{Trace}
+
+-- ---- limits of names and tasks
+
+passed_fits_not : (known : Known) (f : NameFault) → IsPassed known f → Fits known → ⊥
+passed_fits_not known faults.Memory p fits = p
+passed_fits_not known (faults.TooManyNames count) p fits = omega (arith, p.0, fits.0)
+passed_fits_not known (faults.TooManyTasks count) p fits = omega (arith, p.1, fits.1)
+
+passed_one : (known : Known) (f g : NameFault) → IsPassed known f → IsPassed known g → f ≡ g
+passed_one known faults.Memory g p q = absurd p
+passed_one known (faults.TooManyNames a) faults.Memory p q = absurd q
+passed_one known (faults.TooManyTasks a) faults.Memory p q = absurd q
+passed_one known (faults.TooManyNames a) (faults.TooManyNames b) p q = ap faults.TooManyNames (p.1 ∙ sym q.1)
+passed_one known (faults.TooManyNames a) (faults.TooManyTasks b) p q = absurd (omega (arith, p.0, q.0))
+passed_one known (faults.TooManyTasks a) (faults.TooManyNames b) p q = absurd (omega (arith, p.0, q.0))
+passed_one known (faults.TooManyTasks a) (faults.TooManyTasks b) p q = ap faults.TooManyTasks (p.2 ∙ sym q.2)
+
+-- what is known grows past a limit once
+one_passed : (at : ℕ → Known) (k m : ℕ) (f g : NameFault) → ((j : ℕ) → j ≤ k → Fits (at j)) → ((j : ℕ) → j ≤ m → Fits (at j)) → IsPassed (at (k + 1)) f → IsPassed (at (m + 1)) g → f ≡ g
+one_passed at k m f g low high p q = elim (cases_lt k m) [
+  | inl less ↦ absurd (passed_fits_not (at (k + 1)) f p (high (k + 1) (omega arith)))
+  | inr more ↦ elim (cases_lt m k) [
+    | inl less ↦ absurd (passed_fits_not (at (m + 1)) g q (low (m + 1) (omega arith)))
+    | inr same ↦
+        let e : m ≡ k = omega arith in
+        passed_one (at (k + 1)) f g p (subst (λ (n : ℕ). IsPassed (at (n + 1)) g) e q)
+  ]
+]
+
+one_name_limit : (known : Known) (traces : List Trace) (f g : NameFault) → PassesLimit known traces f → PassesLimit known traces g → f ≡ g
+one_name_limit known traces f g p q = one_passed (λ (j : ℕ). with_traces known (take j traces)) p.0 q.0 f g p.2 q.2 p.3 q.3
+
+limits_one : (s : State) (valid : List Trace) (l m : Limit) → PassesLimitOf s valid l → PassesLimitOf s valid m → l ≡ m
+limits_one s valid (Names a) (Names b) p q =
+    let e : faults.TooManyNames a ≡ faults.TooManyNames b = one_name_limit s.known valid (faults.TooManyNames a) (faults.TooManyNames b) p q in
+    let same : a ≡ b = cc in
+    ap Names same
+limits_one s valid (Names a) (Tasks b) p q =
+    let e : faults.TooManyNames a ≡ faults.TooManyTasks b = one_name_limit s.known valid (faults.TooManyNames a) (faults.TooManyTasks b) p q in
+    absurd (cc e)
+limits_one s valid (Tasks a) (Names b) p q =
+    let e : faults.TooManyTasks a ≡ faults.TooManyNames b = one_name_limit s.known valid (faults.TooManyTasks a) (faults.TooManyNames b) p q in
+    absurd (cc e)
+limits_one s valid (Tasks a) (Tasks b) p q =
+    let e : faults.TooManyTasks a ≡ faults.TooManyTasks b = one_name_limit s.known valid (faults.TooManyTasks a) (faults.TooManyTasks b) p q in
+    let same : a ≡ b = cc in
+    ap Tasks same
+limits_one s valid (Names a) (Days b) p q = absurd (q.0 (faults.TooManyNames a) p)
+limits_one s valid (Tasks a) (Days b) p q = absurd (q.0 (faults.TooManyTasks a) p)
+limits_one s valid (Days a) (Names b) p q = absurd (p.0 (faults.TooManyNames b) q)
+limits_one s valid (Days a) (Tasks b) p q = absurd (p.0 (faults.TooManyTasks b) q)
+limits_one s valid (Days a) (Days b) p q = ap Days (p.2 ∙ sym q.2)
+
+-- ---- what is cited of the crates below
+
+-- a trace has one verdict
+pub record OneVerdict : Type 0 where
+  pub cut : (request : List ℕ) (events : List Event) (t u : Trace) → IsCut request events t → IsCut request events u → t ≡ u
+  pub fault : (events : List Event) (f g : TraceFault) → IsTraceFault events f → IsTraceFault events g → f ≡ g
+  pub not_both : (request : List ℕ) (events : List Event) (t : Trace) (f : TraceFault) → IsCut request events t → IsTraceFault events f → ⊥
+
+-- lists in rising order with the same elements are one list
+abbrev pub OneRisingList : Type 0 → Type 0
+OneRisingList X = (cmp : X → X → Ordering) → IsTotalOrder cmp → (xs ys : List X) → AllPairs (λ (x y : X). cmp x y ≡ Less) xs → AllPairs (λ (x y : X). cmp x y ≡ Less) ys → ((x : X) → Contains xs x ↔ Contains ys x) → xs ≡ ys
+
+pub one_listed : {X : Type 0} → OneRisingList X → (cmp : X → X → Ordering) (P : X → Type 0) (xs ys : List X) → IsTotalOrder cmp → ListsExactly cmp P xs → ListsExactly cmp P ys → xs ≡ ys
+one_listed listed cmp P xs ys total h k = listed cmp total xs ys h.rising k.rising (λ x. ((λ c. (k.exactly x).1 ((h.exactly x).0 c)), (λ c. (h.exactly x).1 ((k.exactly x).0 c))))
+
+-- ---- jobs
+
+module _ (verdict : OneVerdict) where
+  one_verdict : (raw : PlainTrace) (v w : Result Trace TraceFault) → IsJudged raw v → IsJudged raw w → v ≡ w
+  one_verdict raw (Ok t) (Ok u) h k = ap Ok (verdict.cut raw.request raw.events t u h k)
+  one_verdict raw (Err f) (Err g) h k = ap Err (verdict.fault raw.events f g h k)
+  one_verdict raw (Ok t) (Err f) h k = absurd (verdict.not_both raw.request raw.events t f h k)
+  one_verdict raw (Err f) (Ok t) h k = absurd (verdict.not_both raw.request raw.events t f k h)
+
+  verdicts_one : (raws : List PlainTrace) (vs ws : List (Result Trace TraceFault)) → AllZip IsJudged raws vs → AllZip IsJudged raws ws → vs ≡ ws
+  verdicts_one [] [] [] h k = refl
+  verdicts_one [] (v ∷ vs) ws h k = absurd h
+  verdicts_one [] [] (w ∷ ws) h k = absurd k
+  verdicts_one (r ∷ rs) [] ws h k = absurd h
+  verdicts_one (r ∷ rs) (v ∷ vs) [] h k = absurd k
+  verdicts_one (r ∷ rs) (v ∷ vs) (w ∷ ws) h k = ap (λ (x : Result Trace TraceFault). x ∷ vs) (one_verdict r v w h.0 k.0) ∙ ap (λ (xs : List (Result Trace TraceFault)). w ∷ xs) (verdicts_one rs vs ws h.1 k.1)
+
+  judged_one : (raws : List PlainTrace) (valid others : List Trace) (refused also : List Refused) → AreJudged raws valid refused → AreJudged raws others also → (valid ≡ others) × (refused ≡ also)
+  judged_one raws valid others refused also h k =
+      let same : h.verdicts ≡ k.verdicts = verdicts_one raws h.verdicts k.verdicts h.each k.each in
+      (h.valid_are ∙ ap valid_of same ∙ sym k.valid_are, h.refused_are ∙ ap (refused_of raws) same ∙ sym k.refused_are)
+
+  -- a job that is carried out passes no limit
+  pub no_limit : (w : ℕ) (job : Job) (s next : State) (parts : List Part) (limit : Limit) → Does w job s parts next → Passes job s limit → ⊥
+  no_limit w (Add events) s next parts limit h k =
+      let same : h.valid ≡ k.0 = (judged_one (traces_of events) h.valid k.0 h.refused k.1 h.judged k.2).0 in
+      h.fits limit (subst (λ (v : List Trace). PassesLimitOf s v limit) (sym same) k.3)
+  no_limit w (Control command) s next parts limit h k = absurd k
+
+  -- a job passes one limit
+  pub one_limit : (job : Job) (s : State) (l m : Limit) → Passes job s l → Passes job s m → l ≡ m
+  one_limit (Add events) s l m h k =
+      let same : h.0 ≡ k.0 = (judged_one (traces_of events) h.0 k.0 h.1 k.1 h.2 k.2).0 in
+      limits_one s h.0 l m h.3 (subst (λ (v : List Trace). PassesLimitOf s v m) (sym same) k.3)
+  one_limit (Control command) s l m h k = absurd h
+
+  module _ (listed : OneRisingList ℕ) where
+    adds_one : (w : ℕ) (events : List Event) (s next other : State) (parts others : List Part) → Adds w events s parts next → Adds w events s others other → (parts ≡ others) × (next ≡ other)
+    adds_one w events s next other parts others h k = (
+      h.printed ∙ ap (λ (r : List Refused). Refusals r ∷ watch_parts s.watch w (graced s h.valid) h.days) same.1
+          ∙ ap (λ (v : List Trace). Refusals k.refused ∷ watch_parts s.watch w (graced s v) h.days) same.0
+          ∙ ap (λ (ds : List ℕ). Refusals k.refused ∷ watch_parts s.watch w (graced s k.valid) ds) days ∙ sym k.printed,
+      h.after ∙ ap (state_after s) same.0 ∙ sym k.after,
+    )
+      where
+        same : (h.valid ≡ k.valid) × (h.refused ≡ k.refused)
+        same = judged_one (traces_of events) h.valid k.valid h.refused k.refused h.judged k.judged
+
+        days : h.days ≡ k.days
+        days = one_listed listed nat_cmp (Contains (map day_of (graced s k.valid))) h.days k.days nat_cmp_total (subst (λ (v : List Trace). ListsExactly nat_cmp (Contains (map day_of (graced s v))) h.days) same.0 h.days_are) k.days_are
+
+    -- a job that is carried out does one thing
+    pub does_one : (w : ℕ) (job : Job) (s next other : State) (parts others : List Part) → Does w job s parts next → Does w job s others other → (parts ≡ others) × (next ≡ other)
+    does_one w (Add events) s next other parts others h k = adds_one w events s next other parts others h k
+    does_one w (Control commands.Add) s next other parts others h k = absurd h
+    does_one w (Control (commands.Drop day)) s next other parts others h k = (h.1 ∙ sym k.1, h.0 ∙ sym k.0)
+    does_one w (Control (commands.Keep days)) s next other parts others h k =
+        let count : h.1.0 ≡ k.1.0 = omega (arith, h.1.1, k.1.1) in
+        (h.1.2 ∙ ap (λ (n : ℕ). KeptNewest days n ∷ []) count ∙ sym k.1.2, h.0 ∙ sym k.0)
+    does_one w (Control (commands.Watch every)) s next other parts others h k = (h.1 ∙ sym k.1, h.0 ∙ sym k.0)
+    does_one w (Control (commands.Grace micros)) s next other parts others h k = (h.1 ∙ sym k.1, h.0 ∙ sym k.0)
+    does_one w (Control commands.Model) s next other parts others h k = (h.1 ∙ sym k.1, h.0 ∙ sym k.0)
+    does_one w (Control commands.Paths) s next other parts others h k = (h.1 ∙ sym k.1, h.0 ∙ sym k.0)
+    does_one w (Control commands.Slack) s next other parts others h k = (h.1 ∙ sym k.1, h.0 ∙ sym k.0)
+    does_one w (Control commands.Report) s next other parts others h k = absurd h
+    does_one w (Control commands.Graph) s next other parts others h k = (h.1 ∙ sym k.1, h.0 ∙ sym k.0)

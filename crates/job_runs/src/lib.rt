@@ -1,0 +1,9 @@
+//! Carries out the jobs of an input in order, each as a session carries it out, and says what is
+//! written of their text.
+#![tactic(auto)]
+
+mod kept_trace;
+pub mod laws;
+mod running;
+
+pub use running::run_jobs;
