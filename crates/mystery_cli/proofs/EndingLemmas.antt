@@ -1,49 +1,51 @@
 -- How the outcome of an input that was read is that of the run.
-use Rattle.std.proofs.Common.{◌≡◌, ℕ, zero, suc, ◌+◌, ◌∷◌, ◌<◌, ◌≤◌, List, [], length, take, Bool, true, false, Option, Some, None, arith, refl, sym, ◌∙◌, ap, subst, inl, inr}
-use Rattle.std.specs.Prelude.{nat_lt, if◌then◌else◌, IfSome, Result, Ok, Err, ◌⊎◌}
-use Rattle.std.specs.Option.{option_map_or}
-use Rattle.std.specs.Io.KnownBytes.{append_known}
-use Rattle.std.proofs.lemmas.List.{take_all, length-append, append-nil}
-use Rattle.std.proofs.lemmas.Bool.{lt-ltb, le-ltb, ltb-true}
-use Rattle.event_lines.specs.declared.line.Line.{Line}
-use Rattle.event_lines.specs.EventsAlone.{event_lines_said}
-use Rattle.event_lines.specs.InputLines.{LineFault}
-use Rattle.step_core.specs.declared.step_file.StepFile.{StepFile}
-use Rattle.step_core.specs.StepFiles.{file_said}
+use Rattle.std.proofs.Common.{◌≡◌, ◌⊎◌, ℕ, zero, suc, ◌+◌, ◌∷◌, ◌<◌, ◌≤◌, List, [], length, take, true, Option, Some, None, arith, refl, sym, subst, inl, inr}
+use Rattle.std.specs.Prelude.{IfSome, Result, Ok, Err}
+use Rattle.std.specs.Io.KnownBytes.{IsAtEnd}
+use Rattle.std.proofs.lemmas.List.{length-append}
 use Rattle.mystery_io.specs.Prefixes.{AppendsPrefix}
 use Rattle.mystery_io.specs.Input.{input_limit, input_of, ended}
-use Rattle.mystery_io.specs.ReadFaults.{append_names, OpensFirst, FailedAt, PassedAt}
+use Rattle.mystery_io.specs.ReadFaults.{OpensFirst, FailedAt, PassedAt}
+use Rattle.job_runs.specs.Running.{WritesWhole}
+use Rattle.session_rules.specs.Sessions.{first_state}
+use Rattle.session_rules.specs.declared.job.Job.{Job}
 use Rattle.mystery_cli.specs.declared.outcome.Outcome.{Outcome}
-use Rattle.mystery_cli.specs.declared.outcome.Outcome.TheVariants.{Done, Memory, Arguments, BadLine, File, Write, Size}
-use Rattle.mystery_cli.specs.declared.reason.Reason.{Reason}
-use Rattle.mystery_cli.specs.CommandLines.{Action, Call, model, replay, call_of, is_in_grammar, files_of, files_of_action}
-use Rattle.mystery_cli.specs.Endings.{ending_of, ending_of_action, ending_of_lines, ending_of_steps}
-use Rattle.mystery_cli.specs.Messages.{status_of}
-use Rattle.mystery_cli.specs.Texts.{IsActionText, IsText}
-use Rattle.mystery_cli.specs.Runs.{Seen, OfInput, ReadsAll, EndsAs, HasCauseOf, Writes, WritesText, WritesPrefix}
-use Rattle.mystery_cli.specs.inner.InputEnds.{InputEnds, PrintsPrefix}
+use Rattle.mystery_cli.specs.declared.outcome.Outcome.TheVariants.{Done, Memory, Arguments, BadLine, File, Write, Size, Over}
+use Rattle.mystery_cli.specs.CommandLines.{Call, call_of, is_in_grammar, files_of, files_of_action}
+use Rattle.mystery_cli.specs.Endings.{CallEnds, Ends, EndsAt, Writes}
+use Rattle.mystery_cli.specs.ReplayTexts.{replay_text}
+use Rattle.mystery_cli.specs.Runs.{Seen, OfInput, ReadsAll, EndsAs, Reads, Explains}
+use Rattle.mystery_cli.specs.Works.{BadInput, Work, Jobs, Steps, work_said}
+use Rattle.mystery_cli.specs.inner.InputEnds.{InputEnds, SaidEnds}
+use Rattle.mystery_cli.proofs.ReplayLemmas.{unbegun}
 
--- the arguments of a call are in the grammar
-pub in_grammar : (words : List (List ℕ)) (call : Call) → Some call ≡ call_of words → is_in_grammar words ≡ true
-in_grammar words call e = rw (← e) refl
+-- a run that ran out of memory before it wrote anything
+pub no_memory : (workers : ℕ) (said : Result Work BadInput) (old : Option (List ℕ)) → InputEnds workers said Memory old old
+no_memory workers (Ok (Jobs jobs)) old = (
+  [],
+  record { done = []; rest = jobs; split = refl; last = first_state; first = []; left = []; led = (refl, refl); told = refl },
+  unbegun old [],
+)
+no_memory workers (Ok (Steps file)) old = (replay_text file, refl, unbegun old (replay_text file))
+no_memory workers (Err bad) old = ([], (inr refl, refl), unbegun old [])
 
-pub files_named : (words : List (List ℕ)) (call : Call) → Some call ≡ call_of words → files_of words ≡ files_of_action call.action
-files_named words call e = rw (← e) refl
+-- jobs that were carried out
+pub whole_ends : (workers : ℕ) (jobs : List Job) (old new : Option (List ℕ)) → WritesWhole workers jobs old new → InputEnds workers (Ok (Jobs jobs)) Done old new
+whole_ends workers jobs old new h = (h.1, (h.0, h.2), h.3)
 
--- a fact of one told input
+-- what holds of every input holds of the one that is told
+any_input : (contents : Option (List ℕ → List ℕ)) (words : List (List ℕ)) (P : List ℕ → Type 0) → ((input : List ℕ) → P input) → OfInput contents words P
+any_input None words P f = tt
+any_input (Some c) words P f = f (input_of c (files_of words))
+
 of_input : (contents : Option (List ℕ → List ℕ)) (words : List (List ℕ)) (P Q : List ℕ → Type 0) → ((input : List ℕ) → P input → Q input) → OfInput contents words P → OfInput contents words Q
 of_input None words P Q f h = tt
 of_input (Some c) words P Q f h = f (input_of c (files_of words)) h
 
-ending_too_big : (words : List (List ℕ)) (call : Call) (input : List ℕ) → Some call ≡ call_of words → input_limit < length input → ending_of words input ≡ Size
-ending_too_big words call input known lt =
-    let b : nat_lt input_limit (length input) ≡ true = lt-ltb input_limit (length input) lt in
-    rw (← known, b) refl
-
-ending_read : (words : List (List ℕ)) (call : Call) (input : List ℕ) → Some call ≡ call_of words → length input ≤ input_limit → ending_of words input ≡ ending_of_action call.action input
-ending_read words call input known le =
-    let b : nat_lt input_limit (length input) ≡ false = le-ltb input_limit (length input) le in
-    rw (← known, b) refl
+-- what was read of the files is the input of the arguments
+pub read_input : (contents : Option (List ℕ → List ℕ)) (words files : List (List ℕ)) (bytes : List ℕ) → files_of words ≡ files → IfSome contents (λ c. bytes ≡ input_of c files) → OfInput contents words (λ input. bytes ≡ input)
+read_input None words files bytes e h = tt
+read_input (Some c) words files bytes e h = rw e h
 
 -- the input of some files is no longer than that of all
 prefix_length : (c : List ℕ → List ℕ) (names : List (List ℕ)) (i : ℕ) → length (input_of c (take i names)) ≤ length (input_of c names)
@@ -52,187 +54,113 @@ prefix_length c [] (suc i) = omega arith
 prefix_length c (x ∷ xs) zero = omega arith
 prefix_length c (x ∷ xs) (suc i) = omega (arith, prefix_length c xs i, length-append (ended (c x)) (input_of c (take i xs)), length-append (ended (c x)) (input_of c xs))
 
-too_big : (contents : Option (List ℕ → List ℕ)) (words : List (List ℕ)) (call : Call) (i : ℕ) → Some call ≡ call_of words → IfSome contents (λ c. input_limit < length (input_of c (take (i + 1) (files_of_action call.action)))) → OfInput contents words (λ input. ending_of words input ≡ Size)
-too_big None words call i known h = tt
-too_big (Some c) words call i known h =
-    ending_too_big words call (input_of c (files_of words)) known (rw (files_named words call known) (omega (arith, h, prefix_length c (files_of_action call.action) (i + 1))))
+too_big : (contents : Option (List ℕ → List ℕ)) (words : List (List ℕ)) (i : ℕ) → IfSome contents (λ c. input_limit < length (input_of c (take i (files_of words)))) → OfInput contents words (λ input. input_limit < length input)
+too_big None words i h = tt
+too_big (Some c) words i h = omega (arith, h, prefix_length c (files_of words) i)
 
--- the size is passed where the run ends so
-pub cause_too_big : (s : Seen) (call : Call) → Some call ≡ call_of s.words → (index : ℕ) × PassedAt s.files (files_of_action call.action) index → HasCauseOf Size s
-cause_too_big s call known p = (in_grammar s.words call known, rw (files_named s.words call known) p, too_big s.files.contents s.words call p.0 known p.1.passes)
+-- the call of the arguments is known
+module _ (s : Seen) (call : Call) (known : Some call ≡ call_of s.words) where
+  in_grammar : is_in_grammar s.words ≡ true
+  in_grammar = rw (← known) refl
 
--- the call of the arguments is known, and so is the input, which is within the limit
-module _ (s : Seen) (call : Call) (input : List ℕ) (known : Some call ≡ call_of s.words) (le : length input ≤ input_limit) (told : OfInput s.files.contents s.words (λ i. input ≡ i)) where
-  abbrev ending : Outcome
-  ending = ending_of_action call.action input
+  pub files_named : files_of s.words ≡ files_of_action call.action
+  files_named = rw (← known) refl
 
-  abbrev Ends : Outcome → Type 0
-  Ends o = InputEnds o (ending_of_action call.action input) (IsActionText call.action input) s.written_before s.written_now
+  ends_at : (input : List ℕ) (o : Outcome) (text : List ℕ) → CallEnds call input o text → Ends s.words input o text
+  ends_at input o text h = subst (λ c. EndsAt c input o text) known h
 
-  -- a fact of the input that was read is one of the told input
-  of_read : (P : List ℕ → Type 0) → P input → OfInput s.files.contents s.words P
-  of_read P p = of_input s.files.contents s.words (λ i. input ≡ i) P (λ i same. subst P same p) told
-
-  ends_as : (o : Outcome) → ending_of_action call.action input ≡ o → EndsAs o s
-  ends_as o e = of_read (λ i. ending_of s.words i ≡ o) (ending_read s.words call input known le ∙ e)
-
-  -- the outcome has its cause
-  pub cause_of_ends : (o : Outcome) → ReadsAll s.files (files_of s.words) → Ends o → HasCauseOf o s
-  cause_of_ends Done all h = (in_grammar s.words call known, all, ends_as Done h.0)
-  cause_of_ends Memory all h = (in_grammar s.words call known, (length (files_of s.words), all.opened))
-  cause_of_ends Arguments all h = absurd h
-  cause_of_ends (BadLine line why) all h = (in_grammar s.words call known, all, ends_as (BadLine line why) h.0)
-  cause_of_ends (File index) all h = absurd h
-  cause_of_ends Write all h = (in_grammar s.words call known, all, ends_as Done h.0)
-  cause_of_ends Size all h = absurd h
-
-  -- the text of an input that is done is one of the arguments and the input
-  done_text : (text : List ℕ) → ending_of_action call.action input ≡ Done → IsActionText call.action input text → IsText s.words input text
-  done_text text e m = record {
-    done = ending_read s.words call input known le ∙ e;
-    call = call;
-    asked = known;
-    text = m;
+  -- memory ran out before there was an input, or a file failed
+  pub explains_memory : (count : ℕ) × OpensFirst s.files (files_of_action call.action) count → s.written_now ≡ s.written_before → Explains Memory s
+  explains_memory opened same = record {
+    reads = (in_grammar, rw files_named opened);
+    ends = any_input s.files.contents s.words (λ input. (text : List ℕ) × Ends s.words input Memory text × Writes Memory s.written_before s.written_now text)
+        (λ input. ([], ends_at input Memory [] (inl refl), subst (λ now. AppendsPrefix s.written_before now []) (sym same) (unbegun s.written_before [])));
   }
 
-  writes_text : (text : List ℕ) → ending_of_action call.action input ≡ Done → IsActionText call.action input text → s.written_now ≡ append_known s.written_before text → WritesText s
-  writes_text text e m w = of_read (λ i. (t : List ℕ) × IsText s.words i t × (s.written_now ≡ append_known s.written_before t)) (text, done_text text e m, w)
+  pub explains_file : (index : ℕ) → FailedAt s.files (files_of_action call.action) index → s.written_now ≡ s.written_before → Explains (File index) s
+  explains_file index failed same = record {
+    reads = (in_grammar, rw files_named failed);
+    ends = any_input s.files.contents s.words (λ input. (text : List ℕ) × Ends s.words input (File index) text × Writes (File index) s.written_before s.written_now text) (λ input. ([], ends_at input (File index) [] refl, same));
+  }
 
-  writes_prefix : PrintsPrefix (ending_of_action call.action input) (IsActionText call.action input) s.written_before s.written_now → WritesPrefix s
-  writes_prefix h = inr (of_read (λ i. (t : List ℕ) × IsText s.words i t × AppendsPrefix s.written_before s.written_now t) (h.1, done_text h.1 h.0 h.2, h.3))
+  -- the input passes the limit
+  pub explains_size : (index : ℕ) × PassedAt s.files (files_of_action call.action) index → s.written_now ≡ s.written_before → Explains Size s
+  explains_size passed same =
+      let there : (index : ℕ) × PassedAt s.files (files_of s.words) index = rw files_named passed in
+      record {
+        reads = (in_grammar, there);
+        ends = of_input s.files.contents s.words (λ input. input_limit < length input) (λ input. (text : List ℕ) × Ends s.words input Size text × Writes Size s.written_before s.written_now text)
+            (λ input lt. ([], ends_at input Size [] (lt, refl), same)) (too_big s.files.contents s.words (there.0 + 1) there.1.passes);
+      }
 
-  some_prefix : (s.written_now ≡ s.written_before) ⊎ PrintsPrefix (ending_of_action call.action input) (IsActionText call.action input) s.written_before s.written_now → WritesPrefix s
-  some_prefix (inl same) = inl same
-  some_prefix (inr h) = writes_prefix h
+-- how the input of a call ends, by what it said
+module _ (call : Call) (input : List ℕ) (le : length input ≤ input_limit) where
+  bad_ends : (bad : BadInput) → work_said call.action input ≡ Err bad → (o : Outcome) (text : List ℕ) → ((o ≡ BadLine bad.line bad.why) ⊎ (o ≡ Memory)) → text ≡ [] → CallEnds call input o text
+  bad_ends bad e o text (inl is) none = subst (λ p. CallEnds call input p text) (sym is) (le, e, none)
+  bad_ends bad e o text (inr is) none = subst (λ p. CallEnds call input p text) (sym is) (inl none)
 
-  -- the outcome wrote what it should
-  pub writes_of_ends : (o : Outcome) → Ends o → Writes o s
-  writes_of_ends Done h = writes_text h.1 h.0 h.2 h.3
-  writes_of_ends Memory h = some_prefix h
-  writes_of_ends Arguments h = absurd h
-  writes_of_ends (BadLine line why) h = h.1
-  writes_of_ends (File index) h = absurd h
-  writes_of_ends Write h = writes_prefix h
-  writes_of_ends Size h = absurd h
+  said_ends : (said : Result Work BadInput) → work_said call.action input ≡ said → (o : Outcome) (text : List ℕ) → SaidEnds call.workers said o text → CallEnds call input o text
+  said_ends (Ok work) e Done text h = (le, (work, e, h))
+  said_ends (Ok work) e (Over limit) text h = (le, (work, e, h))
+  said_ends (Ok work) e Write text h = (le, (work, e, h))
+  said_ends (Ok work) e Memory text h = inr (le, (work, e, h))
+  said_ends (Ok work) e Arguments text h = absurd h
+  said_ends (Ok work) e (BadLine line why) text h = absurd h
+  said_ends (Ok work) e (File index) text h = absurd h
+  said_ends (Ok work) e Size text h = absurd h
+  said_ends (Err bad) e o text h = bad_ends bad e o text h.0 h.1
 
-whole_prefix : (s : Seen) (contents : Option (List ℕ → List ℕ)) → OfInput contents s.words (λ i. (t : List ℕ) × IsText s.words i t × (s.written_now ≡ append_known s.written_before t))
-    → OfInput contents s.words (λ i. (t : List ℕ) × IsText s.words i t × AppendsPrefix s.written_before s.written_now t)
-whole_prefix s None h = tt
-whole_prefix s (Some c) h = (h.0, h.1, record { count = length h.0; appended = h.2 ∙ ap (append_known s.written_before) (sym (take_all (length h.0) h.0 (omega arith))) })
+-- a run that read its whole input
+memory_reads : (s : Seen) → ReadsAll s → Reads Memory s
+memory_reads s all = (all.called, (length (files_of s.words), all.opened))
 
--- whatever the outcome, nothing was written or a prefix of a text
-pub prefix_of_writes : (o : Outcome) (s : Seen) → Writes o s → WritesPrefix s
-prefix_of_writes Done s h = inr (whole_prefix s s.files.contents h)
-prefix_of_writes Memory s h = h
-prefix_of_writes Arguments s h = inl h
-prefix_of_writes (BadLine line why) s h = inl h
-prefix_of_writes (File index) s h = inl h
-prefix_of_writes Write s h = h
-prefix_of_writes Size s h = inl h
+bad_reads : (s : Seen) (bad : BadInput) (o : Outcome) → ReadsAll s → ((o ≡ BadLine bad.line bad.why) ⊎ (o ≡ Memory)) → Reads o s
+bad_reads s bad o all (inl is) = subst (λ p. Reads p s) (sym is) all
+bad_reads s bad o all (inr is) = subst (λ p. Reads p s) (sym is) (memory_reads s all)
 
--- a run that ends by the size has an input that passes it
-lines_not_size : (r : Result (List Line) LineFault) → ending_of_lines r ≡ Size → ⊥
-lines_not_size (Ok lines) e = cc
-lines_not_size (Err fault) e = cc
+said_reads : (s : Seen) (workers : ℕ) (said : Result Work BadInput) (o : Outcome) (text : List ℕ) → ReadsAll s → SaidEnds workers said o text → Reads o s
+said_reads s workers (Ok work) Done text all h = all
+said_reads s workers (Ok work) (Over limit) text all h = all
+said_reads s workers (Ok work) Write text all h = all
+said_reads s workers (Ok work) Memory text all h = memory_reads s all
+said_reads s workers (Ok work) Arguments text all h = absurd h
+said_reads s workers (Ok work) (BadLine line why) text all h = absurd h
+said_reads s workers (Ok work) (File index) text all h = absurd h
+said_reads s workers (Ok work) Size text all h = absurd h
+said_reads s workers (Err bad) o text all h = bad_reads s bad o all h.0
 
-steps_not_size : (r : Result StepFile ℕ) → ending_of_steps r ≡ Size → ⊥
-steps_not_size (Ok file) e = cc
-steps_not_size (Err line) e = cc
+pub explains_read : (s : Seen) (call : Call) (known : Some call ≡ call_of s.words) (input : List ℕ) (o : Outcome) → length input ≤ input_limit → OfInput s.files.contents s.words (λ i. input ≡ i) → ReadsAll s
+    → InputEnds call.workers (work_said call.action input) o s.written_before s.written_now → Explains o s
+explains_read s call known input o le told all h =
+    let here : CallEnds call input o h.0 = said_ends call input le (work_said call.action input) refl o h.0 h.1 in
+    record {
+      reads = said_reads s call.workers (work_said call.action input) o h.0 all h.1;
+      ends = of_input s.files.contents s.words (λ i. input ≡ i) (λ i. (text : List ℕ) × Ends s.words i o text × Writes o s.written_before s.written_now text)
+          (λ i same. (h.0, ends_at s call known i o h.0 (subst (λ j. CallEnds call j o h.0) same here), h.2)) told;
+    }
 
-not_size : (action : Action) (input : List ℕ) → ending_of_action action input ≡ Size → ⊥
-not_size (model files) input e = lines_not_size (event_lines_said input) e
-not_size (replay file) input e = steps_not_size (file_said input) e
-
-size_passed : (words : List (List ℕ)) (input : List ℕ) → ending_of words input ≡ Size → input_limit < length input
-size_passed words input e = by_tests (call_of words) (nat_lt input_limit (length input)) refl e
-  where
-    by_tests : (call : Option Call) (big : Bool) → nat_lt input_limit (length input) ≡ big → option_map_or (λ call. if big then Size else ending_of_action call.action input) call Arguments ≡ Size → input_limit < length input
-    by_tests (Some call) true b e = ltb-true input_limit (length input) b
-    by_tests (Some call) false b e = absurd (not_size call.action input e)
-    by_tests None big b e = cc
-
-pub size_of_cause : (o : Outcome) (s : Seen) (n : ℕ) → n ≡ status_of o → HasCauseOf o s → n ≡ 6 → OfInput s.files.contents s.words (λ input. input_limit < length input)
-size_of_cause Done s n e h k = absurd (omega arith)
-size_of_cause Memory s n e h k = absurd (omega arith)
-size_of_cause Arguments s n e h k = absurd (omega arith)
-size_of_cause (BadLine line why) s n e h k = absurd (omega arith)
-size_of_cause (File index) s n e h k = absurd (omega arith)
-size_of_cause Write s n e h k = absurd (omega arith)
-size_of_cause Size s n e h k = of_input s.files.contents s.words (λ i. ending_of s.words i ≡ Size) (λ i. input_limit < length i) (λ i q. size_passed s.words i q) h.2
-
--- what was read of the files is the input of the arguments
-pub read_input : (contents : Option (List ℕ → List ℕ)) (words files : List (List ℕ)) (bytes : List ℕ) → files_of words ≡ files → IfSome contents (λ c. bytes ≡ input_of c files) → OfInput contents words (λ input. bytes ≡ input)
-read_input None words files bytes e h = tt
-read_input (Some c) words files bytes e h = rw e h
-
--- status 4 names the file, and 3 the line and the reason
-pub file_of_cause : (o : Outcome) (s : Seen) (n : ℕ) (P : Outcome → Type 0) → n ≡ status_of o → HasCauseOf o s → P o → n ≡ 4 → (index : ℕ) × FailedAt s.files (files_of s.words) index × P (File index)
-file_of_cause Done s n P e h p k = absurd (omega (arith, e, k))
-file_of_cause Memory s n P e h p k = absurd (omega (arith, e, k))
-file_of_cause Arguments s n P e h p k = absurd (omega (arith, e, k))
-file_of_cause (BadLine line why) s n P e h p k = absurd (omega (arith, e, k))
-file_of_cause (File index) s n P e h p k = (index, h.1, p)
-file_of_cause Write s n P e h p k = absurd (omega (arith, e, k))
-file_of_cause Size s n P e h p k = absurd (omega (arith, e, k))
-
-pub line_of_cause : (o : Outcome) (s : Seen) (n : ℕ) (P : Outcome → Type 0) → n ≡ status_of o → HasCauseOf o s → P o → n ≡ 3
-    → OfInput s.files.contents s.words (λ input. (line : ℕ) × (why : Reason) × (ending_of s.words input ≡ BadLine line why) × P (BadLine line why))
-line_of_cause Done s n P e h p k = absurd (omega (arith, e, k))
-line_of_cause Memory s n P e h p k = absurd (omega (arith, e, k))
-line_of_cause Arguments s n P e h p k = absurd (omega (arith, e, k))
-line_of_cause (BadLine line why) s n P e h p k = of_input s.files.contents s.words (λ i. ending_of s.words i ≡ BadLine line why) (λ i. (line : ℕ) × (why : Reason) × (ending_of s.words i ≡ BadLine line why) × P (BadLine line why)) (λ i q. (line, why, q, p)) h.2
-line_of_cause (File index) s n P e h p k = absurd (omega (arith, e, k))
-line_of_cause Write s n P e h p k = absurd (omega (arith, e, k))
-line_of_cause Size s n P e h p k = absurd (omega (arith, e, k))
-
--- where the arguments name no file, none was opened
-pub opens_none : (s : Seen) (names : List (List ℕ)) → s.files.opens_now ≡ s.files.opens_before → s.files.names_now ≡ s.files.names_before → OpensFirst s.files names 0
-opens_none s names calls same = record {
-  within = omega arith;
-  counted = record { least = omega (arith, calls); most = omega (arith, calls) };
-  named = same ∙ none s.files.names_before;
-}
-  where
-    none : (known : Option (List (List ℕ))) → known ≡ append_names known []
-    none None = refl
-    none (Some past) = ap Some (sym (append-nil past))
+-- what was read of the files of a call
+pub reads_all : (s : Seen) (call : Call) (known : Some call ≡ call_of s.words) → OpensFirst s.files (files_of_action call.action) (length (files_of_action call.action)) → IsAtEnd s.files.left → ReadsAll s
+reads_all s call known opened at_end = record { called = in_grammar s call known; opened = rw (files_named s call known) opened; at_end = at_end }
 
 -- whatever the outcome, the first files were opened, so many
-pub opens_of_cause : (o : Outcome) (s : Seen) → HasCauseOf o s → (count : ℕ) × OpensFirst s.files (files_of s.words) count
-opens_of_cause Done s h = (length (files_of s.words), h.1.opened)
-opens_of_cause Memory s h = h.1
-opens_of_cause Arguments s h = (0, h.1)
-opens_of_cause (BadLine line why) s h = (length (files_of s.words), h.1.opened)
-opens_of_cause (File index) s h = (index + 1, h.1.opened)
-opens_of_cause Write s h = (length (files_of s.words), h.1.opened)
-opens_of_cause Size s h = (h.1.0 + 1, h.1.1.opened)
+pub opens_of : (o : Outcome) (s : Seen) → Reads o s → (count : ℕ) × OpensFirst s.files (files_of s.words) count
+opens_of Done s h = (length (files_of s.words), h.opened)
+opens_of Memory s h = h.1
+opens_of Arguments s h = (0, h.1)
+opens_of (BadLine line why) s h = (length (files_of s.words), h.opened)
+opens_of (File index) s h = (index + 1, h.1.opened)
+opens_of Write s h = (length (files_of s.words), h.opened)
+opens_of Size s h = (h.1.0 + 1, h.1.1.opened)
+opens_of (Over limit) s h = (length (files_of s.words), h.opened)
 
--- with 0, 3 and 5 each file was read to its end
-pub reads_of_cause : (o : Outcome) (s : Seen) (n : ℕ) → n ≡ status_of o → HasCauseOf o s → (n ≡ 0) ⊎ (n ≡ 3) ⊎ (n ≡ 5) → ReadsAll s.files (files_of s.words)
-reads_of_cause Done s n e h k = h.1
-reads_of_cause Memory s n e h k = absurd (not_one n e k)
-  where
-    not_one : (n : ℕ) → n ≡ 1 → (n ≡ 0) ⊎ (n ≡ 3) ⊎ (n ≡ 5) → ⊥
-    not_one n e (inl a) = omega (arith, e, a)
-    not_one n e (inr (inl a)) = omega (arith, e, a)
-    not_one n e (inr (inr a)) = omega (arith, e, a)
-reads_of_cause Arguments s n e h k = absurd (not_two n e k)
-  where
-    not_two : (n : ℕ) → n ≡ 2 → (n ≡ 0) ⊎ (n ≡ 3) ⊎ (n ≡ 5) → ⊥
-    not_two n e (inl a) = omega (arith, e, a)
-    not_two n e (inr (inl a)) = omega (arith, e, a)
-    not_two n e (inr (inr a)) = omega (arith, e, a)
-reads_of_cause (BadLine line why) s n e h k = h.1
-reads_of_cause (File index) s n e h k = absurd (not_four n e k)
-  where
-    not_four : (n : ℕ) → n ≡ 4 → (n ≡ 0) ⊎ (n ≡ 3) ⊎ (n ≡ 5) → ⊥
-    not_four n e (inl a) = omega (arith, e, a)
-    not_four n e (inr (inl a)) = omega (arith, e, a)
-    not_four n e (inr (inr a)) = omega (arith, e, a)
-reads_of_cause Write s n e h k = h.1
-reads_of_cause Size s n e h k = absurd (not_six n e k)
-  where
-    not_six : (n : ℕ) → n ≡ 6 → (n ≡ 0) ⊎ (n ≡ 3) ⊎ (n ≡ 5) → ⊥
-    not_six n e (inl a) = omega (arith, e, a)
-    not_six n e (inr (inl a)) = omega (arith, e, a)
-    not_six n e (inr (inr a)) = omega (arith, e, a)
+-- an input that ends by its size passes the limit
+size_at : (c : Option Call) (input text : List ℕ) → EndsAt c input Size text → input_limit < length input
+size_at None input text h =
+    let e : Size ≡ Arguments = h.0 in
+    cc
+size_at (Some call) input text h = h.0
+
+pub size_passed : (s : Seen) → EndsAs Size s → OfInput s.files.contents s.words (λ input. input_limit < length input)
+size_passed s h = of_input s.files.contents s.words (λ input. (text : List ℕ) × Ends s.words input Size text × Writes Size s.written_before s.written_now text) (λ input. input_limit < length input)
+    (λ input q. size_at (call_of s.words) input q.0 q.1) h

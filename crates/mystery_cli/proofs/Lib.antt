@@ -1,10 +1,5 @@
-pub mod BatchLemmas
-pub mod DayLemmas
-pub mod ElementLemmas
+pub mod DecidedLemmas
 pub mod EndingLemmas
 pub mod HexLemmas
-pub mod JudgeLemmas
-pub mod OneListLemmas
-pub mod OneTextLemmas
-pub mod PrintLemmas
 pub mod ReplayLemmas
+pub mod StatusLemmas

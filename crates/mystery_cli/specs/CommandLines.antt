@@ -1,5 +1,5 @@
--- The grammar of the arguments: `[--workers N] COMMAND`, where COMMAND is `model FILE...` or
--- `replay FILE`.
+-- The grammar of the arguments: `[--workers N] COMMAND`, where COMMAND is `session FILE...`, a view
+-- as `model FILE...`, or `replay FILE`.
 use Rattle.std.specs.Prelude.{ℕ, ◌^◌, ◌==◌, List, [], ◌∷◌, length, codes, not, nat_lt, Bool}
 use Rattle.std.specs.Prelude.{if◌then◌else◌, Option, Some, None, is_some, option_map}
 use Rattle.std.specs.Prelude.{option_and_then}
@@ -8,12 +8,16 @@ use Rattle.std.specs.List.{list_all}
 use Rattle.std.specs.Str.{bytes_eq}
 use Rattle.mystery_cli.specs.declared.command_line.CommandLine.{CommandLine}
 use Rattle.mystery_cli.specs.declared.action.Action as asked
-use Rattle.mystery_cli.specs.declared.action.Action.TheVariants.{Model, Replay}
+use Rattle.mystery_cli.specs.declared.action.Action.TheVariants as actions
+use Rattle.mystery_cli.specs.declared.view.View.{View}
+use Rattle.mystery_cli.specs.declared.view.View.TheVariants.{Model, Paths, Slack, Graph}
 use Rattle.mystery_cli.specs.Numbers.{number_between}
 
--- what is asked for: the model of the traces in these files, or the replay of a file of steps
+-- what is asked for: the control lines of these files, these and then a view, or the replay of a
+-- file of steps
 pub data Action : Type 0 where
-  model : List (List ℕ) → Action
+  session : List (List ℕ) → Action
+  view : View → List (List ℕ) → Action
   replay : List ℕ → Action
 
 -- what the arguments ask for: how many workers, and what is to be done
@@ -36,11 +40,24 @@ one_file [] = None
 one_file (file ∷ []) = if is_file file then Some file else None
 one_file (file ∷ other ∷ files) = None
 
+-- the view with this name
+abbrev pub named_view : List ℕ → Option View
+named_view name =
+    if bytes_eq name (codes "model") then Some Model else (
+    if bytes_eq name (codes "paths") then Some Paths else (
+    if bytes_eq name (codes "slack") then Some Slack else (
+    if bytes_eq name (codes "graph") then Some Graph else None)))
+
+-- a view of the files that these words are
+abbrev pub view_of_words : List (List ℕ) → View → Option Action
+view_of_words words v = option_map (view v) (some_files words)
+
 -- what the command with this name and these words after it asks for
 abbrev pub named_action : List ℕ → List (List ℕ) → Option Action
 named_action name words =
-    if bytes_eq name (codes "model") then option_map model (some_files words) else (
-    if bytes_eq name (codes "replay") then option_map replay (one_file words) else None)
+    if bytes_eq name (codes "session") then option_map session (some_files words) else (
+    if bytes_eq name (codes "replay") then option_map replay (one_file words) else
+    option_and_then (view_of_words words) (named_view name))
 
 -- what these words ask for: a command and its words
 abbrev pub action_of_words : List (List ℕ) → Option Action
@@ -71,7 +88,8 @@ is_in_grammar words = is_some (call_of words)
 
 -- the files that are read for it, in order
 abbrev pub files_of_action : Action → List (List ℕ)
-files_of_action (model files) = files
+files_of_action (session files) = files
+files_of_action (view v files) = files
 files_of_action (replay file) = file ∷ []
 
 -- the file arguments, none where the arguments are outside the grammar
@@ -80,8 +98,9 @@ files_of words = option_map_or (λ (call : Call). files_of_action call.action) (
 
 -- a parsed action, seen as the action that it is
 abbrev pub action_of : asked.Action → Action
-action_of (Model files) = model files.now
-action_of (Replay file) = replay file.now
+action_of (actions.Session files) = session files.now
+action_of (actions.View v files) = view v files.now
+action_of (actions.Replay file) = replay file.now
 
 -- a parsed command line, seen as the call that it is
 abbrev pub call_of_line : CommandLine → Call

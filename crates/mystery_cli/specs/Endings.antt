@@ -1,37 +1,62 @@
--- How a run ends where no call on files or sinks fails and no allocation fails.
-use Rattle.std.specs.Prelude.{ℕ, List, length, nat_lt, if◌then◌else◌, Result, Ok, Err}
-use Rattle.std.specs.Option.{option_map_or}
-use Rattle.event_lines.specs.declared.line.Line as event_lines
-use Rattle.event_lines.specs.EventsAlone.{event_lines_said}
-use Rattle.event_lines.specs.InputLines.{LineFault}
+-- How a run ends, and the text that it has then.
+use Rattle.std.specs.Prelude.{ℕ, ◌≡◌, ◌<◌, ◌≤◌, ◌⊎◌, List, [], length, ⊤}
+use Rattle.std.specs.Prelude.{Option, Some, None, Ok, Err}
+use Rattle.std.specs.Io.KnownBytes.{append_known}
 use Rattle.mystery_io.specs.Input.{input_limit}
-use Rattle.step_core.specs.declared.step_file.StepFile.{StepFile}
-use Rattle.step_core.specs.StepFiles.{file_said}
+use Rattle.mystery_io.specs.Prefixes.{AppendsPrefix}
 use Rattle.mystery_cli.specs.declared.outcome.Outcome.{Outcome}
-use Rattle.mystery_cli.specs.declared.outcome.Outcome.TheVariants.{Done, Arguments, BadLine, Size}
-use Rattle.mystery_cli.specs.declared.reason.Reason.TheVariants.{Line, Step}
-use Rattle.mystery_cli.specs.CommandLines.{Action, Call, model, replay, call_of}
+use Rattle.mystery_cli.specs.declared.outcome.Outcome.TheVariants.{Done, Memory, Arguments, BadLine}
+use Rattle.mystery_cli.specs.declared.outcome.Outcome.TheVariants.{File, Write, Size, Over}
+use Rattle.mystery_cli.specs.CommandLines.{Call, call_of}
+use Rattle.mystery_cli.specs.Texts.{IsTextOf, IsTextUpTo, IsTextOfParts}
+use Rattle.mystery_cli.specs.Works.{Work, work_said}
 
--- by the lines of the input: it is done, or it stops at the first bad line
-abbrev pub ending_of_lines : Result (List event_lines.Line) LineFault → Outcome
-ending_of_lines (Ok lines) = Done
-ending_of_lines (Err fault) = BadLine fault.line (Line fault.why)
+-- the input is within the limit and has no bad line, and P holds of its work
+abbrev pub OfWork : Call → List ℕ → (Work → Type 0) → Type 0
+OfWork call input P =
+    (length input ≤ input_limit) × ((work : Work) × (work_said call.action input ≡ Ok work) × P work)
 
--- by the steps of a file: it is done, or it stops at the first line outside the form
-abbrev pub ending_of_steps : Result StepFile ℕ → Outcome
-ending_of_steps (Ok file) = Done
-ending_of_steps (Err line) = BadLine line Step
+-- a call over this input may end so, with this text
+abbrev pub CallEnds : Call → List ℕ → Outcome → List ℕ → Type 0
+CallEnds call input Arguments text = ⊥
+CallEnds call input (File index) text = text ≡ []
+CallEnds call input Size text = (input_limit < length input) × (text ≡ [])
+CallEnds call input (BadLine line why) text = (length input ≤ input_limit)
+    × (work_said call.action input ≡ Err (record { line = line; why = why })) × (text ≡ [])
+CallEnds call input Done text = OfWork call input (λ work. IsTextOf call.workers work text)
+CallEnds call input (Over limit) text =
+    OfWork call input (λ work. IsTextUpTo call.workers work limit text)
+CallEnds call input Write text = OfWork call input (λ work. IsTextOfParts call.workers work text)
+CallEnds call input Memory text =
+    (text ≡ []) ⊎ OfWork call input (λ work. IsTextOfParts call.workers work text)
 
--- by what is asked for and the input
-abbrev pub ending_of_action : Action → List ℕ → Outcome
-ending_of_action (model files) input = ending_of_lines (event_lines_said input)
-ending_of_action (replay file) input = ending_of_steps (file_said input)
+-- the same of a call that may be none: there were arguments outside the grammar
+abbrev pub EndsAt : Option Call → List ℕ → Outcome → List ℕ → Type 0
+EndsAt None input outcome text = (outcome ≡ Arguments) × (text ≡ [])
+EndsAt (Some call) input outcome text = CallEnds call input outcome text
 
--- by the size of the input, and then by what is asked for
-abbrev pub ending_of_call : Call → List ℕ → Outcome
-ending_of_call call input =
-    if nat_lt input_limit (length input) then Size else ending_of_action call.action input
+-- a run with these arguments over this input may end so, with this text
+abbrev pub Ends : List (List ℕ) → List ℕ → Outcome → List ℕ → Type 0
+Ends words input outcome text = EndsAt (call_of words) input outcome text
 
--- by the arguments, then the size of the input, and then its lines
-abbrev pub ending_of : List (List ℕ) → List ℕ → Outcome
-ending_of words input = option_map_or (λ call. ending_of_call call input) (call_of words) Arguments
+-- what is written of the text by a run that ends so: all of it, a prefix, or nothing
+abbrev pub Writes : Outcome → Option (List ℕ) → Option (List ℕ) → List ℕ → Type 0
+Writes Done before now text = now ≡ append_known before text
+Writes (Over limit) before now text = now ≡ append_known before text
+Writes Memory before now text = AppendsPrefix before now text
+Writes Write before now text = AppendsPrefix before now text
+Writes Arguments before now text = now ≡ before
+Writes (BadLine line why) before now text = now ≡ before
+Writes (File index) before now text = now ≡ before
+Writes Size before now text = now ≡ before
+
+-- arguments and an input alone decide this ending: no memory, file or sink failed
+abbrev pub IsDecided : Outcome → Type 0
+IsDecided Done = ⊤
+IsDecided (Over limit) = ⊤
+IsDecided Arguments = ⊤
+IsDecided (BadLine line why) = ⊤
+IsDecided Size = ⊤
+IsDecided Memory = ⊥
+IsDecided (File index) = ⊥
+IsDecided Write = ⊥

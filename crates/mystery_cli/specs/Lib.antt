@@ -1,11 +1,9 @@
 pub mod CommandLines
 pub mod Endings
 pub mod Messages
-pub mod ModelTexts
-pub mod Models
 pub mod Numbers
 pub mod ReplayTexts
-pub mod Rows
 pub mod Runs
 pub mod Texts
+pub mod Works
 pub mod inner

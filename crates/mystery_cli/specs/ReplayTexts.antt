@@ -12,7 +12,7 @@ use Rattle.word_rows.specs.Machine.{Fault, no_seat, row_open, bad_share, bad_wor
 use Rattle.word_rows.specs.Machine.{after}
 use Rattle.step_core.specs.declared.start.Start.{Start}
 use Rattle.step_core.specs.declared.step_file.StepFile.{StepFile}
-use Rattle.mystery_cli.specs.Rows.{row_of}
+use Rattle.text_rows.specs.Rows.{row_of}
 
 -- a word of 64 bits as 16 lower-case hexadecimal digits, the four highest bits first
 unfoldable pub hex_word : ℕ → List ℕ

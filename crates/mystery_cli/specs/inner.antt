@@ -1,7 +1,6 @@
-pub mod Fields
 -- What private contracts alone cite.
+pub mod FurtherLines
 pub mod InputEnds
+pub mod Leaving
 pub mod OutcomeFaults
-pub mod Printing
 pub mod Replaying
-pub mod Steps

@@ -1,15 +1,18 @@
 ghost use Rattle.std.specs.Prelude.{◌≡◌};
 ghost use Rattle.mystery_cli.specs.CommandLines.{action_of, files_of_action};
 
+use crate::view::View;
 use std::slice;
 use trace_types::Text;
 
-/// What the arguments ask for.
+/// What the arguments ask for. Files are one at least.
 #[derive(Clone, Copy, Debug)]
 pub(crate) enum Action<'w> {
-    /// The model of the traces in these files, one at least.
-    Model { files: &'w [Text] },
-    /// The replay of this file of steps.
+    /// Carry out the control lines of these files.
+    Session { files: &'w [Text] },
+    /// Carry out the control lines of these files, and then print this view.
+    View { view: View, files: &'w [Text] },
+    /// Replay this file of steps.
     Replay { file: &'w Text },
 }
 
@@ -19,7 +22,8 @@ impl<'w> Action<'w> {
         ensures { result.now ≡ files_of_action (action_of self.entry) }
     {
         match self {
-            Action::Model { files } => files,
+            Action::Session { files } => files,
+            Action::View { files, .. } => files,
             Action::Replay { file } => slice::from_ref(file),
         }
     }

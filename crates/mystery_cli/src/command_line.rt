@@ -3,9 +3,10 @@ ghost use Rattle.std.specs.List.{list_all};
 ghost use Rattle.mystery_cli.specs.Numbers.{number_between};
 ghost use Rattle.mystery_cli.specs.CommandLines.{action_of, action_of_words, call_of};
 ghost use Rattle.mystery_cli.specs.CommandLines.{call_of_line, call_of_words, files_of_action};
-ghost use Rattle.mystery_cli.specs.CommandLines.{is_file};
+ghost use Rattle.mystery_cli.specs.CommandLines.{is_file, named_action};
 
 use crate::action::Action;
+use crate::view::View;
 use step_core::plain_number;
 use trace_types::Text;
 
@@ -18,7 +19,7 @@ const MAX_WORKERS: u32 = 64;
 /// What the arguments ask for.
 #[derive(Clone, Copy, Debug)]
 pub(crate) struct CommandLine<'w> {
-    /// The number of workers, from 1 to 64. It changes nothing yet.
+    /// The number of workers, from 1 to 64.
     pub(crate) workers: u32,
     /// What is to be done.
     pub(crate) action: Action<'w>,
@@ -26,7 +27,9 @@ pub(crate) struct CommandLine<'w> {
 
 /// Reads the number of workers, from 1 to 64.
 fn parse_workers(word: &str) -> Option<u32>
-    ensures { result ≡ number_between 1 64 word.now }
+    ensures read { result ≡ number_between 1 64 word.now }
+    ensures some { IfSome result (λ n. 0 < n) }
+    ensures most { IfSome result (λ n. n ≤ 64) }
 {
     match plain_number(word.as_bytes()) {
         Some(number) if 1 <= number && number <= MAX_WORKERS => Some(number),
@@ -41,6 +44,24 @@ fn are_files(words: &[Text]) -> bool
     words.iter().all(|word| !word.as_str().is_empty())
 }
 
+/// Finds what the command with this name asks for of the words after it.
+fn find_named<'w>(name: &str, words: &'w [Text]) -> Option<Action<'w>>
+    ensures asked { option_map action_of result ≡ named_action name.now words.now }
+    ensures few { IfSome result (λ a.
+        length (files_of_action (action_of a)) ≤ length words.now) }
+    ensures some { IfSome result (λ a. 0 < length (files_of_action (action_of a))) }
+{
+    match words {
+        [file] if name == "replay" && !file.as_str().is_empty() => Some(Action::Replay { file }),
+        [_, ..] if name == "session" && are_files(words) => Some(Action::Session { files: words }),
+        [_, ..] if are_files(words) => {
+            let view = View::parse(name)?;
+            Some(Action::View { view, files: words })
+        }
+        _ => None,
+    }
+}
+
 /// Finds what a command with its words asks for.
 fn find_action(words: &[Text]) -> Option<Action<'_>>
     ensures asked { option_map action_of result ≡ action_of_words words.now }
@@ -49,21 +70,18 @@ fn find_action(words: &[Text]) -> Option<Action<'_>>
     ensures some { IfSome result (λ a. 0 < length (files_of_action (action_of a))) }
 {
     match words {
-        [name, _, ..] if name.as_str() == "model" && are_files(&words[1..]) => {
-            Some(Action::Model { files: &words[1..] })
-        }
-        [name, file] if name.as_str() == "replay" && !file.as_str().is_empty() => {
-            Some(Action::Replay { file })
-        }
-        _ => None,
+        [name, ..] => find_named(name.as_str(), &words[1..]),
+        [] => None,
     }
 }
 
 impl<'w> CommandLine<'w> {
-    /// Reads the arguments `[--workers N] COMMAND`, where COMMAND is `model FILE...` or
-    /// `replay FILE`; `None` if they are outside the grammar.
+    /// Reads the arguments `[--workers N] COMMAND`, where COMMAND is `session FILE...`, a view as
+    /// `model FILE...`, or `replay FILE`; `None` if they are outside the grammar.
     pub(crate) fn parse(words: &'w [Text]) -> Option<CommandLine<'w>>
         ensures call { option_map call_of_line result ≡ call_of words.now }
+        ensures workers { IfSome result (λ line. 0 < line.workers) }
+        ensures most { IfSome result (λ line. line.workers ≤ 64) }
         ensures few { IfSome result (λ line.
             length (files_of_action (action_of line.action)) < 2 ^ 32) }
         ensures some { IfSome result (λ line.
@@ -78,6 +96,8 @@ impl<'w> CommandLine<'w> {
     /// Reads fewer than 2^32 arguments.
     fn parse_few(words: &'w [Text]) -> Option<CommandLine<'w>>
         ensures call { option_map call_of_line result ≡ call_of_words words.now }
+        ensures workers { IfSome result (λ line. 0 < line.workers) }
+        ensures most { IfSome result (λ line. line.workers ≤ 64) }
         ensures few { IfSome result (λ line.
             length (files_of_action (action_of line.action)) ≤ length words.now) }
         ensures some { IfSome result (λ line.

@@ -1,18 +1,31 @@
 //! What holds of the definitions, each law a function that does nothing.
-ghost use Rattle.std.specs.Prelude.{◌≡◌, ℕ, List};
-ghost use Rattle.trace_types.specs.declared.event.Event.{Event};
-ghost use Rattle.mystery_cli.specs.ModelTexts.{IsModelText};
-ghost use Rattle.mystery_cli.specs.Texts.{IsText};
+ghost use Rattle.std.specs.Prelude.{◌≡◌, ◌⊎◌, ℕ, List};
+ghost use Rattle.job_runs.specs.EndingLaws.{AreAlike};
+ghost use Rattle.job_runs.specs.WatchLaws.{AreAlikeByPart};
+ghost use Rattle.session_rules.specs.Parts.{Part};
+ghost use Rattle.mystery_cli.specs.declared.outcome.Outcome.{Outcome};
+ghost use Rattle.mystery_cli.specs.Endings.{Ends, IsDecided};
 
-use segment_cut::laws::a_trace_has_one_verdict;
+use job_runs::laws::{jobs_end_in_one_way, only_watch_numbers_differ};
 
-/// States that a batch of events has one text of its model, and that arguments and an input have
-/// one text.
-pub fn a_batch_has_one_text()
-    ensures batch { (batch : List Event) (a b : List ℕ) → IsModelText batch a → IsModelText batch b
-        → a ≡ b }
-    ensures input { (words : List (List ℕ)) (input a b : List ℕ) → IsText words input a
-        → IsText words input b → a ≡ b }
+/// States that arguments and an input have one ending, where no memory, file or sink fails.
+pub fn an_input_has_one_ending()
+    ensures { (words : List (List ℕ)) (input : List ℕ) (o p : Outcome) (text other : List ℕ)
+        → IsDecided o → IsDecided p → Ends words input o text → Ends words input p other → o ≡ p }
 {
-    a_trace_has_one_verdict();
+    jobs_end_in_one_way();
+}
+
+/// States that two texts of arguments, an input and an ending are one, or are texts of the same
+/// parts, and then differ in watch numbers alone.
+pub fn texts_are_alike()
+    ensures parts { (words : List (List ℕ)) (input : List ℕ) (o : Outcome) (text other : List ℕ)
+        → IsDecided o → Ends words input o text → Ends words input o other
+        → (text ≡ other) ⊎ AreAlike text other }
+    ensures numbers { (words : List (List ℕ)) (input : List ℕ) (o : Outcome)
+        (text other : List ℕ) → IsDecided o → Ends words input o text → Ends words input o other
+        → (text ≡ other) ⊎ ((parts : List Part) × AreAlikeByPart parts text other) }
+{
+    jobs_end_in_one_way();
+    only_watch_numbers_differ();
 }

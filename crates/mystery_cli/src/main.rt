@@ -3,26 +3,22 @@
 #![tactic(auto)]
 
 mod action;
-mod batch;
-mod batch_model;
 mod command_line;
-mod days;
-mod judged;
+mod hex;
+mod job_reading;
 pub mod laws;
-mod model_text;
 mod outcome;
-mod printing;
 mod program;
 mod reason;
-mod refused;
 mod replay;
 mod replaying;
+mod session_run;
+mod view;
 
 use mystery_io::{OpenGate, RealFiles, RealSink, send_text};
 pub use outcome::Outcome;
 pub use program::run;
 pub use reason::Reason;
-pub use refused::Refused;
 use std::alloc::{AllocError, Global};
 use std::env;
 use std::io::ErrorKind;

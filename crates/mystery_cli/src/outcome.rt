@@ -1,9 +1,12 @@
 ghost use Rattle.std.specs.Prelude.{◌≡◌, ◌+◌, ◌≤◌, ◌<◌, ◌++◌, length, codes, decimal};
-ghost use Rattle.mystery_cli.specs.Messages.{status_of, message_of};
+ghost use Rattle.mystery_cli.specs.Messages.{limit_count, limit_unit, message_of, status_of};
+ghost use Rattle.mystery_cli.specs.inner.InputEnds.{outcome_of};
 
 use crate::Reason;
 use arrayvec::ArrayString;
 use itoa::Buffer;
+use session::CommandFault;
+use session_rules::Limit;
 
 /// How a run ended.
 #[derive(Clone, Copy, Debug, PartialEq, Eq)]
@@ -22,6 +25,8 @@ pub enum Outcome {
     Write,
     /// The input has more than 67,108,864 bytes.
     Size,
+    /// An add passes this limit. The text of the jobs before it was written.
+    Over { limit: Limit },
 }
 
 /// The greatest length of a message in bytes.
@@ -53,7 +58,47 @@ fn make_numbered_line(before: &str, number: u64, after: &str, reason: &str) -> A
     line
 }
 
+/// Returns how many there would be after an add that passes this limit, and of what.
+fn limit_words(limit: Limit) -> (u32, &'static str)
+    ensures count { result.0 ≡ limit_count limit }
+    ensures unit { result.1.now ≡ limit_unit limit }
+    ensures short { length result.1.now ≤ 20 }
+{
+    match limit {
+        Limit::Names { count } => (count, "segment names"),
+        Limit::Tasks { count } => (count, "tasks"),
+        Limit::Days { count } => (count, "days"),
+    }
+}
+
+/// Makes the message of a limit.
+fn make_limit_line(limit: Limit) -> ArrayString<LONGEST>
+    ensures { result.bytes ≡ message_of (Outcome.Over limit) }
+{
+    let (count, unit) = limit_words(limit);
+    make_numbered_line("limit: ", u64::from(count), " ", unit)
+}
+
 impl Outcome {
+    /// Returns how a run ended whose jobs ended with this fault.
+    pub(crate) fn of_fault(fault: CommandFault) -> Outcome
+        ensures { result ≡ outcome_of fault }
+    {
+        match fault {
+            CommandFault::Memory => Outcome::Memory,
+            CommandFault::Write => Outcome::Write,
+            CommandFault::TooManyDays { days } => Outcome::Over {
+                limit: Limit::Days { count: days },
+            },
+            CommandFault::TooManyNames { count } => Outcome::Over {
+                limit: Limit::Names { count },
+            },
+            CommandFault::TooManyTasks { count } => Outcome::Over {
+                limit: Limit::Tasks { count },
+            },
+        }
+    }
+
     /// Returns the exit status, from 0 to 6.
     pub fn status(self) -> u8
         ensures { result ≡ status_of self }
@@ -66,6 +111,7 @@ impl Outcome {
             Outcome::File { .. } => 4,
             Outcome::Write => 5,
             Outcome::Size => 6,
+            Outcome::Over { .. } => 6,
         }
     }
 
@@ -85,6 +131,7 @@ impl Outcome {
             }
             Outcome::Write => make_line("write failed"),
             Outcome::Size => make_line("limit: input over 67108864 bytes"),
+            Outcome::Over { limit } => make_limit_line(limit),
         }
     }
 }

@@ -1,77 +1,68 @@
 ghost use Rattle.std.specs.Prelude.{◌≡◌, ◌≤◌, ◌<◌, ◌==◌, ◌⊎◌, List, ℕ, length, not, if◌then◌else◌};
-ghost use Rattle.std.specs.Io.KnownBytes.{append_known};
 ghost use Rattle.mystery_io.specs.Counts.{counted_up};
 ghost use Rattle.mystery_io.specs.Input.{input_limit};
-ghost use Rattle.mystery_io.specs.Prefixes.{AppendsPrefix, Sends};
+ghost use Rattle.mystery_io.specs.Prefixes.{Sends};
 ghost use Rattle.mystery_io.specs.ReadFaults.{files_seen, OpensFirst, FailedAt};
-ghost use Rattle.event_lines.specs.EventsAlone.{event_lines_said};
+ghost use Rattle.session_rules.specs.declared.limit.Limit.{Limit};
 ghost use Rattle.mystery_cli.specs.declared.outcome.Outcome.{Outcome};
-ghost use Rattle.mystery_cli.specs.declared.outcome.Outcome.TheVariants.{BadLine, File};
+ghost use Rattle.mystery_cli.specs.declared.outcome.Outcome.TheVariants.{BadLine, File, Over};
 ghost use Rattle.mystery_cli.specs.declared.reason.Reason.{Reason};
-ghost use Rattle.mystery_cli.specs.CommandLines.{action_of, is_in_grammar, files_of};
-ghost use Rattle.mystery_cli.specs.Endings.{ending_of, ending_of_action, ending_of_lines};
+ghost use Rattle.mystery_cli.specs.CommandLines.{call_of_line, is_in_grammar, files_of};
+ghost use Rattle.mystery_cli.specs.Endings.{Ends, IsDecided};
 ghost use Rattle.mystery_cli.specs.Messages.{status_of, message_of};
-ghost use Rattle.mystery_cli.specs.ModelTexts.{IsModelText};
-ghost use Rattle.mystery_cli.specs.Texts.{batch_of, IsActionText, IsText};
-ghost use Rattle.mystery_cli.specs.Runs.{run_seen, HasCauseOf, Writes, Explains, OfInput, ReadsAll};
-ghost use Rattle.mystery_cli.specs.inner.InputEnds.{InputEnds, LeavesFiles, LeavesSink};
+ghost use Rattle.mystery_cli.specs.Runs.{run_seen, EndsAs, Explains, OfInput, ReadsAll};
+ghost use Rattle.mystery_cli.specs.Works.{work_said};
+ghost use Rattle.mystery_cli.specs.inner.InputEnds.{InputEnds};
+ghost use Rattle.mystery_cli.specs.inner.Leaving.{LeavesFiles, LeavesSink};
 ghost use Rattle.mystery_cli.specs.inner.OutcomeFaults.{outcome_faults, outcome_read_faults};
 
+use crate::Outcome;
 use crate::action::Action;
-use crate::batch_model::build_model;
 use crate::command_line::CommandLine;
-use crate::model_text::print_model;
-use crate::printing::PrintFault;
+use crate::laws::an_input_has_one_ending;
 use crate::replay::replay_input;
-use crate::{Outcome, Reason};
-use event_lines::LineError;
+use crate::session_run::run_session;
 use mystery_io::{Files, Gate, ReadFault, Sink, read_all, send_text};
 use std::alloc::Global;
 use std::thread::Threads;
 use trace_types::Text;
 
-/// Makes the model of an input and prints its text.
-fn print_model_of<S: Sink>(alloc: Global, input: &[u8], out: &mut S) -> Outcome
-    requires { length input.now ≤ input_limit }
-    ensures ends { InputEnds result (ending_of_lines (event_lines_said input.now))
-        (IsModelText (batch_of input.now)) (S.written out.old) (S.written out.new) }
+/// Does what the arguments ask for over an input that was read.
+fn perform_over<R: Threads + Sync, S: Sink, G: Gate + Sync>(
+    rt: &R,
+    alloc: Global,
+    line: CommandLine<'_>,
+    input: Vec<u8>,
+    out: &mut S,
+    gate: &G,
+) -> Outcome
+    requires some { 0 < line.workers }
+    requires most { line.workers ≤ 64 }
+    requires fits { length input.items ≤ input_limit }
+    ensures ends { let call = call_of_line line.entry in
+        InputEnds call.workers (work_said call.action input.items) result
+        (S.written out.old) (S.written out.new) }
     ensures leaves { LeavesSink result out.old out.new }
     ensures counted { S.faults out.new ≡ outcome_faults result (S.faults out.old) }
 {
-    match build_model(alloc, input) {
-        Err(LineError::Memory) => Outcome::Memory,
-        Err(LineError::Bad { line, why }) => Outcome::BadLine {
-            line,
-            why: Reason::Line { why },
-        },
-        Ok(model) => match print_model(alloc, out, &model) {
-            Ok(()) => Outcome::Done,
-            Err(PrintFault::Memory) => Outcome::Memory,
-            Err(PrintFault::Write) => Outcome::Write,
-        },
-    }
-}
-
-/// Prints the text that is asked for of an input.
-fn print_text<S: Sink>(alloc: Global, action: Action<'_>, input: &[u8], out: &mut S) -> Outcome
-    requires { length input.now ≤ input_limit }
-    ensures ends { InputEnds result (ending_of_action (action_of action.entry) input.now)
-        (IsActionText (action_of action.entry) input.now) (S.written out.old) (S.written out.new) }
-    ensures leaves { LeavesSink result out.old out.new }
-    ensures counted { S.faults out.new ≡ outcome_faults result (S.faults out.old) }
-{
-    match action {
-        Action::Model { .. } => print_model_of(alloc, input, out),
-        Action::Replay { .. } => replay_input(alloc, input, out),
+    let workers = line.workers;
+    match line.action {
+        Action::Session { .. } => run_session(rt, alloc, workers, None, input, out, gate),
+        Action::View { view, .. } => run_session(rt, alloc, workers, Some(view), input, out, gate),
+        Action::Replay { .. } => replay_input(alloc, &input, out),
     }
 }
 
 /// Does what the arguments ask for, and tells how it ended.
-fn perform<F: Files, S: Sink>(alloc: Global, words: &[Text], files: &mut F, out: &mut S) -> Outcome
-    ensures cause { HasCauseOf result (run_seen words.now
-        (files_seen F.contents F.left F.is_open F.names F.opens files.old files.new)
-        S.written out.old out.new) }
-    ensures writes { Writes result (run_seen words.now
+fn perform<R: Threads + Sync, F: Files, S: Sink, G: Gate + Sync>(
+    rt: &R,
+    alloc: Global,
+    words: &[Text],
+    files: &mut F,
+    out: &mut S,
+    gate: &G,
+) -> Outcome
+    ensures explains { Explains result (run_seen words.now
         (files_seen F.contents F.left F.is_open F.names F.opens files.old files.new)
         S.written out.old out.new) }
     ensures files { LeavesFiles result files.old files.new }
@@ -87,24 +78,25 @@ fn perform<F: Files, S: Sink>(alloc: Global, words: &[Text], files: &mut F, out:
         Err(ReadFault::Memory) => Outcome::Memory,
         Err(ReadFault::File { index }) => Outcome::File { index },
         Err(ReadFault::TooBig) => Outcome::Size,
-        Ok(input) => print_text(alloc, line.action, &input, out),
+        Ok(input) => perform_over(rt, alloc, line, input, out, gate),
     }
 }
 
 /// Runs the program: reads the files that the arguments `words` name, writes the text to `out`,
-/// and if it ends in another way a message to `err`. The result is the exit status.
+/// and if it ends in another way a message to `err`. The result is the exit status. Workers of an
+/// add may wait for the gate.
 ///
 /// 0: done. 1: out of memory. 2: the arguments are outside the grammar. 3: a line is bad. 4: a file
-/// could not be read. 5: `out` could not be written. 6: the input is too big. A fault of `err`
-/// leaves the status as it is.
+/// could not be read. 5: `out` could not be written. 6: the input is too big, or an add passes a
+/// limit. A fault of `err` leaves the status as it is.
 pub fn run<R: Threads + Sync, F: Files, S: Sink, E: Sink, G: Gate + Sync>(
-    _rt: &R,
+    rt: &R,
     alloc: Global,
     words: &[Text],
     files: &mut F,
     out: &mut S,
     err: &mut E,
-    _gate: &G,
+    gate: &G,
 ) -> u8
     // The outcome has its cause, wrote what it should, and its message is on `err`.
     ensures explained { (o : Outcome) × (result ≡ status_of o)
@@ -116,9 +108,11 @@ pub fn run<R: Threads + Sync, F: Files, S: Sink, E: Sink, G: Gate + Sync>(
     // Each status and its cause.
     ensures range { result ≤ 6 }
     ensures arguments { (result == 2) ≡ not (is_in_grammar words.now) }
-    ensures bad_line { result ≡ 3 → OfInput (F.contents files.old) words.now (λ input.
-        (line : ℕ) × (why : Reason) × (ending_of words.now input ≡ BadLine line why)
-        × Sends E.written E.faults err.old err.new (message_of (BadLine line why))) }
+    ensures bad_line { result ≡ 3 → (line : ℕ) × (why : Reason)
+        × EndsAs (BadLine line why) (run_seen words.now
+        (files_seen F.contents F.left F.is_open F.names F.opens files.old files.new)
+        S.written out.old out.new)
+        × Sends E.written E.faults err.old err.new (message_of (BadLine line why)) }
     ensures read_fault { F.faults files.new
         ≡ (if result == 4 then counted_up (F.faults files.old) else F.faults files.old) }
     ensures named_file { result ≡ 4 → (index : ℕ)
@@ -127,37 +121,47 @@ pub fn run<R: Threads + Sync, F: Files, S: Sink, E: Sink, G: Gate + Sync>(
         × Sends E.written E.faults err.old err.new (message_of (File index)) }
     ensures write_fault { S.faults out.new
         ≡ (if result == 5 then counted_up (S.faults out.old) else S.faults out.old) }
-    ensures size { result ≡ 6 → OfInput (F.contents files.old) words.now (λ input.
-        input_limit < length input) }
+    ensures limit { result ≡ 6 →
+        ((out.new ≡ out.old)
+        × OfInput (F.contents files.old) words.now (λ input. input_limit < length input)
+        × Sends E.written E.faults err.old err.new (message_of Outcome.Size))
+        ⊎ ((limit : Limit)
+        × EndsAs (Over limit) (run_seen words.now
+        (files_seen F.contents F.left F.is_open F.names F.opens files.old files.new)
+        S.written out.old out.new)
+        × Sends E.written E.faults err.old err.new (message_of (Over limit))) }
     ensures decided { OfInput (F.contents files.old) words.now (λ input.
-        (result ≡ status_of (ending_of words.now input)) ⊎ (result ≡ 1) ⊎ (result ≡ 4)
-        ⊎ ((result ≡ 5) × (ending_of words.now input ≡ Outcome.Done))) }
+        (o : Outcome) (text : List ℕ) → IsDecided o → Ends words.now input o text
+        → (result ≡ status_of o) ⊎ (result ≡ 1) ⊎ (result ≡ 4) ⊎ (result ≡ 5)) }
 
     // Which files were opened, and how far they were read.
     ensures opened { (count : ℕ)
         × OpensFirst (files_seen F.contents F.left F.is_open F.names F.opens files.old files.new)
         (files_of words.now) count }
     ensures read_all { (result ≡ 0) ⊎ (result ≡ 3) ⊎ (result ≡ 5)
-        → ReadsAll (files_seen F.contents F.left F.is_open F.names F.opens files.old files.new)
-        (files_of words.now) }
+        → ReadsAll (run_seen words.now
+        (files_seen F.contents F.left F.is_open F.names F.opens files.old files.new)
+        S.written out.old out.new) }
 
-    // What is on `out`.
-    ensures done { result ≡ 0 → OfInput (F.contents files.old) words.now (λ input.
-        (text : List ℕ) × IsText words.now input text
-        × (S.written out.new ≡ append_known (S.written out.old) text)) }
-    ensures prefix { (S.written out.new ≡ S.written out.old)
-        ⊎ OfInput (F.contents files.old) words.now (λ input.
-        (text : List ℕ) × IsText words.now input text
-        × AppendsPrefix (S.written out.old) (S.written out.new) text) }
+    // What is on `out`: with 0 a whole text, with 1 and 5 whole parts and a prefix.
+    ensures done { result ≡ 0 → EndsAs Outcome.Done (run_seen words.now
+        (files_seen F.contents F.left F.is_open F.names F.opens files.old files.new)
+        S.written out.old out.new) }
+    ensures memory { result ≡ 1 → EndsAs Outcome.Memory (run_seen words.now
+        (files_seen F.contents F.left F.is_open F.names F.opens files.old files.new)
+        S.written out.old out.new) }
+    ensures write { result ≡ 5 → EndsAs Outcome.Write (run_seen words.now
+        (files_seen F.contents F.left F.is_open F.names F.opens files.old files.new)
+        S.written out.old out.new) }
 
     // What stays as it was.
     ensures untouched { result ≡ 2 → files.new ≡ files.old }
-    ensures nothing { (result ≡ 2) ⊎ (result ≡ 3) ⊎ (result ≡ 4) ⊎ (result ≡ 6)
-        → out.new ≡ out.old }
+    ensures nothing { (result ≡ 2) ⊎ (result ≡ 3) ⊎ (result ≡ 4) → out.new ≡ out.old }
     ensures silent { result ≡ 0 → err.new ≡ err.old }
     ensures contents { F.contents files.new ≡ F.contents files.old }
 {
-    let outcome = perform(alloc, words, files, out);
+    an_input_has_one_ending();
+    let outcome = perform(rt, alloc, words, files, out, gate);
     send_text(err, outcome.message().as_str().as_bytes());
     outcome.status()
 }

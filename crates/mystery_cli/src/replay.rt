@@ -1,23 +1,22 @@
-ghost use Rattle.std.specs.Prelude.{◌≡◌, ◌≤◌, length};
+ghost use Rattle.std.specs.Prelude.{◌≡◌, ◌≤◌, ℕ, length};
 ghost use Rattle.mystery_io.specs.Input.{input_limit};
-ghost use Rattle.step_core.specs.StepFiles.{file_said};
-ghost use Rattle.mystery_cli.specs.Endings.{ending_of_steps};
-ghost use Rattle.mystery_cli.specs.Texts.{IsReplayText};
-ghost use Rattle.mystery_cli.specs.inner.InputEnds.{InputEnds, LeavesSink};
+ghost use Rattle.mystery_cli.specs.Works.{steps_said};
+ghost use Rattle.mystery_cli.specs.inner.InputEnds.{InputEnds};
+ghost use Rattle.mystery_cli.specs.inner.Leaving.{LeavesSink};
 ghost use Rattle.mystery_cli.specs.inner.OutcomeFaults.{outcome_faults};
 
-use crate::printing::PrintFault;
 use crate::replaying::print_replay;
 use crate::{Outcome, Reason};
 use mystery_io::Sink;
 use std::alloc::Global;
 use step_core::{StepLineError, read_steps};
+use text_rows::PrintFault;
 
 /// Reads an input as a file of steps and prints its replay.
 pub(crate) fn replay_input<S: Sink>(alloc: Global, input: &[u8], out: &mut S) -> Outcome
     requires { length input.now ≤ input_limit }
-    ensures ends { InputEnds result (ending_of_steps (file_said input.now))
-        (IsReplayText input.now) (S.written out.old) (S.written out.new) }
+    ensures ends { (workers : ℕ) → InputEnds workers (steps_said input.now) result
+        (S.written out.old) (S.written out.new) }
     ensures leaves { LeavesSink result out.old out.new }
     ensures counted { S.faults out.new ≡ outcome_faults result (S.faults out.old) }
 {

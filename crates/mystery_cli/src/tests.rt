@@ -1,8 +1,13 @@
+mod bad_lines;
 mod faults;
-mod models;
+mod limits;
 mod page_load;
 mod real;
 mod replays;
+mod rows;
+mod sessions;
+mod views;
+mod watches;
 
 use crate::run;
 use mystery_io::{ByteList, MemFile, MemFiles, MemSink, OpenGate};
@@ -35,8 +40,7 @@ pub(crate) fn mem_file(alloc: Global, name: &str, bytes: &[u8]) -> Result<MemFil
 }
 
 /// What a run meets: its arguments, the files `f` and `g`, the calls on files, on `out` and on
-/// `err`
-/// that fail, and how many bytes a write to `out` takes.
+/// `err` that fail, and how many bytes a write to `out` takes.
 #[derive(Clone, Copy)]
 pub(crate) struct Setting<'t> {
     pub(crate) words: &'t [&'t str],

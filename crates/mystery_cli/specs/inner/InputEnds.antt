@@ -1,44 +1,42 @@
--- How a run goes on from an input that was read, and which objects it leaves as they were.
-use Rattle.std.specs.Prelude.{ℕ, ◌≡◌, ◌⊎◌, List, Option, ⊤}
-use Rattle.std.specs.Io.KnownBytes.{append_known}
-use Rattle.mystery_io.specs.Prefixes.{AppendsPrefix}
+-- How a run goes on from an input that was read and is within the limit.
+use Rattle.std.specs.Prelude.{ℕ, ◌≡◌, ◌⊎◌, List, [], Option, Result, Ok, Err}
+use Rattle.session.specs.declared.command_fault.CommandFault.{CommandFault}
+use Rattle.session.specs.declared.command_fault.CommandFault.TheVariants as faults
+use Rattle.session_rules.specs.declared.limit.Limit.TheVariants.{Names, Tasks, Days}
 use Rattle.mystery_cli.specs.declared.outcome.Outcome.{Outcome}
 use Rattle.mystery_cli.specs.declared.outcome.Outcome.TheVariants.{Done, Memory, Arguments, BadLine}
-use Rattle.mystery_cli.specs.declared.outcome.Outcome.TheVariants.{File, Write, Size}
+use Rattle.mystery_cli.specs.declared.outcome.Outcome.TheVariants.{File, Write, Size, Over}
+use Rattle.mystery_cli.specs.Endings.{Writes}
+use Rattle.mystery_cli.specs.Texts.{IsTextOf, IsTextUpTo, IsTextOfParts}
+use Rattle.mystery_cli.specs.Works.{BadInput, Work}
 
--- a prefix of a text was written, where the run is to be done
-abbrev pub PrintsPrefix : Outcome → (List ℕ → Type 0) → Option (List ℕ) → Option (List ℕ) → Type 0
-PrintsPrefix ending IsIts old new =
-    (ending ≡ Done) × (text : List ℕ) × IsIts text × AppendsPrefix old new text
+-- a work of so many workers may end so, with this text
+abbrev pub WorkEnds : ℕ → Work → Outcome → List ℕ → Type 0
+WorkEnds workers work Done text = IsTextOf workers work text
+WorkEnds workers work (Over limit) text = IsTextUpTo workers work limit text
+WorkEnds workers work Memory text = IsTextOfParts workers work text
+WorkEnds workers work Write text = IsTextOfParts workers work text
+WorkEnds workers work Arguments text = ⊥
+WorkEnds workers work (BadLine line why) text = ⊥
+WorkEnds workers work (File index) text = ⊥
+WorkEnds workers work Size text = ⊥
 
--- the outcome of an input that was read and is to end so, and what was written of a text of it
-abbrev pub InputEnds : Outcome → Outcome → (List ℕ → Type 0) → Option (List ℕ) → Option (List ℕ)
+-- the same of what an input said: its work, or its first bad line
+abbrev pub SaidEnds : ℕ → Result Work BadInput → Outcome → List ℕ → Type 0
+SaidEnds workers (Ok work) outcome text = WorkEnds workers work outcome text
+SaidEnds workers (Err bad) outcome text =
+    ((outcome ≡ BadLine bad.line bad.why) ⊎ (outcome ≡ Memory)) × (text ≡ [])
+
+-- a run ended so over an input that said this, and wrote what it should
+abbrev pub InputEnds : ℕ → Result Work BadInput → Outcome → Option (List ℕ) → Option (List ℕ)
     → Type 0
-InputEnds Done ending IsIts old new =
-    (ending ≡ Done) × (text : List ℕ) × IsIts text × (new ≡ append_known old text)
-InputEnds Memory ending IsIts old new = (new ≡ old) ⊎ PrintsPrefix ending IsIts old new
-InputEnds Arguments ending IsIts old new = ⊥
-InputEnds (BadLine line why) ending IsIts old new = (ending ≡ BadLine line why) × (new ≡ old)
-InputEnds (File index) ending IsIts old new = ⊥
-InputEnds Write ending IsIts old new = PrintsPrefix ending IsIts old new
-InputEnds Size ending IsIts old new = ⊥
+InputEnds workers said outcome before now =
+    (text : List ℕ) × SaidEnds workers said outcome text × Writes outcome before now text
 
--- the sink of texts after a run that ended so: untouched where nothing is printed
-abbrev pub LeavesSink : {S : Type 0} → Outcome → S → S → Type 0
-LeavesSink Done old new = ⊤
-LeavesSink Memory old new = ⊤
-LeavesSink Arguments old new = new ≡ old
-LeavesSink (BadLine line why) old new = new ≡ old
-LeavesSink (File index) old new = new ≡ old
-LeavesSink Write old new = ⊤
-LeavesSink Size old new = new ≡ old
-
--- the files after a run that ended so: untouched where the arguments are outside the grammar
-abbrev pub LeavesFiles : {F : Type 0} → Outcome → F → F → Type 0
-LeavesFiles Done old new = ⊤
-LeavesFiles Memory old new = ⊤
-LeavesFiles Arguments old new = new ≡ old
-LeavesFiles (BadLine line why) old new = ⊤
-LeavesFiles (File index) old new = ⊤
-LeavesFiles Write old new = ⊤
-LeavesFiles Size old new = ⊤
+-- the outcome of a run whose session answered this fault
+abbrev pub outcome_of : CommandFault → Outcome
+outcome_of faults.Memory = Memory
+outcome_of faults.Write = Write
+outcome_of (faults.TooManyDays days) = Over (Days days)
+outcome_of (faults.TooManyNames count) = Over (Names count)
+outcome_of (faults.TooManyTasks count) = Over (Tasks count)

@@ -3,7 +3,7 @@ use Rattle.std.specs.Prelude.{ℕ}
 use Rattle.mystery_io.specs.Counts.{counted_up}
 use Rattle.mystery_cli.specs.declared.outcome.Outcome.{Outcome}
 use Rattle.mystery_cli.specs.declared.outcome.Outcome.TheVariants.{Done, Memory, Arguments, BadLine}
-use Rattle.mystery_cli.specs.declared.outcome.Outcome.TheVariants.{File, Write, Size}
+use Rattle.mystery_cli.specs.declared.outcome.Outcome.TheVariants.{File, Write, Size, Over}
 
 -- the count of faults of the sink after a run
 abbrev pub outcome_faults : Outcome → ℕ → ℕ
@@ -14,6 +14,7 @@ outcome_faults (BadLine line why) count = count
 outcome_faults (File index) count = count
 outcome_faults Write count = counted_up count
 outcome_faults Size count = count
+outcome_faults (Over limit) count = count
 
 -- the count of faults of the files after a run
 abbrev pub outcome_read_faults : Outcome → ℕ → ℕ
@@ -24,3 +25,4 @@ outcome_read_faults (BadLine line why) count = count
 outcome_read_faults (File index) count = counted_up count
 outcome_read_faults Write count = count
 outcome_read_faults Size count = count
+outcome_read_faults (Over limit) count = count

@@ -33,25 +33,25 @@ const OUTSIDE_THE_GRAMMAR: [&[&str]; 24] = [
     &[""],
     &["model"],
     &["model", ""],
-    &["model", "f", ""],
+    &["session", "f", ""],
     &["Model", "f"],
+    &["paths"],
+    &["slack", ""],
+    &["graph", "f", ""],
+    &["session"],
     &["--workers"],
-    &["--workers", "4"],
     &["--workers", "4", "model"],
     &["--workers", "0", "model", "f"],
     &["--workers", "04", "model", "f"],
     &["--workers", "+4", "model", "f"],
     &["--workers", "65", "model", "f"],
-    &["--workers", "", "model", "f"],
     &["--workers", "4", "--workers", "4", "model", "f"],
     &["--help"],
-    &["session", "f"],
-    &["paths", "f"],
-    &["drill", "1", "1"],
+    &["drop", "f"],
+    &["drill", "1", "0"],
     &["replay"],
     &["replay", ""],
     &["replay", "f", "g"],
-    &["--workers", "0", "replay", "f"],
     &["f"],
 ];
 
@@ -116,7 +116,7 @@ fn a_failed_write_leaves_a_prefix_of_the_text(rt: HostRuntime) -> Result<(), Fai
 #[test]
 fn a_failed_message_leaves_the_status(rt: HostRuntime) -> Result<(), Fail> {
     let table: [(&[&str], &[u8], u8); 3] = [
-        (&["session", "f"], b"", 2),
+        (&["sessions", "f"], b"", 2),
         (&["model", "f"], b"{", 3),
         (&["model", "missing"], b"", 4),
     ];

@@ -1,10 +1,11 @@
-use super::models::{EventLine, event_lines};
+use super::rows::{Row, input_of};
 use super::{SETTING, Setting, expect};
+use Row::Full;
 use std::test::Fail;
 
 /// Two requests for a page, over a phone, a web server and a server of advertisements.
-const PAGE_LOAD: [EventLine<'static>; 36] = [
-    (
+const PAGE_LOAD: [Row<'static>; 36] = [
+    Full(
         "req 4711",
         "phone-17",
         "browser request",
@@ -13,7 +14,7 @@ const PAGE_LOAD: [EventLine<'static>; 36] = [
         "",
         "",
     ),
-    (
+    Full(
         "req 4711",
         "phone-17",
         "browser request",
@@ -22,7 +23,7 @@ const PAGE_LOAD: [EventLine<'static>; 36] = [
         "m1",
         "",
     ),
-    (
+    Full(
         "req 4711",
         "web-03",
         "web accept",
@@ -31,7 +32,7 @@ const PAGE_LOAD: [EventLine<'static>; 36] = [
         "",
         "m1",
     ),
-    (
+    Full(
         "req 4711",
         "web-03",
         "web accept",
@@ -40,16 +41,16 @@ const PAGE_LOAD: [EventLine<'static>; 36] = [
         "",
         "",
     ),
-    (
+    Full(
         "req 4711",
         "web-03",
         "page head",
-        "write head",
+        "write head@html",
         "1710720000032250",
         "",
         "",
     ),
-    (
+    Full(
         "req 4711",
         "web-03",
         "page head",
@@ -58,7 +59,7 @@ const PAGE_LOAD: [EventLine<'static>; 36] = [
         "m5",
         "",
     ),
-    (
+    Full(
         "req 4711",
         "web-03",
         "user query",
@@ -67,7 +68,7 @@ const PAGE_LOAD: [EventLine<'static>; 36] = [
         "",
         "",
     ),
-    (
+    Full(
         "req 4711",
         "web-03",
         "user query",
@@ -76,7 +77,7 @@ const PAGE_LOAD: [EventLine<'static>; 36] = [
         "",
         "",
     ),
-    (
+    Full(
         "req 4711",
         "web-03",
         "ads call",
@@ -85,7 +86,7 @@ const PAGE_LOAD: [EventLine<'static>; 36] = [
         "m2",
         "",
     ),
-    (
+    Full(
         "req 4711",
         "ads-02",
         "ads ranking",
@@ -94,7 +95,7 @@ const PAGE_LOAD: [EventLine<'static>; 36] = [
         "",
         "m2",
     ),
-    (
+    Full(
         "req 4711",
         "ads-02",
         "ads ranking",
@@ -103,7 +104,7 @@ const PAGE_LOAD: [EventLine<'static>; 36] = [
         "m3",
         "",
     ),
-    (
+    Full(
         "req 4711",
         "web-03",
         "ads call",
@@ -112,7 +113,7 @@ const PAGE_LOAD: [EventLine<'static>; 36] = [
         "",
         "m3",
     ),
-    (
+    Full(
         "req 4711",
         "web-03",
         "page body",
@@ -121,7 +122,7 @@ const PAGE_LOAD: [EventLine<'static>; 36] = [
         "",
         "",
     ),
-    (
+    Full(
         "req 4711",
         "web-03",
         "page body",
@@ -130,16 +131,16 @@ const PAGE_LOAD: [EventLine<'static>; 36] = [
         "m4",
         "",
     ),
-    (
+    Full(
         "req 4711",
         "phone-17",
         "download",
-        "first byte",
+        "first byte@html",
         "1710720000063500",
         "",
         "m5",
     ),
-    (
+    Full(
         "req 4711",
         "phone-17",
         "download",
@@ -148,7 +149,7 @@ const PAGE_LOAD: [EventLine<'static>; 36] = [
         "",
         "m4",
     ),
-    (
+    Full(
         "req 4711",
         "phone-17",
         "browser render",
@@ -157,7 +158,7 @@ const PAGE_LOAD: [EventLine<'static>; 36] = [
         "",
         "",
     ),
-    (
+    Full(
         "req 4711",
         "phone-17",
         "browser render",
@@ -166,7 +167,7 @@ const PAGE_LOAD: [EventLine<'static>; 36] = [
         "",
         "",
     ),
-    (
+    Full(
         "req 4712",
         "phone-22",
         "browser request",
@@ -175,7 +176,7 @@ const PAGE_LOAD: [EventLine<'static>; 36] = [
         "",
         "",
     ),
-    (
+    Full(
         "req 4712",
         "phone-22",
         "browser request",
@@ -184,7 +185,7 @@ const PAGE_LOAD: [EventLine<'static>; 36] = [
         "m1",
         "",
     ),
-    (
+    Full(
         "req 4712",
         "web-03",
         "web accept",
@@ -193,7 +194,7 @@ const PAGE_LOAD: [EventLine<'static>; 36] = [
         "",
         "m1",
     ),
-    (
+    Full(
         "req 4712",
         "web-03",
         "web accept",
@@ -202,16 +203,16 @@ const PAGE_LOAD: [EventLine<'static>; 36] = [
         "",
         "",
     ),
-    (
+    Full(
         "req 4712",
         "web-03",
         "page head",
-        "write head",
+        "write head@html",
         "1710720001020500",
         "",
         "",
     ),
-    (
+    Full(
         "req 4712",
         "web-03",
         "page head",
@@ -220,7 +221,7 @@ const PAGE_LOAD: [EventLine<'static>; 36] = [
         "m5",
         "",
     ),
-    (
+    Full(
         "req 4712",
         "web-03",
         "user query",
@@ -229,7 +230,7 @@ const PAGE_LOAD: [EventLine<'static>; 36] = [
         "",
         "",
     ),
-    (
+    Full(
         "req 4712",
         "web-03",
         "user query",
@@ -238,7 +239,7 @@ const PAGE_LOAD: [EventLine<'static>; 36] = [
         "",
         "",
     ),
-    (
+    Full(
         "req 4712",
         "web-03",
         "ads call",
@@ -247,7 +248,7 @@ const PAGE_LOAD: [EventLine<'static>; 36] = [
         "m2",
         "",
     ),
-    (
+    Full(
         "req 4712",
         "ads-02",
         "ads ranking",
@@ -256,7 +257,7 @@ const PAGE_LOAD: [EventLine<'static>; 36] = [
         "",
         "m2",
     ),
-    (
+    Full(
         "req 4712",
         "ads-02",
         "ads ranking",
@@ -265,7 +266,7 @@ const PAGE_LOAD: [EventLine<'static>; 36] = [
         "m3",
         "",
     ),
-    (
+    Full(
         "req 4712",
         "web-03",
         "ads call",
@@ -274,7 +275,7 @@ const PAGE_LOAD: [EventLine<'static>; 36] = [
         "",
         "m3",
     ),
-    (
+    Full(
         "req 4712",
         "web-03",
         "page body",
@@ -283,7 +284,7 @@ const PAGE_LOAD: [EventLine<'static>; 36] = [
         "",
         "",
     ),
-    (
+    Full(
         "req 4712",
         "web-03",
         "page body",
@@ -292,16 +293,16 @@ const PAGE_LOAD: [EventLine<'static>; 36] = [
         "m4",
         "",
     ),
-    (
+    Full(
         "req 4712",
         "phone-22",
         "download",
-        "first byte",
+        "first byte@html",
         "1710720001042500",
         "",
         "m5",
     ),
-    (
+    Full(
         "req 4712",
         "phone-22",
         "download",
@@ -310,7 +311,7 @@ const PAGE_LOAD: [EventLine<'static>; 36] = [
         "",
         "m4",
     ),
-    (
+    Full(
         "req 4712",
         "phone-22",
         "browser render",
@@ -319,7 +320,7 @@ const PAGE_LOAD: [EventLine<'static>; 36] = [
         "",
         "",
     ),
-    (
+    Full(
         "req 4712",
         "phone-22",
         "browser render",
@@ -331,11 +332,23 @@ const PAGE_LOAD: [EventLine<'static>; 36] = [
 ];
 
 const PAGE_LOAD_MODEL: &[u8] =
-    b"model\ttraces=2\tdays=1\tsegments=9\ttasks=9\thb=29\tmx=0\tpipe=0\nhb\tads call\tcall start\tcall end\tbrowser render\tpaint start\tpaint end\nhb\tads call\tcall start\tcall end\tdownload\tfirst byte\tlast byte\nhb\tads call\tcall start\tcall end\tpage body\twrite body\tbody flushed\nhb\tads ranking\trank start\trank end\tbrowser render\tpaint start\tpaint end\nhb\tads ranking\trank start\trank end\tdownload\tfirst byte\tlast byte\nhb\tads ranking\trank start\trank end\tpage body\twrite body\tbody flushed\nhb\tbrowser request\ttap\trequest sent\tads call\tcall start\tcall end\nhb\tbrowser request\ttap\trequest sent\tads ranking\trank start\trank end\nhb\tbrowser request\ttap\trequest sent\tbrowser render\tpaint start\tpaint end\nhb\tbrowser request\ttap\trequest sent\tdownload\tfirst byte\tlast byte\nhb\tbrowser request\ttap\trequest sent\tpage body\twrite body\tbody flushed\nhb\tbrowser request\ttap\trequest sent\tpage head\twrite head\thead flushed\nhb\tbrowser request\ttap\trequest sent\tuser query\tquery start\tquery end\nhb\tbrowser request\ttap\trequest sent\tweb accept\trequest received\tparsed\nhb\tdownload\tfirst byte\tlast byte\tbrowser render\tpaint start\tpaint end\nhb\tpage body\twrite body\tbody flushed\tbrowser render\tpaint start\tpaint end\nhb\tpage head\twrite head\thead flushed\tbrowser render\tpaint start\tpaint end\nhb\tpage head\twrite head\thead flushed\tdownload\tfirst byte\tlast byte\nhb\tpage head\twrite head\thead flushed\tpage body\twrite body\tbody flushed\nhb\tuser query\tquery start\tquery end\tbrowser render\tpaint start\tpaint end\nhb\tuser query\tquery start\tquery end\tdownload\tfirst byte\tlast byte\nhb\tuser query\tquery start\tquery end\tpage body\twrite body\tbody flushed\nhb\tweb accept\trequest received\tparsed\tads call\tcall start\tcall end\nhb\tweb accept\trequest received\tparsed\tads ranking\trank start\trank end\nhb\tweb accept\trequest received\tparsed\tbrowser render\tpaint start\tpaint end\nhb\tweb accept\trequest received\tparsed\tdownload\tfirst byte\tlast byte\nhb\tweb accept\trequest received\tparsed\tpage body\twrite body\tbody flushed\nhb\tweb accept\trequest received\tparsed\tpage head\twrite head\thead flushed\nhb\tweb accept\trequest received\tparsed\tuser query\tquery start\tquery end\n";
+    b"model\ttraces=2\tdays=1\tsegments=9\ttasks=9\thb=29\tmx=0\tpipe=1\nhb\tads call\tcall start\tcall end\tbrowser render\tpaint start\tpaint end\nhb\tads call\tcall start\tcall end\tdownload\tfirst byte@html\tlast byte\nhb\tads call\tcall start\tcall end\tpage body\twrite body\tbody flushed\nhb\tads ranking\trank start\trank end\tbrowser render\tpaint start\tpaint end\nhb\tads ranking\trank start\trank end\tdownload\tfirst byte@html\tlast byte\nhb\tads ranking\trank start\trank end\tpage body\twrite body\tbody flushed\nhb\tbrowser request\ttap\trequest sent\tads call\tcall start\tcall end\nhb\tbrowser request\ttap\trequest sent\tads ranking\trank start\trank end\nhb\tbrowser request\ttap\trequest sent\tbrowser render\tpaint start\tpaint end\nhb\tbrowser request\ttap\trequest sent\tdownload\tfirst byte@html\tlast byte\nhb\tbrowser request\ttap\trequest sent\tpage body\twrite body\tbody flushed\nhb\tbrowser request\ttap\trequest sent\tpage head\twrite head@html\thead flushed\nhb\tbrowser request\ttap\trequest sent\tuser query\tquery start\tquery end\nhb\tbrowser request\ttap\trequest sent\tweb accept\trequest received\tparsed\nhb\tdownload\tfirst byte@html\tlast byte\tbrowser render\tpaint start\tpaint end\nhb\tpage body\twrite body\tbody flushed\tbrowser render\tpaint start\tpaint end\nhb\tpage head\twrite head@html\thead flushed\tbrowser render\tpaint start\tpaint end\nhb\tpage head\twrite head@html\thead flushed\tdownload\tfirst byte@html\tlast byte\nhb\tpage head\twrite head@html\thead flushed\tpage body\twrite body\tbody flushed\nhb\tuser query\tquery start\tquery end\tbrowser render\tpaint start\tpaint end\nhb\tuser query\tquery start\tquery end\tdownload\tfirst byte@html\tlast byte\nhb\tuser query\tquery start\tquery end\tpage body\twrite body\tbody flushed\nhb\tweb accept\trequest received\tparsed\tads call\tcall start\tcall end\nhb\tweb accept\trequest received\tparsed\tads ranking\trank start\trank end\nhb\tweb accept\trequest received\tparsed\tbrowser render\tpaint start\tpaint end\nhb\tweb accept\trequest received\tparsed\tdownload\tfirst byte@html\tlast byte\nhb\tweb accept\trequest received\tparsed\tpage body\twrite body\tbody flushed\nhb\tweb accept\trequest received\tparsed\tpage head\twrite head@html\thead flushed\nhb\tweb accept\trequest received\tparsed\tuser query\tquery start\tquery end\npipe\tpage head\tdownload\n";
+
+const PAGE_LOAD_PATHS: &[u8] =
+    b"paths\ttraces=2\npath\treq 4711\t19800\t84100000\t37700000\t5\nstep\tbrowser request\ttap\trequest sent\t1200000\nstep\tweb accept\trequest received\tparsed\t800000\nstep\tads call\tcall start\tcall end\t15100000\nstep\tdownload\tfirst byte@html\tlast byte\t15600000\nstep\tbrowser render\tpaint start\tpaint end\t5000000\npath\treq 4712\t19800\t67000000\t46000000\t5\nstep\tbrowser request\ttap\trequest sent\t900000\nstep\tweb accept\trequest received\tparsed\t600000\nstep\tuser query\tquery start\tquery end\t20000000\nstep\tdownload\tfirst byte@html\tlast byte\t21500000\nstep\tbrowser render\tpaint start\tpaint end\t3000000\n";
 
 #[test]
-fn two_page_loads_have_their_model(rt: HostRuntime) -> Result<(), Fail> {
-    let f = event_lines(rt.alloc(), &PAGE_LOAD)?;
-    let setting = Setting { f: &f, ..SETTING };
-    expect(&rt, rt.alloc(), setting, 0, PAGE_LOAD_MODEL, b"")
+fn two_page_loads_look_alike_with_any_number_of_workers(rt: HostRuntime) -> Result<(), Fail> {
+    let f = input_of(rt.alloc(), &[&PAGE_LOAD])?;
+    for workers in ["1", "4", "64"] {
+        for (view, out) in [("model", PAGE_LOAD_MODEL), ("paths", PAGE_LOAD_PATHS)] {
+            let setting = Setting {
+                words: &["--workers", workers, view, "f"],
+                f: &f,
+                ..SETTING
+            };
+            expect(&rt, rt.alloc(), setting, 0, out, b"")?;
+        }
+    }
+    Ok(())
 }

@@ -1,28 +1,37 @@
-use Rattle.std.proofs.Common.{◌∙◌, sym}
+use Rattle.std.proofs.Common.{refl, subst, sym, ◌∙◌, length}
+use Rattle.mystery_io.specs.ReadFaults.{files_seen, OpensFirst}
 use Rattle.mystery_cli.specs.CommandLines.{Call, call_of_line}
 use Rattle.mystery_cli.specs.Runs.{Seen, run_seen}
-use Rattle.mystery_io.specs.ReadFaults.{files_seen}
-use Rattle.mystery_cli.proofs.EndingLemmas.{files_named, cause_too_big, cause_of_ends, writes_of_ends, read_input}
+use Rattle.mystery_cli.proofs.EndingLemmas.{explains_file, explains_memory, explains_read, explains_size, files_named, read_input, reads_all}
 use Rattle.mystery_cli.proofs.program.perform.Goals as goal
 
-pub returns-in-Err-TooBig-clause-cause : goal.returns-in-Err-TooBig-clause-cause
-returns-in-Err-TooBig-clause-cause g c =
+pub returns-in-Err-Memory-clause-explains : goal.returns-in-Err-Memory-clause-explains
+returns-in-Err-Memory-clause-explains g c =
     let call : Call = call_of_line c.in-Some.line in
     let F = g.F.Files in
     let seen : Seen = run_seen c.args.words.now (files_seen F.contents F.left F.is_open F.names F.opens c.args.files.now c.read_all.new.files) g.S.Sink.written c.args.out.now c.args.out.now in
-    cause_too_big seen call c.in-Some.ensures.call (rw (c.in-Err-TooBig.field-0-is, c.files.ensures) at c.in-Err-TooBig.ensures.cause)
+    explains_memory seen call c.in-Some.ensures.call (rw (c.in-Err-Memory.field-0-is, c.files.ensures) at c.in-Err-Memory.ensures.cause) refl
 
-pub returns-in-Ok-clause-cause : goal.returns-in-Ok-clause-cause
-returns-in-Ok-clause-cause g c =
+pub returns-in-Err-File-clause-explains : goal.returns-in-Err-File-clause-explains
+returns-in-Err-File-clause-explains g c =
     let call : Call = call_of_line c.in-Some.line in
-    let known = c.in-Some.ensures.call in
-    let named = files_named c.args.words.now call known in
-    cause_of_ends _ call c.in-Ok.input.items known c.in-Ok.ensures.fits (read_input (g.F.Files.contents c.args.files.now) c.args.words.now c.files.result.now c.in-Ok.input.items (named ∙ sym c.files.ensures) c.in-Ok.ensures.input) c.print_text.result
-    (record { opened = rw (named ∙ sym c.files.ensures) c.in-Ok.ensures.opened; at_end = c.in-Ok.ensures.end (rw c.files.ensures c.in-Some.ensures.some) }) (rw (← c.deref.ensures.value) c.print_text.ensures.ends)
+    let F = g.F.Files in
+    let seen : Seen = run_seen c.args.words.now (files_seen F.contents F.left F.is_open F.names F.opens c.args.files.now c.read_all.new.files) g.S.Sink.written c.args.out.now c.args.out.now in
+    rw c.in-Err-File.field-0-is (explains_file seen call c.in-Some.ensures.call c.in-Err-File.index (rw (c.in-Err-File.field-0-is, c.files.ensures) at c.in-Err-File.ensures.cause) refl)
 
-pub returns-in-Ok-clause-writes : goal.returns-in-Ok-clause-writes
-returns-in-Ok-clause-writes g c =
+pub returns-in-Err-TooBig-clause-explains : goal.returns-in-Err-TooBig-clause-explains
+returns-in-Err-TooBig-clause-explains g c =
     let call : Call = call_of_line c.in-Some.line in
+    let F = g.F.Files in
+    let seen : Seen = run_seen c.args.words.now (files_seen F.contents F.left F.is_open F.names F.opens c.args.files.now c.read_all.new.files) g.S.Sink.written c.args.out.now c.args.out.now in
+    explains_size seen call c.in-Some.ensures.call (rw (c.in-Err-TooBig.field-0-is, c.files.ensures) at c.in-Err-TooBig.ensures.cause) refl
+
+pub returns-in-Ok-clause-explains : goal.returns-in-Ok-clause-explains
+returns-in-Ok-clause-explains g c =
+    let call : Call = call_of_line c.in-Some.line in
+    let F = g.F.Files in
+    let seen : Seen = run_seen c.args.words.now (files_seen F.contents F.left F.is_open F.names F.opens c.args.files.now c.read_all.new.files) g.S.Sink.written c.args.out.now c.perform_over.new.out in
     let known = c.in-Some.ensures.call in
-    let named = files_named c.args.words.now call known in
-    writes_of_ends _ call c.in-Ok.input.items known c.in-Ok.ensures.fits (read_input (g.F.Files.contents c.args.files.now) c.args.words.now c.files.result.now c.in-Ok.input.items (named ∙ sym c.files.ensures) c.in-Ok.ensures.input) c.print_text.result (rw (← c.deref.ensures.value) c.print_text.ensures.ends)
+    let named = files_named seen call known in
+    explains_read seen call known c.in-Ok.input.items c.perform_over.result c.in-Ok.ensures.fits (read_input (F.contents c.args.files.now) c.args.words.now c.files.result.now c.in-Ok.input.items (named ∙ sym c.files.ensures) c.in-Ok.ensures.input)
+    (reads_all seen call known (subst (λ names. OpensFirst seen.files names (length names)) c.files.ensures c.in-Ok.ensures.opened) (c.in-Ok.ensures.end (rw c.files.ensures c.in-Some.ensures.some))) c.perform_over.ensures.ends

@@ -1,0 +1,175 @@
+-- Arguments and an input decide how a run ends that meets no fault and finds memory.
+use Rattle.std.proofs.Common.{◌≡◌, ◌⊎◌, ℕ, List, Option, Some, None, arith, refl, sym, ◌∙◌, ap, subst, inl, inr}
+use Rattle.std.specs.Prelude.{Result, Ok, Err}
+use Rattle.session_rules.specs.declared.limit.Limit.{Limit}
+use Rattle.mystery_cli.specs.declared.outcome.Outcome.{Outcome}
+use Rattle.mystery_cli.specs.declared.outcome.Outcome.TheVariants.{Done, Memory, Arguments, BadLine, File, Write, Size, Over}
+use Rattle.mystery_cli.specs.CommandLines.{Call, call_of}
+use Rattle.mystery_cli.specs.Endings.{CallEnds, Ends, EndsAt, IsDecided, Writes}
+use Rattle.mystery_cli.specs.Messages.{status_of}
+use Rattle.mystery_cli.specs.Runs.{OfInput}
+use Rattle.mystery_cli.specs.Texts.{IsTextOf, IsTextUpTo}
+use Rattle.mystery_cli.specs.Works.{BadInput, Work, Jobs, Steps, work_said}
+use Rattle.job_runs.specs.EndingLaws.{AreAlike, JobsStopAtOneLimit, TextsToLimitAreAlike, WholeStopsAtNoLimit, WholeTextsAreAlike}
+use Rattle.job_runs.specs.WatchLaws.{AreAlikeByPart, OnlyWatchNumbersDiffer}
+use Rattle.session_rules.specs.Parts.{Part}
+
+-- what an input said is one thing
+one_work : (said : Result Work BadInput) (a b : Work) → said ≡ Ok a → said ≡ Ok b → b ≡ a
+one_work said a b e f = cc
+
+not_both : (said : Result Work BadInput) (bad : BadInput) (a : Work) → said ≡ Err bad → said ≡ Ok a → ⊥
+not_both said bad a e f =
+    let both : Err bad ≡ Ok a = sym e ∙ f in
+    cc
+
+one_bad : (said : Result Work BadInput) (a b : BadInput) → said ≡ Err a → said ≡ Err b → BadLine a.line a.why ≡ BadLine b.line b.why
+one_bad said a b e f =
+    let same : a ≡ b = cc in
+    ap (λ (x : BadInput). BadLine x.line x.why) same
+
+module _ (whole : WholeStopsAtNoLimit) (one : JobsStopAtOneLimit) where
+  done_not_over : (workers : ℕ) (work : Work) (limit : Limit) (t u : List ℕ) → IsTextOf workers work t → IsTextUpTo workers work limit u → ⊥
+  done_not_over workers (Jobs jobs) limit t u h k = whole workers jobs h.0 limit t u h.1 k
+  done_not_over workers (Steps file) limit t u h k = k
+
+  one_limit : (workers : ℕ) (work : Work) (limit other : Limit) (t u : List ℕ) → IsTextUpTo workers work limit t → IsTextUpTo workers work other u → limit ≡ other
+  one_limit workers (Jobs jobs) limit other t u h k = one workers jobs limit other t u h k
+  one_limit workers (Steps file) limit other t u h k = absurd h
+
+  done_over : (call : Call) (input : List ℕ) (limit : Limit) (t u : List ℕ) → CallEnds call input Done t → CallEnds call input (Over limit) u → ⊥
+  done_over call input limit t u h k =
+      let same : k.1.0 ≡ h.1.0 = one_work (work_said call.action input) h.1.0 k.1.0 h.1.1 k.1.1 in
+      done_not_over call.workers h.1.0 limit t u h.1.2 (subst (λ w. IsTextUpTo call.workers w limit u) same k.1.2)
+
+  over_over : (call : Call) (input : List ℕ) (limit other : Limit) (t u : List ℕ) → CallEnds call input (Over limit) t → CallEnds call input (Over other) u → limit ≡ other
+  over_over call input limit other t u h k =
+      let same : k.1.0 ≡ h.1.0 = one_work (work_said call.action input) h.1.0 k.1.0 h.1.1 k.1.1 in
+      one_limit call.workers h.1.0 limit other t u h.1.2 (subst (λ w. IsTextUpTo call.workers w other u) same k.1.2)
+
+  -- two endings of a call over an input that no fault decides are one
+  one_call_ending : (call : Call) (input : List ℕ) (o p : Outcome) (t u : List ℕ) → IsDecided o → IsDecided p → CallEnds call input o t → CallEnds call input p u → o ≡ p
+  one_call_ending call input Done Done t u d e h k = refl
+  one_call_ending call input Done (Over m) t u d e h k = absurd (done_over call input m t u h k)
+  one_call_ending call input Done Arguments t u d e h k = absurd k
+  one_call_ending call input Done (BadLine m v) t u d e h k = absurd (not_both (work_said call.action input) _ h.1.0 k.1 h.1.1)
+  one_call_ending call input Done Size t u d e h k = absurd (omega (arith, h.0, k.0))
+  one_call_ending call input Done Memory t u d e h k = absurd e
+  one_call_ending call input Done (File j) t u d e h k = absurd e
+  one_call_ending call input Done Write t u d e h k = absurd e
+  one_call_ending call input (Over l) Done t u d e h k = absurd (done_over call input l u t k h)
+  one_call_ending call input (Over l) (Over m) t u d e h k = ap Over (over_over call input l m t u h k)
+  one_call_ending call input (Over l) Arguments t u d e h k = absurd k
+  one_call_ending call input (Over l) (BadLine m v) t u d e h k = absurd (not_both (work_said call.action input) _ h.1.0 k.1 h.1.1)
+  one_call_ending call input (Over l) Size t u d e h k = absurd (omega (arith, h.0, k.0))
+  one_call_ending call input (Over l) Memory t u d e h k = absurd e
+  one_call_ending call input (Over l) (File j) t u d e h k = absurd e
+  one_call_ending call input (Over l) Write t u d e h k = absurd e
+  one_call_ending call input Arguments Done t u d e h k = absurd h
+  one_call_ending call input Arguments (Over m) t u d e h k = absurd h
+  one_call_ending call input Arguments Arguments t u d e h k = absurd h
+  one_call_ending call input Arguments (BadLine m v) t u d e h k = absurd h
+  one_call_ending call input Arguments Size t u d e h k = absurd h
+  one_call_ending call input Arguments Memory t u d e h k = absurd e
+  one_call_ending call input Arguments (File j) t u d e h k = absurd e
+  one_call_ending call input Arguments Write t u d e h k = absurd e
+  one_call_ending call input (BadLine l w) Done t u d e h k = absurd (not_both (work_said call.action input) _ k.1.0 h.1 k.1.1)
+  one_call_ending call input (BadLine l w) (Over m) t u d e h k = absurd (not_both (work_said call.action input) _ k.1.0 h.1 k.1.1)
+  one_call_ending call input (BadLine l w) Arguments t u d e h k = absurd k
+  one_call_ending call input (BadLine l w) (BadLine m v) t u d e h k = one_bad (work_said call.action input) (record { line = l; why = w }) (record { line = m; why = v }) h.1 k.1
+  one_call_ending call input (BadLine l w) Size t u d e h k = absurd (omega (arith, h.0, k.0))
+  one_call_ending call input (BadLine l w) Memory t u d e h k = absurd e
+  one_call_ending call input (BadLine l w) (File j) t u d e h k = absurd e
+  one_call_ending call input (BadLine l w) Write t u d e h k = absurd e
+  one_call_ending call input Size Done t u d e h k = absurd (omega (arith, h.0, k.0))
+  one_call_ending call input Size (Over m) t u d e h k = absurd (omega (arith, h.0, k.0))
+  one_call_ending call input Size Arguments t u d e h k = absurd k
+  one_call_ending call input Size (BadLine m v) t u d e h k = absurd (omega (arith, h.0, k.0))
+  one_call_ending call input Size Size t u d e h k = refl
+  one_call_ending call input Size Memory t u d e h k = absurd e
+  one_call_ending call input Size (File j) t u d e h k = absurd e
+  one_call_ending call input Size Write t u d e h k = absurd e
+  one_call_ending call input Memory Done t u d e h k = absurd d
+  one_call_ending call input Memory (Over m) t u d e h k = absurd d
+  one_call_ending call input Memory Arguments t u d e h k = absurd d
+  one_call_ending call input Memory (BadLine m v) t u d e h k = absurd d
+  one_call_ending call input Memory Size t u d e h k = absurd d
+  one_call_ending call input Memory Memory t u d e h k = absurd d
+  one_call_ending call input Memory (File j) t u d e h k = absurd d
+  one_call_ending call input Memory Write t u d e h k = absurd d
+  one_call_ending call input (File i) Done t u d e h k = absurd d
+  one_call_ending call input (File i) (Over m) t u d e h k = absurd d
+  one_call_ending call input (File i) Arguments t u d e h k = absurd d
+  one_call_ending call input (File i) (BadLine m v) t u d e h k = absurd d
+  one_call_ending call input (File i) Size t u d e h k = absurd d
+  one_call_ending call input (File i) Memory t u d e h k = absurd d
+  one_call_ending call input (File i) (File j) t u d e h k = absurd d
+  one_call_ending call input (File i) Write t u d e h k = absurd d
+  one_call_ending call input Write Done t u d e h k = absurd d
+  one_call_ending call input Write (Over m) t u d e h k = absurd d
+  one_call_ending call input Write Arguments t u d e h k = absurd d
+  one_call_ending call input Write (BadLine m v) t u d e h k = absurd d
+  one_call_ending call input Write Size t u d e h k = absurd d
+  one_call_ending call input Write Memory t u d e h k = absurd d
+  one_call_ending call input Write (File j) t u d e h k = absurd d
+  one_call_ending call input Write Write t u d e h k = absurd d
+
+  one_ending_at : (c : Option Call) (input : List ℕ) (o p : Outcome) (t u : List ℕ) → IsDecided o → IsDecided p → EndsAt c input o t → EndsAt c input p u → o ≡ p
+  one_ending_at None input o p t u d e h k = h.0 ∙ sym k.0
+  one_ending_at (Some call) input o p t u d e h k = one_call_ending call input o p t u d e h k
+
+  pub one_ending : (words : List (List ℕ)) (input : List ℕ) (o p : Outcome) (t u : List ℕ) → IsDecided o → IsDecided p → Ends words input o t → Ends words input p u → o ≡ p
+  one_ending words input o p t u d e h k = one_ending_at (call_of words) input o p t u d e h k
+
+-- arguments and an input have one ending
+abbrev pub HaveOneEnding : Type 0
+HaveOneEnding = (words : List (List ℕ)) (input : List ℕ) (o p : Outcome) (text other : List ℕ) → IsDecided o → IsDecided p → Ends words input o text → Ends words input p other → o ≡ p
+
+-- a run ends as its arguments and its input decide, or memory, a file or the sink failed
+module _ (one : HaveOneEnding) where
+  decided_as : (words : List (List ℕ)) (input : List ℕ) (o p : Outcome) (n : ℕ) (t u : List ℕ) → n ≡ status_of o → IsDecided p → Ends words input o t → Ends words input p u → (n ≡ status_of p) ⊎ (n ≡ 1) ⊎ (n ≡ 4) ⊎ (n ≡ 5)
+  decided_as words input Done p n t u s d h k = inl (s ∙ ap status_of (one words input Done p t u tt d h k))
+  decided_as words input (Over l) p n t u s d h k = inl (s ∙ ap status_of (one words input (Over l) p t u tt d h k))
+  decided_as words input Arguments p n t u s d h k = inl (s ∙ ap status_of (one words input Arguments p t u tt d h k))
+  decided_as words input (BadLine l w) p n t u s d h k = inl (s ∙ ap status_of (one words input (BadLine l w) p t u tt d h k))
+  decided_as words input Size p n t u s d h k = inl (s ∙ ap status_of (one words input Size p t u tt d h k))
+  decided_as words input Memory p n t u s d h k = inr (inl s)
+  decided_as words input (File i) p n t u s d h k = inr (inr (inl s))
+  decided_as words input Write p n t u s d h k = inr (inr (inr s))
+
+  pub decided_by : (contents : Option (List ℕ → List ℕ)) (words : List (List ℕ)) (old new : Option (List ℕ)) (o : Outcome) (n : ℕ) → n ≡ status_of o → OfInput contents words (λ input. (text : List ℕ) × Ends words input o text × Writes o old new text)
+      → OfInput contents words (λ input. (p : Outcome) (u : List ℕ) → IsDecided p → Ends words input p u → (n ≡ status_of p) ⊎ (n ≡ 1) ⊎ (n ≡ 4) ⊎ (n ≡ 5))
+  decided_by None words old new o n s h = tt
+  decided_by (Some c) words old new o n s h = λ p u d k. decided_as words _ o p n h.0 u s d h.1 k
+
+-- two texts of one ending are one, or alike
+module _ (whole : WholeTextsAreAlike) (limited : TextsToLimitAreAlike) where
+  done_alike : (workers : ℕ) (work : Work) (t u : List ℕ) → IsTextOf workers work t → IsTextOf workers work u → (t ≡ u) ⊎ AreAlike t u
+  done_alike workers (Jobs jobs) t u h k = inr ((whole workers jobs h.0 k.0 t u h.1 k.1).1)
+  done_alike workers (Steps file) t u h k = inl (h ∙ sym k)
+
+  over_alike : (workers : ℕ) (work : Work) (limit : Limit) (t u : List ℕ) → IsTextUpTo workers work limit t → IsTextUpTo workers work limit u → (t ≡ u) ⊎ AreAlike t u
+  over_alike workers (Jobs jobs) limit t u h k = inr (limited workers jobs limit t u h k)
+  over_alike workers (Steps file) limit t u h k = absurd h
+
+  call_alike : (call : Call) (input : List ℕ) (o : Outcome) (t u : List ℕ) → IsDecided o → CallEnds call input o t → CallEnds call input o u → (t ≡ u) ⊎ AreAlike t u
+  call_alike call input Done t u d h k = done_alike call.workers h.1.0 t u h.1.2 (subst (λ w. IsTextOf call.workers w u) (one_work (work_said call.action input) h.1.0 k.1.0 h.1.1 k.1.1) k.1.2)
+  call_alike call input (Over l) t u d h k = over_alike call.workers h.1.0 l t u h.1.2 (subst (λ w. IsTextUpTo call.workers w l u) (one_work (work_said call.action input) h.1.0 k.1.0 h.1.1 k.1.1) k.1.2)
+  call_alike call input Arguments t u d h k = absurd h
+  call_alike call input (BadLine l w) t u d h k = inl (h.2 ∙ sym k.2)
+  call_alike call input Size t u d h k = inl (h.1 ∙ sym k.1)
+  call_alike call input Memory t u d h k = absurd d
+  call_alike call input (File i) t u d h k = absurd d
+  call_alike call input Write t u d h k = absurd d
+
+  alike_at : (c : Option Call) (input : List ℕ) (o : Outcome) (t u : List ℕ) → IsDecided o → EndsAt c input o t → EndsAt c input o u → (t ≡ u) ⊎ AreAlike t u
+  alike_at None input o t u d h k = inl (h.1 ∙ sym k.1)
+  alike_at (Some call) input o t u d h k = call_alike call input o t u d h k
+
+  pub alike : (words : List (List ℕ)) (input : List ℕ) (o : Outcome) (t u : List ℕ) → IsDecided o → Ends words input o t → Ends words input o u → (t ≡ u) ⊎ AreAlike t u
+  alike words input o t u d h k = alike_at (call_of words) input o t u d h k
+
+-- texts of the same parts differ in watch numbers alone
+pub numbers_alone : OnlyWatchNumbersDiffer → (t u : List ℕ) → (t ≡ u) ⊎ AreAlike t u → (t ≡ u) ⊎ ((parts : List Part) × AreAlikeByPart parts t u)
+numbers_alone only t u (inl same) = inl same
+numbers_alone only t u (inr h) = inr (h.0, only h.0 t u h.1 h.2)

@@ -1,0 +1,104 @@
+-- What an outcome is, by its status.
+use Rattle.std.proofs.Common.{◌≡◌, ◌⊎◌, ℕ, arith, inl, inr, refl, sym, ◌∙◌}
+use Rattle.std.specs.Prelude.{◌==◌, not}
+use Rattle.session_rules.specs.declared.limit.Limit.{Limit}
+use Rattle.mystery_cli.specs.declared.outcome.Outcome.{Outcome}
+use Rattle.mystery_cli.specs.declared.outcome.Outcome.TheVariants.{Done, Memory, Arguments, BadLine, File, Write, Size, Over}
+use Rattle.mystery_cli.specs.declared.reason.Reason.{Reason}
+use Rattle.mystery_cli.specs.CommandLines.{is_in_grammar}
+use Rattle.mystery_cli.specs.Messages.{status_of}
+use Rattle.mystery_cli.specs.Runs.{Seen, Reads, ReadsAll}
+
+module _ (P : Outcome → Type 0) where
+  -- with 0 it is done
+  pub of_done : (o : Outcome) (n : ℕ) → n ≡ status_of o → P o → n ≡ 0 → P Done
+  of_done Done n e h k = h
+  of_done Memory n e h k = absurd (omega (arith, e, k))
+  of_done Arguments n e h k = absurd (omega (arith, e, k))
+  of_done (BadLine line why) n e h k = absurd (omega (arith, e, k))
+  of_done (File index) n e h k = absurd (omega (arith, e, k))
+  of_done Write n e h k = absurd (omega (arith, e, k))
+  of_done Size n e h k = absurd (omega (arith, e, k))
+  of_done (Over limit) n e h k = absurd (omega (arith, e, k))
+
+  -- with 1 memory ran out
+  pub of_memory : (o : Outcome) (n : ℕ) → n ≡ status_of o → P o → n ≡ 1 → P Memory
+  of_memory Done n e h k = absurd (omega (arith, e, k))
+  of_memory Memory n e h k = h
+  of_memory Arguments n e h k = absurd (omega (arith, e, k))
+  of_memory (BadLine line why) n e h k = absurd (omega (arith, e, k))
+  of_memory (File index) n e h k = absurd (omega (arith, e, k))
+  of_memory Write n e h k = absurd (omega (arith, e, k))
+  of_memory Size n e h k = absurd (omega (arith, e, k))
+  of_memory (Over limit) n e h k = absurd (omega (arith, e, k))
+
+  -- with 3 a line is bad
+  pub of_bad_line : (o : Outcome) (n : ℕ) → n ≡ status_of o → P o → n ≡ 3 → (line : ℕ) × (why : Reason) × P (BadLine line why)
+  of_bad_line Done n e h k = absurd (omega (arith, e, k))
+  of_bad_line Memory n e h k = absurd (omega (arith, e, k))
+  of_bad_line Arguments n e h k = absurd (omega (arith, e, k))
+  of_bad_line (BadLine line why) n e h k = (line, why, h)
+  of_bad_line (File index) n e h k = absurd (omega (arith, e, k))
+  of_bad_line Write n e h k = absurd (omega (arith, e, k))
+  of_bad_line Size n e h k = absurd (omega (arith, e, k))
+  of_bad_line (Over limit) n e h k = absurd (omega (arith, e, k))
+
+  -- with 4 a file failed
+  pub of_file : (o : Outcome) (n : ℕ) → n ≡ status_of o → P o → n ≡ 4 → (index : ℕ) × P (File index)
+  of_file Done n e h k = absurd (omega (arith, e, k))
+  of_file Memory n e h k = absurd (omega (arith, e, k))
+  of_file Arguments n e h k = absurd (omega (arith, e, k))
+  of_file (BadLine line why) n e h k = absurd (omega (arith, e, k))
+  of_file (File index) n e h k = (index, h)
+  of_file Write n e h k = absurd (omega (arith, e, k))
+  of_file Size n e h k = absurd (omega (arith, e, k))
+  of_file (Over limit) n e h k = absurd (omega (arith, e, k))
+
+  -- with 5 a write failed
+  pub of_write : (o : Outcome) (n : ℕ) → n ≡ status_of o → P o → n ≡ 5 → P Write
+  of_write Done n e h k = absurd (omega (arith, e, k))
+  of_write Memory n e h k = absurd (omega (arith, e, k))
+  of_write Arguments n e h k = absurd (omega (arith, e, k))
+  of_write (BadLine line why) n e h k = absurd (omega (arith, e, k))
+  of_write (File index) n e h k = absurd (omega (arith, e, k))
+  of_write Write n e h k = h
+  of_write Size n e h k = absurd (omega (arith, e, k))
+  of_write (Over limit) n e h k = absurd (omega (arith, e, k))
+
+  -- with 6 a limit is passed
+  pub of_limit : (o : Outcome) (n : ℕ) → n ≡ status_of o → P o → n ≡ 6 → P Size ⊎ ((limit : Limit) × P (Over limit))
+  of_limit Done n e h k = absurd (omega (arith, e, k))
+  of_limit Memory n e h k = absurd (omega (arith, e, k))
+  of_limit Arguments n e h k = absurd (omega (arith, e, k))
+  of_limit (BadLine line why) n e h k = absurd (omega (arith, e, k))
+  of_limit (File index) n e h k = absurd (omega (arith, e, k))
+  of_limit Write n e h k = absurd (omega (arith, e, k))
+  of_limit Size n e h k = inl h
+  of_limit (Over limit) n e h k = inr (limit, h)
+
+-- 2 is the status of arguments outside the grammar alone
+pub arguments_of : (o : Outcome) (s : Seen) (n : ℕ) → n ≡ status_of o → Reads o s → (n == 2) ≡ not (is_in_grammar s.words)
+arguments_of Done s n e h = rw (e, h.called) refl
+arguments_of Memory s n e h = rw (e, h.0) refl
+arguments_of Arguments s n e h = rw (e, h.0) refl
+arguments_of (BadLine line why) s n e h = rw (e, h.called) refl
+arguments_of (File index) s n e h = rw (e, h.0) refl
+arguments_of Write s n e h = rw (e, h.called) refl
+arguments_of Size s n e h = rw (e, h.0) refl
+arguments_of (Over limit) s n e h = rw (e, h.called) refl
+
+-- with 0, 3 and 5 each file was read to its end
+neither : {P : Type 0} (n m : ℕ) → n ≡ m → (m ≡ 0 → ⊥) → (m ≡ 3 → ⊥) → (m ≡ 5 → ⊥) → (n ≡ 0) ⊎ (n ≡ 3) ⊎ (n ≡ 5) → P
+neither n m e f g h (inl k) = absurd (f (sym e ∙ k))
+neither n m e f g h (inr (inl k)) = absurd (g (sym e ∙ k))
+neither n m e f g h (inr (inr k)) = absurd (h (sym e ∙ k))
+
+pub reads_of : (o : Outcome) (s : Seen) (n : ℕ) → n ≡ status_of o → Reads o s → (n ≡ 0) ⊎ (n ≡ 3) ⊎ (n ≡ 5) → ReadsAll s
+reads_of Done s n e h k = h
+reads_of Memory s n e h k = neither n 1 e (λ q. omega (arith, q)) (λ q. omega (arith, q)) (λ q. omega (arith, q)) k
+reads_of Arguments s n e h k = neither n 2 e (λ q. omega (arith, q)) (λ q. omega (arith, q)) (λ q. omega (arith, q)) k
+reads_of (BadLine line why) s n e h k = h
+reads_of (File index) s n e h k = neither n 4 e (λ q. omega (arith, q)) (λ q. omega (arith, q)) (λ q. omega (arith, q)) k
+reads_of Write s n e h k = h
+reads_of Size s n e h k = neither n 6 e (λ q. omega (arith, q)) (λ q. omega (arith, q)) (λ q. omega (arith, q)) k
+reads_of (Over limit) s n e h k = neither n 6 e (λ q. omega (arith, q)) (λ q. omega (arith, q)) (λ q. omega (arith, q)) k

@@ -1,5 +1,0 @@
-use Rattle.mystery_cli.proofs.PrintLemmas.{joined_from}
-use Rattle.mystery_cli.proofs.printing.put_fields.Goals as goal
-
-pub returns : goal.returns
-returns c = joined_from c.args.fields.now _ _ _ _ c.in-len1-up.len_at_least c.in_ok-put_field.ensures c.in_ok-put_rest.ensures

@@ -1,0 +1,173 @@
+use super::rows::{ADD, OPPOSITE, Row, TOUCHING, input_of};
+use super::{ROOM, mem_file, texts};
+use crate::run;
+use Row::{Event, Line};
+use mystery_io::{Gate, MemFiles, MemSink};
+use std::alloc::{AllocError, Global};
+use std::process::Abort;
+use std::sync::atomic::{AtomicU64, Ordering};
+use std::test::Fail;
+use std::thread;
+use std::thread::Threads;
+
+const SAME: [Row<'static>; 4] = [
+    Event("r3", "a", "s", "0"),
+    Event("r3", "a", "e", "10"),
+    Event("r3", "b", "s", "10"),
+    Event("r3", "b", "e", "30"),
+];
+
+const SWAPPED: [Row<'static>; 4] = [
+    Event("r4", "b", "s", "0"),
+    Event("r4", "b", "e", "5"),
+    Event("r4", "a", "s", "5"),
+    Event("r4", "a", "e", "9"),
+];
+
+const WATCH_EACH: [Row<'static>; 1] = [Line("{\"do\":\"watch\",\"every\":1}")];
+
+/// Waits for a turn that another worker marks, for so many rounds. Answers whether it came.
+fn comes(turn: &AtomicU64) -> bool {
+    for _ in 0..10_000_000u64 {
+        if turn.load(Ordering::SeqCst) == 1 {
+            return true;
+        }
+        thread::yield_now();
+    }
+    false
+}
+
+/// Holds the first turn of each of two workers until the first of the other has come.
+#[derive(Drop)]
+struct BothFirst {
+    zero: AtomicU64,
+    one: AtomicU64,
+    failed: AtomicU64,
+}
+
+impl Gate for BothFirst {
+    fn turn(&self, worker: u32, _trace: u32) {
+        let (mine, other) = if worker == 0 {
+            (&self.zero, &self.one)
+        } else {
+            (&self.one, &self.zero)
+        };
+        mine.store(1, Ordering::SeqCst);
+        if !comes(other) {
+            self.failed.store(1, Ordering::SeqCst);
+        }
+    }
+}
+
+/// Holds turn 0 of worker 0 until turn 1 of worker 1 has come, and that turn until turn 1 of worker
+/// 0 has come.
+#[derive(Drop)]
+struct OneBeforeZero {
+    zero: AtomicU64,
+    one: AtomicU64,
+    failed: AtomicU64,
+}
+
+impl Gate for OneBeforeZero {
+    fn turn(&self, worker: u32, trace: u32) {
+        let came = match (worker, trace) {
+            (0, 0) => comes(&self.one),
+            (0, 1) => {
+                self.zero.store(1, Ordering::SeqCst);
+                true
+            }
+            (1, 1) => {
+                self.one.store(1, Ordering::SeqCst);
+                comes(&self.zero)
+            }
+            _ => true,
+        };
+        if !came {
+            self.failed.store(1, Ordering::SeqCst);
+        }
+    }
+}
+
+/// Makes the input of two traces for each of two workers.
+fn watched_input(alloc: Global) -> Result<Vec<u8>, AllocError> {
+    input_of(
+        alloc,
+        &[&WATCH_EACH, &TOUCHING, &SAME, &OPPOSITE, &SWAPPED, &[ADD]],
+    )
+}
+
+/// Runs a session of an input with two workers, and returns what was written.
+fn run_watched<R: Threads + Sync + Abort, G: Gate + Sync>(
+    rt: &R,
+    alloc: Global,
+    f: &[u8],
+    gate: &G,
+) -> Result<MemSink, Fail> {
+    let words = texts(alloc, &["--workers", "2", "session", "f"])?;
+    let mut all = Vec::new(alloc);
+    all.push(mem_file(alloc, "f", f)?)?;
+    let mut files = MemFiles::new(all, 4096, Vec::new(alloc));
+    let mut out = MemSink::new(alloc, ROOM, Vec::new(alloc), ROOM)?;
+    let mut err = MemSink::new(alloc, ROOM, Vec::new(alloc), ROOM)?;
+    let got = run(rt, alloc, &words, &mut files, &mut out, &mut err, gate);
+    assert_eq!(rt; err.bytes(), b"".as_slice());
+    assert_eq!(rt; got, 0);
+    Ok(out)
+}
+
+/// Returns the watch number of a line with this beginning: one digit, and then the line's end.
+fn watch_number(line: &[u8], before: &[u8]) -> Option<u8> {
+    match line.strip_prefix(before) {
+        Some([digit]) if digit.is_ascii_digit() => Some(*digit - b'0'),
+        _ => None,
+    }
+}
+
+#[test]
+fn watch_numbers_are_bounded_and_never_fall(rt: HostRuntime) -> Result<(), Fail> {
+    let alloc = rt.alloc();
+    let gate = BothFirst {
+        zero: AtomicU64::new(0),
+        one: AtomicU64::new(0),
+        failed: AtomicU64::new(0),
+    };
+    let f = watched_input(alloc)?;
+    let out = run_watched(&rt, alloc, &f, &gate)?;
+    assert_eq!(rt; gate.failed.load(Ordering::SeqCst), 0);
+    let wanted: [&[u8]; 4] = [
+        b"watch\t0\t0\t1\t",
+        b"watch\t0\t0\t2\t",
+        b"watch\t0\t1\t1\t",
+        b"watch\t0\t1\t2\t",
+    ];
+    let mut numbers = Vec::new(alloc);
+    let mut lines = out.bytes().split(|byte| *byte == b'\n');
+    for before in wanted {
+        let number = lines.next().and_then(|line| watch_number(line, before));
+        numbers.push(number.ok_or("no watch line")?)?;
+    }
+    assert_eq!(rt; lines.next(), Some(b"".as_slice()));
+    assert!(rt; lines.next().is_none());
+    assert!(rt; numbers.iter().all(|number| 2 <= *number && *number <= 3));
+    assert_eq!(rt; numbers.len(), 4);
+    assert!(rt; numbers[0] <= numbers[1] && numbers[2] <= numbers[3]);
+    Ok(())
+}
+
+#[test]
+fn a_reading_sees_what_the_other_worker_offered(rt: HostRuntime) -> Result<(), Fail> {
+    let alloc = rt.alloc();
+    let gate = OneBeforeZero {
+        zero: AtomicU64::new(0),
+        one: AtomicU64::new(0),
+        failed: AtomicU64::new(0),
+    };
+    let f = watched_input(alloc)?;
+    let out = run_watched(&rt, alloc, &f, &gate)?;
+    assert_eq!(rt; gate.failed.load(Ordering::SeqCst), 0);
+    assert_eq!(rt;
+        out.bytes(),
+        b"watch\t0\t0\t1\t3\nwatch\t0\t0\t2\t3\nwatch\t0\t1\t1\t2\nwatch\t0\t1\t2\t3\n".as_slice()
+    );
+    Ok(())
+}

@@ -1,0 +1,45 @@
+ghost use Rattle.std.specs.Prelude.{◌≡◌};
+ghost use Rattle.mystery_cli.specs.CommandLines.{named_view};
+ghost use Rattle.mystery_cli.specs.Works.{view_command};
+
+use event_lines::Command;
+
+/// What is printed of the kept traces.
+#[derive(Clone, Copy, Debug, PartialEq, Eq)]
+pub(crate) enum View {
+    /// Their model.
+    Model,
+    /// Their critical paths.
+    Paths,
+    /// The slack of their segments.
+    Slack,
+    /// Their graphs.
+    Graph,
+}
+
+impl View {
+    /// Finds the view with this name.
+    pub(crate) fn parse(name: &str) -> Option<View>
+        ensures { result ≡ named_view name.now }
+    {
+        match name {
+            "model" => Some(View::Model),
+            "paths" => Some(View::Paths),
+            "slack" => Some(View::Slack),
+            "graph" => Some(View::Graph),
+            _ => None,
+        }
+    }
+
+    /// Returns the command that prints the view.
+    pub(crate) fn command(self) -> Command
+        ensures { result ≡ view_command self }
+    {
+        match self {
+            View::Model => Command::Model,
+            View::Paths => Command::Paths,
+            View::Slack => Command::Slack,
+            View::Graph => Command::Graph,
+        }
+    }
+}
