@@ -1,10 +1,10 @@
 -- What each step asks of the rule.
-use Rattle.std.proofs.Common.{◌≡◌, ◌≢◌, ℕ, zero, suc, ◌+◌, ◌-◌, ◌%◌, ◌^◌, ◌<◌, ◌≤◌, Bool, true, false, ◌==◌, List, [], ◌∷◌, ◌++◌, length, set, get_or, slice_index, sym, refl, ap, ◌∙◌, subst, ⊎_elim, ◌⊎◌, inl, inr, arith}
-use Rattle.std.specs.Prelude.{Option, Some, MatchBool, cond, count_by}
-use Rattle.std.proofs.lemmas.Bool.{eqb-true}
+use Rattle.std.proofs.Common.{◌≡◌, ◌≢◌, ℕ, zero, suc, ◌+◌, ◌%◌, ◌^◌, ◌<◌, ◌≤◌, Bool, true, false, ◌==◌, List, [], ◌∷◌, length, set, slice_index, sym, refl, ap, ◌∙◌, subst, ⊎_elim, inl, arith}
+use Rattle.std.specs.Prelude.{Option, Some, MatchBool, cond}
+use Rattle.std.proofs.lemmas.Bool.{eqb-true, le-ltb}
 use Rattle.std.proofs.lemmas.List.{set-get_or}
-use Rattle.atomic_table.specs.Table.{Act, Valid, carried_after, step as base_step, stepped, keeps, takes, gives, put_back, rest, Allows, Splits, Joins, opening}
-use Rattle.atomic_table.proofs.Lists.{at_set, set_else}
+use Rattle.atomic_table.specs.Table.{Act, Valid, carried_after, step as base_step, stepped, keeps, takes, gives, put_back, Allows, Splits, Joins, opening}
+use Rattle.atomic_table.proofs.Lists.{at_set}
 use mathlib.Core.Option.{Option as Home, none, some, some-injective, some-ne-none}
 use mathlib.Core.List.{IsPrefix}
 use lib.ListN.{get_elem?}
@@ -14,11 +14,13 @@ use Rattle.live_book.specs.declared.rule.Plan.{Plan}
 use Rattle.live_book.specs.declared.rule.Knowledge.{Knowledge}
 use Rattle.live_book.specs.declared.rule.Stage.TheVariants.{Resting, Waiting, InTurn, Seeing}
 use Rattle.live_book.specs.Plays.{CommitPlay, PassPlay, SeePlay, TakesBook, TellPlay, TicketPlay, WatchPlay}
-use Rattle.live_book.specs.Rule.{Each, IsLive, IsOpened, SeatState, TableState, callers_with, total}
-use Rattle.live_book.specs.Views.{committed_view, empty_view, first_view, found_in, holds, is_in_turn, has_ticket, times, in_turn_view, joined_view, left_view, new_view, passed_view, seeing_view, ticket_in, told_view, waiting_view}
+use Rattle.live_book.specs.Histories.{AllStand}
+use Rattle.live_book.specs.Rule.{Each, IsLive, IsOpened, SeatState, TableState}
+use Rattle.live_book.specs.Views.{committed_view, empty_view, first_view, found_in, in_turn_view, joined_view, left_view, new_view, passed_view, seeing_view, ticket_in, told_view, waiting_view}
 use Rattle.live_book.specs.inner.Seats.{HasHeard}
 use Rattle.live_book.proofs.PrefixLemmas.{all_shorter}
-use Rattle.live_book.proofs.StepLemmas.{come_keeps, commit_keeps, draw_keeps, join_keeps, pass_keeps, see_keeps, seeing_stage, slot_home, split_keeps, tell_keeps, tell_once, turns_most, unchanged}
+use Rattle.live_book.proofs.SeatLemmas.{join_keeps, split_keeps}
+use Rattle.live_book.proofs.StepLemmas.{come_keeps, commit_keeps, draw_keeps, pass_keeps, pass_tells, see_keeps, seeing_stage, slot_home, tell_history, tell_keeps, tell_once, turns_most, unchanged}
 
 mod_small : (n : ℕ) → n + 1 < 2 ^ 64 → (n + 1) % 2 ^ 64 ≡ n + 1
 mod_small n l = omega arith
@@ -78,16 +80,16 @@ module _ (plan : Plan) (slots id : ℕ) (me : SeatState) (names : me.0.names ≡
   see_allowed st s h homes at small =
       (seeing_view me.0, keeps, tt, loaded s 2 s.homes (seeing_view me.0) (see_keeps plan s h id me.0 at st names all), refl)
 
-  module _ (st : me.0.stage ≡ Seeing (ticket_in me.0.stage)) where
-    pub commit_allowed : (entries : List Entry) → IsPrefix me.0.front entries → length entries ≡ length me.0.front + 1 → length entries ≤ 10000
+  module _ (st : me.0.stage ≡ Seeing (ticket_in me.0.stage) (found_in me.0.stage)) where
+    pub commit_allowed : found_in me.0.stage ≡ me.0.front → (entries : List Entry) → IsPrefix me.0.front entries → length entries ≡ length me.0.front + 1 → length entries ≤ 10000
         → Allows (IsLive plan) slots id me 2 (λ n. (n + 1) % 2 ^ 64) (CommitPlay entries (base_step slots 2 1 0 none) me)
-    commit_allowed entries more one few s h homes at small =
-        let long : length me.0.front ≡ length h.longest = ap (λ (l : List Entry). length l) (seeing_stage plan s h id me.0 at st names all).2 in
+    commit_allowed fresh entries more one few s h homes at small =
+        let long : length me.0.front ≡ length h.longest = ap (λ (l : List Entry). length l) (seeing_stage plan s h id me.0 at st names all).3 in
         let next : (length h.longest + 1) % 2 ^ 64 ≡ length entries = mod_small (length h.longest) (omega arith) ∙ omega arith in
         let words : set s.words 2 ((slice_index s.words 2 + 1) % 2 ^ 64) ≡ h.drawn ∷ h.served ∷ length entries ∷ [] =
         ap (λ (ws : List ℕ). set ws 2 ((slice_index ws 2 + 1) % 2 ^ 64)) h.words ∙ ap (λ (n : ℕ). h.drawn ∷ h.served ∷ n ∷ []) next in
         let w : Knowledge = committed_view me.0 entries in
-        (w, keeps, tt, subst (λ (ws : List ℕ). IsLive plan (record { words = ws; homes = s.homes; views = set s.views id w })) (sym words) (commit_keeps plan s h id me.0 at st names all entries more one), refl)
+        (w, keeps, tt, subst (λ (ws : List ℕ). IsLive plan (record { words = ws; homes = s.homes; views = set s.views id w })) (sym words) (commit_keeps plan s h id me.0 at st names all fresh entries more one), refl)
 
     pub pass_allowed : slots ≡ 1 → me.1 ≡ (0, Some (journal me.0.names me.0.front)) ∷ [] → Allows (IsLive plan) slots id me 1 (λ n. (n + 1) % 2 ^ 64) (PassPlay (base_step slots 1 1 0 none) me)
     pass_allowed one slot s h homes at small =
@@ -104,7 +106,10 @@ module _ (plan : Plan) (slots id : ℕ) (me : SeatState) (names : me.0.names ≡
           subst (λ (ws : List ℕ). IsLive plan (record { words = ws; homes = put_back s.homes me.1; views = set s.views id w })) (sym words)
               (subst (λ (hs : List (Home (Option JournalState))). IsLive plan (record { words = h.drawn ∷ (h.served + 1) ∷ length h.longest ∷ []; homes = hs; views = set s.views id w })) (sym home)
               (pass_keeps plan s h id me.0 at st names all)),
-          refl,
+          record {
+            served = ap (λ (ws : List ℕ). slice_index ws 1) h.words ∙ sym stage.0;
+            passes = record { seat = refl; history = pass_tells plan s h id me.0 at st names all };
+          },
         )
 
   pub tell_allowed : HasHeard me.0 → Allows (IsLive plan) slots id me 0 (λ n. n) (TellPlay (base_step slots 0 0 0 none) me)
@@ -118,6 +123,7 @@ module _ (plan : Plan) (slots id : ℕ) (me : SeatState) (names : me.0.names ≡
       turns = let most = turns_most plan s h id me.0 at in omega arith;
       fits = let most = turns_most plan s h id me.0 at in let f = h.fits in omega arith;
       once = tell_once plan s h id me.0 at names all;
+      history = tell_history plan s h id me.0 at names all;
       heard = all_shorter me.0.heard me.0.front h.longest (h.fronts id me.0 at) short (h.heard id me.0 at);
     },
   )
@@ -140,8 +146,17 @@ pub book_opens : (plan : Plan) → plan.turns < 2 ^ 64 → IsLive plan (opening 
 book_opens plan fits = record {
   drawn = 0;
   served = 0;
+  settled = [];
   longest = [];
   words = refl;
+  history = record {
+    history = [];
+    leads = refl;
+    count = refl;
+    stand = only (λ x. AllStand [] x.history) (first_view plan) tt;
+    once = λ n. ap (λ (b : Bool). cond b 1 0) (sym (le-ltb n 0 (omega arith)));
+  };
+  quiet = λ _. refl;
   turns = omega arith;
   fits = fits;
   opened = only (IsOpened plan) (first_view plan) (inl (refl, refl));

@@ -1,7 +1,9 @@
 pub mod PrefixLemmas
 pub mod TotalLemmas
 pub mod StageLemmas
+pub mod HistoryLemmas
 pub mod StepLemmas
+pub mod SeatLemmas
 pub mod AllowLemmas
 pub mod TurnLemmas
 pub mod LawLemmas

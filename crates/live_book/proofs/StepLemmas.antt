@@ -1,12 +1,11 @@
 -- Each step of a seat keeps the rule.
-use Rattle.std.proofs.Common.{◌≡◌, ◌≢◌, ℕ, ◌+◌, ◌-◌, ◌%◌, ◌^◌, ◌<◌, ◌≤◌, Bool, true, false, ◌==◌, List, [], ◌∷◌, ◌++◌, length, set, get_or, slice_index, sym, refl, ap, ◌∙◌, subst, ⊎_elim, ◌⊎◌, inl, inr, arith}
-use Rattle.std.specs.Prelude.{Option, Some, MatchBool, cond, count_by}
+use Rattle.std.proofs.Common.{◌≡◌, ◌≢◌, ℕ, ◌+◌, ◌-◌, ◌<◌, ◌≤◌, Bool, true, false, ◌==◌, List, [], ◌∷◌, length, set, slice_index, sym, refl, ap, ◌∙◌, subst, ⊎_elim, inl, arith}
+use Rattle.std.specs.Prelude.{Option, Some, cond, count_by}
 use Rattle.std.proofs.lemmas.Bool.{cases_Bool, cases_eq, eq-eqb, eqb-true}
 use Rattle.std.proofs.lemmas.List.{set-get_or}
-use Rattle.std.proofs.lemmas.List.Sums.{sum_by_push, sum_by-append}
-use Rattle.atomic_table.specs.Table.{Act, Valid, carried_after, step as base_step, stepped, keeps, takes, gives, Allows, Splits, Joins, opening}
-use Rattle.atomic_table.proofs.Lists.{at_longer, set_again, set_else, set_here}
-use mathlib.Core.Option.{Option as Home, none, some}
+use Rattle.std.proofs.lemmas.List.Sums.{sum_by_push}
+use Rattle.atomic_table.proofs.Lists.{set_again, set_here}
+use mathlib.Core.Option.{Option as Home, some}
 use mathlib.Core.List.{IsPrefix}
 use lib.ListN.{get_elem?}
 use Rattle.live_journal.specs.declared.entry.Entry.{Entry}
@@ -15,13 +14,13 @@ use Rattle.live_book.specs.declared.rule.Plan.{Plan}
 use Rattle.live_book.specs.declared.rule.Knowledge.{Knowledge}
 use Rattle.live_book.specs.declared.rule.Stage.{Stage}
 use Rattle.live_book.specs.declared.rule.Stage.TheVariants.{Resting, Waiting, InTurn, Seeing}
-use Rattle.live_book.specs.Plays.{CommitPlay, PassPlay, SeePlay, TakesBook, TellPlay, TicketPlay, WatchPlay}
-use Rattle.live_book.specs.Rule.{AllBegin, Each, IsFront, IsLive, IsOpened, IsStage, SeatState, TableState, callers_with, total}
-use Rattle.live_book.specs.Views.{committed_view, empty_view, first_view, found_in, has_ticket, holds, in_turn_view, is_in_turn, joined_view, left_view, longer, new_view, passed_view, seeing_view, ticket_in, times, told_view, waiting_view}
-use Rattle.live_book.specs.inner.Seats.{AreShort, HasHeard}
-use Rattle.live_book.proofs.PrefixLemmas.{all_longer, all_shorter, begins_itself, begins_longer, begins_same, longer_either, longer_is, prefix_whole}
-use Rattle.live_book.proofs.StageLemmas.{rests_if, stage_below, stage_drawn, stage_else, stage_next, stage_served}
-use Rattle.live_book.proofs.TotalLemmas.{alone, at_inside, at_one, each_back, each_set, each_snoc, front_set, total_at, total_none, total_same, total_set, total_snoc}
+use Rattle.live_book.specs.Histories.{AddsAtMostOne, AreOfOneHistory}
+use Rattle.live_book.specs.Rule.{AllBegin, Each, HasHistory, IsLive, IsOpened, IsStage, TableState, callers_with, total}
+use Rattle.live_book.specs.Views.{committed_view, found_in, has_ticket, holds, in_turn_view, is_in_turn, passed_view, seeing_view, ticket_in, times, turn_in, told_view, waiting_view}
+use Rattle.live_book.proofs.HistoryLemmas.{history_pass, history_set, of_one_history}
+use Rattle.live_book.proofs.PrefixLemmas.{all_longer, begins_itself, begins_longer, begins_same}
+use Rattle.live_book.proofs.StageLemmas.{rests_if, stage_below, stage_drawn, stage_else, stage_next}
+use Rattle.live_book.proofs.TotalLemmas.{alone, at_inside, at_one, each_back, each_set, front_set, total_at, total_none, total_same, total_set}
 
 abbrev turns_of : Knowledge → ℕ
 turns_of k = k.turns
@@ -37,6 +36,10 @@ ticketed k = cond (has_ticket k.stage) 1 0
 
 abbrev rests : Knowledge → Type 0
 rests k = is_in_turn k.stage ≡ false
+
+-- the found journal without an entry more
+adds_none : (found : List Entry) → AddsAtMostOne found found
+adds_none found = record { begins = begins_itself found; one = omega arith }
 
 -- a load that leaves the seat as it is leaves the table as it is
 pub unchanged : (s : TableState) (word id : ℕ) (k : Knowledge) → get_elem? s.views id ≡ some k → record { words = set s.words word (slice_index s.words word); homes = s.homes; views = set s.views id k } ≡ s
@@ -62,7 +65,7 @@ module _ (plan : Plan) (s : TableState) (h : IsLive plan s) (id : ℕ) (k : Know
         let one : total (holder n) views ≤ 1 = h.differ n in ⊎_elim
         (λ (e : (h.drawn == n) ≡ true).
         let same = eqb-true h.drawn n e in
-        let nobody : total (holder n) views ≡ 0 = total_none (holder n) views (λ j u o. ap (λ (b : Bool). cond b 1 0) (stage_below h.drawn h.served h.longest u.front u.stage n (h.stages j u o) (omega arith))) in
+        let nobody : total (holder n) views ≡ 0 = total_none (holder n) views (λ j u o. ap (λ (b : Bool). cond b 1 0) (stage_below h.drawn h.served h.settled h.longest u.front u.stage n (h.stages j u o) (omega arith))) in
         let now : holder n drawn_next ≡ 1 = ap (λ (b : Bool). cond b 1 0) e in omega arith)
         (λ (e : (h.drawn == n) ≡ false). let now : holder n drawn_next ≡ 0 = ap (λ (b : Bool). cond b 1 0) e in omega arith)
         (cases_Bool (h.drawn == n))
@@ -71,8 +74,11 @@ module _ (plan : Plan) (s : TableState) (h : IsLive plan s) (id : ℕ) (k : Know
     draw_keeps = record {
       drawn = h.drawn + 1;
       served = h.served;
+      settled = h.settled;
       longest = h.longest;
       words = refl;
+      history = history_set h.served h.settled views h.history id k drawn_next at refl;
+      quiet = λ all_rest. h.quiet (each_back rests views id k drawn_next at (ap is_in_turn st) all_rest);
       turns = let t : total turns_of (set views id drawn_next) + k.turns ≡ total turns_of views + (k.turns - 1) = total_set turns_of views id k drawn_next at in let a : total turns_of views + h.drawn ≡ plan.turns = h.turns in omega arith;
       fits = h.fits;
       opened = each_set (IsOpened plan) views id drawn_next (inl (names, all)) (λ j u o _. h.opened j u o);
@@ -82,9 +88,9 @@ module _ (plan : Plan) (s : TableState) (h : IsLive plan s) (id : ℕ) (k : Know
           let before : ticketed k ≡ 0 = ap (λ (x : Stage). cond (has_ticket x) 1 0) st in
           let t : total ticketed (set views id drawn_next) + ticketed k ≡ total ticketed views + 1 = total_set ticketed views id k drawn_next at in
           let a : h.served + total ticketed views ≡ h.drawn = h.held in omega arith;
-      stages = each_set (λ x. IsStage (h.drawn + 1) h.served h.longest x.front x.stage) views id drawn_next
+      stages = each_set (λ x. IsStage (h.drawn + 1) h.served h.settled h.longest x.front x.stage) views id drawn_next
           (let a : h.served + total ticketed views ≡ h.drawn = h.held in (omega arith, omega arith))
-          (λ j u o _. stage_drawn h.drawn h.served h.longest u.front u.stage (h.stages j u o));
+          (λ j u o _. stage_drawn h.drawn h.served h.settled h.longest u.front u.stage (h.stages j u o));
       fronts = each_set (λ x. IsPrefix x.front h.longest) views id drawn_next (h.fronts id k at) (λ j u o _. h.fronts j u o);
       heard = each_set (λ x. AllBegin x.heard h.longest) views id drawn_next (h.heard id k at) (λ j u o _. h.heard j u o);
       is_front = front_set views h.longest id k drawn_next at (λ e. e) h.is_front;
@@ -95,23 +101,26 @@ module _ (plan : Plan) (s : TableState) (h : IsLive plan s) (id : ℕ) (k : Know
 
   -- ---- what a step keeps that changes neither turns, passes, positions nor words
   module _ (l : Knowledge) (same_turns : l.turns ≡ k.turns) (same_passes : l.passes ≡ k.passes) (same_positions : l.positions ≡ k.positions)
-      (same_names : l.names ≡ plan.names) (same_all : l.all ≡ plan.turns) (same_heard : l.heard ≡ k.heard)
+      (same_names : l.names ≡ plan.names) (same_all : l.all ≡ plan.turns) (same_heard : l.heard ≡ k.heard) (same_history : l.history ≡ k.history)
       (same_holds : (n : ℕ) → holds n l.stage ≡ holds n k.stage) (same_has : has_ticket l.stage ≡ has_ticket k.stage)
-      (stage : IsStage h.drawn h.served h.longest l.front l.stage) (begins : IsPrefix l.front h.longest) (front : k.front ≡ h.longest → l.front ≡ h.longest) where
-    pub moved_keeps : (homes : List (Home (Option JournalState))) → (Each rests (set views id l) → homes ≡ some (Some (journal plan.names h.longest)) ∷ [])
+      (stage : IsStage h.drawn h.served h.settled h.longest l.front l.stage) (begins : IsPrefix l.front h.longest) (front : k.front ≡ h.longest → l.front ≡ h.longest) where
+    pub moved_keeps : (homes : List (Home (Option JournalState))) → (Each rests (set views id l) → h.settled ≡ h.longest) → (Each rests (set views id l) → homes ≡ some (Some (journal plan.names h.longest)) ∷ [])
         → IsLive plan (record { words = s.words; homes = homes; views = set views id l })
-    moved_keeps homes home = record {
+    moved_keeps homes quiet home = record {
       drawn = h.drawn;
       served = h.served;
+      settled = h.settled;
       longest = h.longest;
       words = h.words;
+      history = history_set h.served h.settled views h.history id k l at same_history;
+      quiet = quiet;
       turns = ap (λ (n : ℕ). n + h.drawn) (total_same turns_of views id k l at same_turns) ∙ h.turns;
       fits = h.fits;
       opened = each_set (IsOpened plan) views id l (inl (same_names, same_all)) (λ j u o _. h.opened j u o);
       passes = total_same passes_of views id k l at same_passes ∙ h.passes;
       differ = λ n. subst (λ (m : ℕ). m ≤ 1) (sym (total_same (holder n) views id k l at (ap (λ (b : Bool). cond b 1 0) (same_holds n)))) (h.differ n);
       held = ap (λ (n : ℕ). h.served + n) (total_same ticketed views id k l at (ap (λ (b : Bool). cond b 1 0) same_has)) ∙ h.held;
-      stages = each_set (λ x. IsStage h.drawn h.served h.longest x.front x.stage) views id l stage (λ j u o _. h.stages j u o);
+      stages = each_set (λ x. IsStage h.drawn h.served h.settled h.longest x.front x.stage) views id l stage (λ j u o _. h.stages j u o);
       fronts = each_set (λ x. IsPrefix x.front h.longest) views id l begins (λ j u o _. h.fronts j u o);
       heard = each_set (λ x. AllBegin x.heard h.longest) views id l (subst (λ (fs : List (List Entry)). AllBegin fs h.longest) (sym same_heard) (h.heard id k at)) (λ j u o _. h.heard j u o);
       is_front = front_set views h.longest id k l at front h.is_front;
@@ -129,7 +138,7 @@ module _ (plan : Plan) (s : TableState) (h : IsLive plan s) (id : ℕ) (k : Know
     pub all_rest : is_in_turn k.stage ≡ false → Each rests views
     all_rest me j u o = ⊎_elim
         (λ (t : j ≡ id). subst rests (sym (at_one views id j k u at o t)) me)
-        (λ (t : j ≢ id). rests_if h.drawn h.served h.longest u.front u.stage (h.stages j u o) (others_else j u o t))
+        (λ (t : j ≢ id). rests_if h.drawn h.served h.settled h.longest u.front u.stage (h.stages j u o) (others_else j u o t))
         (cases_eq j id)
 
     -- a view in its turn
@@ -148,43 +157,46 @@ module _ (plan : Plan) (s : TableState) (h : IsLive plan s) (id : ℕ) (k : Know
     pub slot_home : s.homes ≡ some (Some (journal plan.names h.longest)) ∷ []
     slot_home = h.home (all_rest waits_served (ap is_in_turn st))
 
-    waits_stage : IsStage h.drawn h.served h.longest k.front (Waiting (ticket_in k.stage))
-    waits_stage = subst (IsStage h.drawn h.served h.longest k.front) st (h.stages id k at)
+    waits_stage : IsStage h.drawn h.served h.settled h.longest k.front (Waiting (ticket_in k.stage))
+    waits_stage = subst (IsStage h.drawn h.served h.settled h.longest k.front) st (h.stages id k at)
 
     pub come_keeps : (homes : List (Home (Option JournalState))) → IsLive plan (record { words = s.words; homes = homes; views = set views id come })
-    come_keeps homes = moved_keeps come refl refl refl names all refl (λ n. sym (ap (holds n) st)) (sym (ap has_ticket st))
-        (served, waits_stage.1, refl) (h.fronts id k at) (λ e. e) homes (not_home waits_served come refl)
+    come_keeps homes = moved_keeps come refl refl refl names all refl refl (λ n. sym (ap (holds n) st)) (sym (ap has_ticket st))
+        (served, waits_stage.1, sym (h.quiet (all_rest waits_served (ap is_in_turn st))), refl) (h.fronts id k at) (λ e. e) homes (not_home waits_served come refl) (not_home waits_served come refl)
 
   -- ---- the whole journal is seen
   module _ (st : k.stage ≡ InTurn (ticket_in k.stage) (found_in k.stage)) (names : k.names ≡ plan.names) (all : k.all ≡ plan.turns) where
     abbrev seen : Knowledge
     seen = seeing_view k
 
-    turn_stage : IsStage h.drawn h.served h.longest k.front (InTurn (ticket_in k.stage) (found_in k.stage))
-    turn_stage = subst (IsStage h.drawn h.served h.longest k.front) st (h.stages id k at)
+    turn_stage : IsStage h.drawn h.served h.settled h.longest k.front (InTurn (ticket_in k.stage) (found_in k.stage))
+    turn_stage = subst (IsStage h.drawn h.served h.settled h.longest k.front) st (h.stages id k at)
 
     turn_served : holds h.served k.stage ≡ true
     turn_served = ap (holds h.served) st ∙ eq-eqb (ticket_in k.stage) h.served turn_stage.0
 
     pub see_keeps : IsLive plan (record { words = s.words; homes = s.homes; views = set views id seen })
-    see_keeps = moved_keeps seen refl refl refl names all refl (λ n. sym (ap (holds n) st)) (sym (ap has_ticket st))
-        (turn_stage.0, turn_stage.1, turn_stage.2) (begins_same (found_in k.stage) h.longest turn_stage.2) (λ _. turn_stage.2) s.homes (not_home turn_served seen refl)
+    see_keeps = moved_keeps seen refl refl refl names all refl refl (λ n. sym (ap (holds n) st)) (sym (ap has_ticket st))
+        (turn_stage.0, turn_stage.1, turn_stage.2, turn_stage.3, adds_none (found_in k.stage)) (begins_same (found_in k.stage) h.longest turn_stage.3) (λ _. turn_stage.3) s.homes (not_home turn_served seen refl) (not_home turn_served seen refl)
 
   -- ---- in its turn, after the see
-  module _ (st : k.stage ≡ Seeing (ticket_in k.stage)) (names : k.names ≡ plan.names) (all : k.all ≡ plan.turns) where
-    pub seeing_stage : IsStage h.drawn h.served h.longest k.front (Seeing (ticket_in k.stage))
-    seeing_stage = subst (IsStage h.drawn h.served h.longest k.front) st (h.stages id k at)
+  module _ (st : k.stage ≡ Seeing (ticket_in k.stage) (found_in k.stage)) (names : k.names ≡ plan.names) (all : k.all ≡ plan.turns) where
+    pub seeing_stage : IsStage h.drawn h.served h.settled h.longest k.front (Seeing (ticket_in k.stage) (found_in k.stage))
+    seeing_stage = subst (IsStage h.drawn h.served h.settled h.longest k.front) st (h.stages id k at)
 
     seeing_served : holds h.served k.stage ≡ true
     seeing_served = ap (holds h.served) st ∙ eq-eqb (ticket_in k.stage) h.served seeing_stage.0
 
     -- one entry more
-    module _ (entries : List Entry) (more : IsPrefix k.front entries) (one : length entries ≡ length k.front + 1) where
+    module _ (fresh : found_in k.stage ≡ k.front) (entries : List Entry) (more : IsPrefix k.front entries) (one : length entries ≡ length k.front + 1) where
       abbrev committed : Knowledge
       committed = committed_view k entries
 
       longest_more : IsPrefix h.longest entries
-      longest_more = subst (λ (l : List Entry). IsPrefix l entries) seeing_stage.2 more
+      longest_more = subst (λ (l : List Entry). IsPrefix l entries) seeing_stage.3 more
+
+      adds_one : AddsAtMostOne (found_in k.stage) entries
+      adds_one = subst (λ (l : List Entry). AddsAtMostOne l entries) (sym fresh) (record { begins = more; one = omega arith })
 
       now_times : (p : ℕ) → times p committed ≡ times p k + cond (length k.front == p) 1 0
       now_times p = sum_by_push (λ (q : ℕ). cond (q == p) 1 0) k.positions (length k.front)
@@ -194,20 +206,23 @@ module _ (plan : Plan) (s : TableState) (h : IsLive plan s) (id : ℕ) (k : Know
 
       pub commit_keeps : IsLive plan (record { words = h.drawn ∷ h.served ∷ length entries ∷ []; homes = s.homes; views = set views id committed })
       commit_keeps =
-          let long : length k.front ≡ length h.longest = ap (λ (l : List Entry). length l) seeing_stage.2 in record {
+          let long : length k.front ≡ length h.longest = ap (λ (l : List Entry). length l) seeing_stage.3 in record {
             drawn = h.drawn;
             served = h.served;
+            settled = h.settled;
             longest = entries;
             words = refl;
+            history = history_set h.served h.settled views h.history id k committed at refl;
+            quiet = not_home seeing_served committed (ap is_in_turn st);
             turns = ap (λ (n : ℕ). n + h.drawn) (total_same turns_of views id k committed at refl) ∙ h.turns;
             fits = h.fits;
             opened = each_set (IsOpened plan) views id committed (inl (names, all)) (λ j u o _. h.opened j u o);
             passes = total_same passes_of views id k committed at refl ∙ h.passes;
             differ = λ n. subst (λ (m : ℕ). m ≤ 1) (sym (total_same (holder n) views id k committed at refl)) (h.differ n);
             held = ap (λ (n : ℕ). h.served + n) (total_same ticketed views id k committed at refl) ∙ h.held;
-            stages = each_set (λ x. IsStage h.drawn h.served entries x.front x.stage) views id committed
-                (subst (IsStage h.drawn h.served entries entries) (sym st) (seeing_stage.0, seeing_stage.1, refl))
-                (λ j u o apart. stage_else h.drawn h.served h.longest entries u.front u.stage (h.stages j u o) (others_else seeing_served j u o apart));
+            stages = each_set (λ x. IsStage h.drawn h.served h.settled entries x.front x.stage) views id committed
+                (subst (IsStage h.drawn h.served h.settled entries entries) (sym st) (seeing_stage.0, seeing_stage.1, seeing_stage.2, refl, adds_one))
+                (λ j u o apart. stage_else h.drawn h.served h.settled h.longest entries u.front u.stage (h.stages j u o) (others_else seeing_served j u o apart));
             fronts = each_set (λ x. IsPrefix x.front entries) views id committed (begins_itself entries) (λ j u o _. begins_longer u.front h.longest entries (h.fronts j u o) longest_more);
             heard = each_set (λ x. AllBegin x.heard entries) views id committed (all_longer k.heard h.longest entries longest_more (h.heard id k at)) (λ j u o _. all_longer u.heard h.longest entries longest_more (h.heard j u o));
             is_front = record { id = id; caller = committed; has = set_here views id committed (at_inside views id k at); front = refl };
@@ -235,12 +250,18 @@ module _ (plan : Plan) (s : TableState) (h : IsLive plan s) (id : ℕ) (k : Know
     abbrev passed : Knowledge
     passed = passed_view k
 
+    pass_history : HasHistory (h.served + 1) k.front (set views id passed)
+    pass_history = history_pass h.served h.settled views h.history id k passed (turn_in k.stage k.front) at refl seeing_stage.0 seeing_stage.2 seeing_stage.4
+
     pub pass_keeps : IsLive plan (record { words = h.drawn ∷ (h.served + 1) ∷ length h.longest ∷ []; homes = some (Some (journal k.names k.front)) ∷ []; views = set views id passed })
     pass_keeps = record {
       drawn = h.drawn;
       served = h.served + 1;
+      settled = k.front;
       longest = h.longest;
       words = refl;
+      history = pass_history;
+      quiet = λ _. seeing_stage.3;
       turns = ap (λ (n : ℕ). n + h.drawn) (total_same turns_of views id k passed at refl) ∙ h.turns;
       fits = h.fits;
       opened = each_set (IsOpened plan) views id passed (inl (names, all)) (λ j u o _. h.opened j u o);
@@ -250,15 +271,19 @@ module _ (plan : Plan) (s : TableState) (h : IsLive plan s) (id : ℕ) (k : Know
           let before : ticketed k ≡ 1 = ap (λ (x : Stage). cond (has_ticket x) 1 0) st in
           let t : total ticketed (set views id passed) + ticketed k ≡ total ticketed views + 0 = total_set ticketed views id k passed at in
           let a : h.served + total ticketed views ≡ h.drawn = h.held in omega arith;
-      stages = each_set (λ x. IsStage h.drawn (h.served + 1) h.longest x.front x.stage) views id passed tt
-          (λ j u o apart. stage_next h.drawn h.served h.longest u.front u.stage (h.stages j u o) (others_else seeing_served j u o apart));
+      stages = each_set (λ x. IsStage h.drawn (h.served + 1) k.front h.longest x.front x.stage) views id passed tt
+          (λ j u o apart. stage_next h.drawn h.served h.settled k.front h.longest u.front u.stage (h.stages j u o) (others_else seeing_served j u o apart));
       fronts = each_set (λ x. IsPrefix x.front h.longest) views id passed (h.fronts id k at) (λ j u o _. h.fronts j u o);
       heard = each_set (λ x. AllBegin x.heard h.longest) views id passed (h.heard id k at) (λ j u o _. h.heard j u o);
       is_front = front_set views h.longest id k passed at (λ e. e) h.is_front;
       once = λ p. subst (λ (n : ℕ). n ≤ 1) (sym (total_same (times p) views id k passed at refl)) (h.once p);
       below = λ p l. total_same (times p) views id k passed at refl ∙ h.below p l;
-      home = λ _. λ j. some (Some (journal (names j) (seeing_stage.2 j))) ∷ [];
+      home = λ _. λ j. some (Some (journal (names j) (seeing_stage.3 j))) ∷ [];
     }
+
+    -- its turns are of one history
+    pub pass_tells : AreOfOneHistory passed.history
+    pass_tells = of_one_history (h.served + 1) k.front (set views id passed) pass_history id passed (set_here views id passed (at_inside views id k at))
 
   -- ---- what a load tells
   module _ (names : k.names ≡ plan.names) (all : k.all ≡ plan.turns) where
@@ -269,15 +294,18 @@ module _ (plan : Plan) (s : TableState) (h : IsLive plan s) (id : ℕ) (k : Know
     tell_keeps = record {
       drawn = h.drawn;
       served = h.served;
+      settled = h.settled;
       longest = h.longest;
       words = h.words;
+      history = history_set h.served h.settled views h.history id k told at refl;
+      quiet = λ all_rest. h.quiet (each_back rests views id k told at (all_rest id told (set_here views id told (at_inside views id k at))) all_rest);
       turns = ap (λ (n : ℕ). n + h.drawn) (total_same turns_of views id k told at refl) ∙ h.turns;
       fits = h.fits;
       opened = each_set (IsOpened plan) views id told (inl (names, all)) (λ j u o _. h.opened j u o);
       passes = total_same passes_of views id k told at refl ∙ h.passes;
       differ = λ n. subst (λ (m : ℕ). m ≤ 1) (sym (total_same (holder n) views id k told at refl)) (h.differ n);
       held = ap (λ (n : ℕ). h.served + n) (total_same ticketed views id k told at refl) ∙ h.held;
-      stages = each_set (λ x. IsStage h.drawn h.served h.longest x.front x.stage) views id told (h.stages id k at) (λ j u o _. h.stages j u o);
+      stages = each_set (λ x. IsStage h.drawn h.served h.settled h.longest x.front x.stage) views id told (h.stages id k at) (λ j u o _. h.stages j u o);
       fronts = each_set (λ x. IsPrefix x.front h.longest) views id told (h.fronts id k at) (λ j u o _. h.fronts j u o);
       heard = each_set (λ x. AllBegin x.heard h.longest) views id told tt (λ j u o _. h.heard j u o);
       is_front = front_set views h.longest id k told at (λ e. e) h.is_front;
@@ -286,112 +314,8 @@ module _ (plan : Plan) (s : TableState) (h : IsLive plan s) (id : ℕ) (k : Know
       home = λ all_rest. h.home (each_back rests views id k told at (all_rest id told (set_here views id told (at_inside views id k at))) all_rest);
     }
 
+    pub tell_history : AreOfOneHistory k.history
+    tell_history = of_one_history h.served h.settled views h.history id k at
+
     pub tell_once : (p : ℕ) → times p k ≤ 1
     tell_once p = let a = total_at (times p) views id k at in let b : total (times p) views ≤ 1 = h.once p in omega arith
-
-  -- ---- turns are split off
-  module _ (st : k.stage ≡ Resting) (names : k.names ≡ plan.names) (all : k.all ≡ plan.turns) (n : ℕ) (most : n ≤ k.turns) where
-    abbrev left : Knowledge
-    left = left_view n k
-
-    abbrev new : Knowledge
-    new = new_view n k
-
-    abbrev split_seats : List Knowledge
-    split_seats = set views id left ++ new ∷ []
-
-    -- what neither of the two has is what was there
-    split_same : (f : Knowledge → ℕ) → f left ≡ f k → f new ≡ 0 → total f split_seats ≡ total f views
-    split_same f a b = let t = total_same f views id k left at a in let u = total_snoc f (set views id left) new in omega arith
-
-    split_each : (F : Knowledge → Type 0) → F left → F new → Each F views → Each F split_seats
-    split_each F a b c = each_snoc F (set views id left) new (each_set F views id left a (λ j u o _. c j u o)) b
-
-    pub split_keeps : IsLive plan (record { words = s.words; homes = s.homes; views = split_seats })
-    split_keeps = record {
-      drawn = h.drawn;
-      served = h.served;
-      longest = h.longest;
-      words = h.words;
-      turns =
-          let t : total turns_of (set views id left) + k.turns ≡ total turns_of views + (k.turns - n) = total_set turns_of views id k left at in
-          let u : total turns_of split_seats ≡ total turns_of (set views id left) + n = total_snoc turns_of (set views id left) new in
-          let a : total turns_of views + h.drawn ≡ plan.turns = h.turns in omega arith;
-      fits = h.fits;
-      opened = split_each (IsOpened plan) (inl (names, all)) (inl (names, all)) h.opened;
-      passes = split_same passes_of refl refl ∙ h.passes;
-      differ = λ m. subst (λ (x : ℕ). x ≤ 1) (sym (split_same (holder m) refl refl)) (h.differ m);
-      held = ap (λ (m : ℕ). h.served + m) (split_same ticketed refl refl) ∙ h.held;
-      stages = split_each (λ x. IsStage h.drawn h.served h.longest x.front x.stage) (h.stages id k at) tt h.stages;
-      fronts = split_each (λ x. IsPrefix x.front h.longest) (h.fronts id k at) (h.fronts id k at) h.fronts;
-      heard = split_each (λ x. AllBegin x.heard h.longest) (h.heard id k at) tt h.heard;
-      is_front = let f = front_set views h.longest id k left at (λ e. e) h.is_front in record { id = f.id; caller = f.caller; has = at_longer (set views id left) (new ∷ []) f.id f.caller f.has; front = f.front };
-      once = λ p. subst (λ (m : ℕ). m ≤ 1) (sym (split_same (times p) refl refl)) (h.once p);
-      below = λ p l. split_same (times p) refl refl ∙ h.below p l;
-      home = λ all_rest. h.home (each_back rests views id k left at (ap is_in_turn st) (λ j u o. all_rest j u (at_longer (set views id left) (new ∷ []) j u o)));
-    }
-
-  -- ---- another caller is taken in
-  module _ (st : k.stage ≡ Resting) (names : k.names ≡ plan.names) (all : k.all ≡ plan.turns)
-      (other : ℕ) (l : Knowledge) (there : get_elem? views other ≡ some l) (apart : other ≢ id) (st' : l.stage ≡ Resting) where
-    abbrev both : Knowledge
-    both = joined_view k l
-
-    abbrev joined_seats : List Knowledge
-    joined_seats = set (set views id both) other empty_view
-
-    there_still : get_elem? (set views id both) other ≡ some l
-    there_still = set_else views id other both apart ∙ there
-
-    joined_sum : (f : Knowledge → ℕ) → f both ≡ f k + f l → f empty_view ≡ 0 → total f joined_seats ≡ total f views
-    joined_sum f a b =
-        let t = total_set f views id k both at in
-        let u = total_set f (set views id both) other l empty_view there_still in omega arith
-
-    joined_each : (F : Knowledge → Type 0) → F both → F empty_view → Each F views → Each F joined_seats
-    joined_each F a b c = each_set F (set views id both) other empty_view b (λ j u o _. each_set F views id both a (λ i v p _. c i v p) j u o)
-
-    kept_front : longer k.front l.front ≡ h.longest → IsFront joined_seats h.longest
-    kept_front e = record {
-      id = id;
-      caller = both;
-      has = set_else (set views id both) other id empty_view (λ (t : id ≡ other). apart (sym t)) ∙ set_here views id both (at_inside views id k at);
-      front = e;
-    }
-
-    joined_front : IsFront joined_seats h.longest
-    joined_front = let f = h.is_front in
-        let is = longer_is k.front l.front h.longest (h.fronts id k at) (h.fronts other l there) in ⊎_elim
-        (λ (t : f.id ≡ id). kept_front (is (inl (ap (λ (x : Knowledge). x.front) (sym (at_one views id f.id k f.caller at f.has t)) ∙ f.front))))
-        (λ (t : f.id ≢ id). ⊎_elim
-        (λ (q : f.id ≡ other). kept_front (is (inr (ap (λ (x : Knowledge). x.front) (sym (at_one views other f.id l f.caller there f.has q)) ∙ f.front))))
-        (λ (q : f.id ≢ other). record { id = f.id; caller = f.caller; has = set_else (set views id both) other f.id empty_view q ∙ set_else views id f.id both t ∙ f.has; front = f.front })
-        (cases_eq f.id other))
-        (cases_eq f.id id)
-
-    joined_rest : Each rests joined_seats → Each rests views
-    joined_rest all_rest = each_back rests views id k both at (ap is_in_turn st) (each_back rests (set views id both) other l empty_view there_still (ap is_in_turn st') all_rest)
-
-    joined_times : (p : ℕ) → times p both ≡ times p k + times p l
-    joined_times p = sum_by-append (λ (q : ℕ). cond (q == p) 1 0) k.positions l.positions
-
-    pub join_keeps : IsLive plan (record { words = s.words; homes = s.homes; views = joined_seats })
-    join_keeps = record {
-      drawn = h.drawn;
-      served = h.served;
-      longest = h.longest;
-      words = h.words;
-      turns = ap (λ (n : ℕ). n + h.drawn) (joined_sum turns_of refl refl) ∙ h.turns;
-      fits = h.fits;
-      opened = joined_each (IsOpened plan) (inl (names, all)) (inr refl) h.opened;
-      passes = joined_sum passes_of refl refl ∙ h.passes;
-      differ = λ n. subst (λ (m : ℕ). m ≤ 1) (sym (joined_sum (holder n) (let a : holder n l ≡ 0 = ap (λ (x : Stage). cond (holds n x) 1 0) st' in omega arith) refl)) (h.differ n);
-      held = ap (λ (n : ℕ). h.served + n) (joined_sum ticketed (let a : ticketed l ≡ 0 = ap (λ (x : Stage). cond (has_ticket x) 1 0) st' in omega arith) refl) ∙ h.held;
-      stages = joined_each (λ x. IsStage h.drawn h.served h.longest x.front x.stage) (subst (IsStage h.drawn h.served h.longest both.front) (sym st) tt) tt h.stages;
-      fronts = joined_each (λ x. IsPrefix x.front h.longest) (longer_either k.front l.front (λ f. IsPrefix f h.longest) (h.fronts id k at) (h.fronts other l there)) (h.longest, refl) h.fronts;
-      heard = joined_each (λ x. AllBegin x.heard h.longest) (h.fronts id k at, (h.fronts other l there, tt)) tt h.heard;
-      is_front = joined_front;
-      once = λ p. subst (λ (m : ℕ). m ≤ 1) (sym (joined_sum (times p) (joined_times p) refl)) (h.once p);
-      below = λ p m. joined_sum (times p) (joined_times p) refl ∙ h.below p m;
-      home = λ all_rest. h.home (joined_rest all_rest);
-    }

@@ -1,15 +1,15 @@
 -- Totals over callers, and facts of each caller.
-use Rattle.std.proofs.Common.{◌≡◌, ◌≢◌, ℕ, zero, suc, ◌+◌, ◌<◌, ◌≤◌, Bool, true, false, List, [], ◌∷◌, ◌++◌, length, get_or, set, sym, refl, ap, ◌∙◌, subst, ⊎_elim, ◌⊎◌, inl, inr, arith}
-use Rattle.std.specs.Prelude.{cond, sum_by}
+use Rattle.std.proofs.Common.{◌≡◌, ◌≢◌, ℕ, zero, suc, ◌+◌, ◌<◌, ◌≤◌, Bool, true, List, [], ◌∷◌, ◌++◌, length, get_or, set, sym, refl, ap, ◌∙◌, subst, ⊎_elim, arith}
+use Rattle.std.specs.Prelude.{cond}
 use Rattle.std.proofs.lemmas.Bool.{cases_eq}
 use Rattle.std.proofs.lemmas.List.Sums.{sum_by-cons, sum_by-set, sum_by_push, get_or-le-sum_by}
 use Rattle.atomic_table.proofs.Lists.{at_set, at_snoc, set_else, set_here}
-use mathlib.Core.Option.{none, some, some-injective, some-ne-none}
+use mathlib.Core.Option.{some, some-injective, some-ne-none}
 use lib.ListN.{get_elem?}
 use Rattle.live_journal.specs.declared.entry.Entry.{Entry}
 use Rattle.live_book.specs.declared.rule.Knowledge.{Knowledge}
 use Rattle.live_book.specs.Rule.{Each, IsFront, callers_with, total}
-use Rattle.live_book.specs.Views.{empty_view, holds, is_in_turn}
+use Rattle.live_book.specs.Views.{empty_view, holds}
 
 pub at_or : (l : List Knowledge) (i : ℕ) (a d : Knowledge) → get_elem? l i ≡ some a → get_or l i d ≡ a
 at_or [] i a d e = absurd (some-ne-none a (sym e))

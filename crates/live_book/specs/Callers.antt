@@ -1,10 +1,13 @@
 -- What contracts see of a shared book and of a caller.
-use Rattle.std.specs.Prelude.{◌≡◌, ℕ, ◌+◌, ◌-◌, ◌≤◌, List, [], ◌∷◌, ◌++◌, length, take, count_by, ◌==◌}
+use Rattle.std.specs.Prelude.{◌≡◌, ℕ, ◌+◌, ◌-◌, ◌≤◌, List, [], ◌∷◌, ◌++◌}
+use Rattle.std.specs.Prelude.{length, take, count_by, ◌==◌}
 use mathlib.Core.List.{IsPrefix}
 use Rattle.atomic_table.specs.Seated.{TableId}
 use Rattle.live_journal.specs.declared.entry.Entry.{Entry}
 use Rattle.live_journal.specs.Replays.{IsJournal}
 use Rattle.live_book.specs.declared.rule.Knowledge.{Knowledge}
+use Rattle.live_book.specs.declared.rule.Turn.{Turn}
+use Rattle.live_book.specs.Histories.{AreOfOneHistory, turn}
 use Rattle.live_book.specs.Views.{longer}
 
 -- a book: which it is, and the numbers of names and turns at opening
@@ -15,7 +18,7 @@ pub record OpenBook : Type 0 where
 
 -- a caller between its calls: of which book it is, with the numbers of names and turns at opening;
 -- the calls that it may still make, the journal as far as it has seen it, the positions of its own
--- entries, and how many turns it had and passed on
+-- entries, how many turns it had and passed on, and these turns in the order of its calls
 pub record CallerState : Type 0 where
   pub table_id : TableId
   pub names : ℕ
@@ -24,6 +27,7 @@ pub record CallerState : Type 0 where
   pub front : List Entry
   pub positions : List ℕ
   pub passes : ℕ
+  pub history : List Turn
 
 -- a caller with these fields, by what its view knows
 abbrev pub caller_of : TableId → Knowledge → CallerState
@@ -35,6 +39,7 @@ caller_of table_id k = record {
   front = k.front;
   positions = k.positions;
   passes = k.passes;
+  history = k.history;
 }
 
 -- the caller of a new book
@@ -47,6 +52,7 @@ first_caller book = record {
   front = [];
   positions = [];
   passes = 0;
+  history = [];
 }
 
 -- the caller is of this book
@@ -59,21 +65,24 @@ pub record IsOf (book : OpenBook) (caller : CallerState) : Type 0 where
 pub record SplitsOff (turns : ℕ) (before now new : CallerState) : Type 0 where
   pub left : record before { turns = now.turns } ≡ now
   pub turns_left : now.turns + turns ≡ before.turns
-  pub new_is : new ≡ record before { turns = turns; positions = []; passes = 0 }
+  pub new_is : new ≡ record before { turns = turns; positions = []; passes = 0; history = [] }
 
--- a caller that has taken in another: turns and passes add up, the other's positions follow, no
--- position stands twice, and the front is the longer of the two, which both begin
+-- a caller that has taken in another: turns and passes add up, the other's positions and turns
+-- follow, no position stands twice, all turns are of one history, and the front is the longer of
+-- the two, which both begin
 pub record TakesIn (before other now : CallerState) : Type 0 where
   pub seat : now ≡ record before {
     turns = before.turns + other.turns;
     front = longer before.front other.front;
     positions = before.positions ++ other.positions;
     passes = before.passes + other.passes;
+    history = before.history ++ other.history;
   }
   pub own : IsPrefix before.front now.front
   pub others : IsPrefix other.front now.front
   pub once : (position : ℕ) → count_by (λ (p : ℕ). p == position) now.positions ≤ 1
   pub most : now.turns ≤ now.all
+  pub one_history : AreOfOneHistory now.history
 
 -- the caller spent one turn and passed it on; its front begins with the front before, and is a
 -- journal
@@ -83,6 +92,7 @@ pub record HasTurn (before now : CallerState) : Type 0 where
     front = now.front;
     positions = now.positions;
     passes = now.passes;
+    history = now.history;
   } ≡ now
   pub turn : now.turns + 1 ≡ before.turns
   pub pass : now.passes ≡ before.passes + 1
@@ -93,13 +103,22 @@ pub record HasTurn (before now : CallerState) : Type 0 where
 abbrev pub all_but_last : List Entry → List Entry
 all_but_last entries = take (length entries - 1) entries
 
+-- one turn more stands in the caller's history: it found this journal, the whole one, since all the
+-- caller's turns are of one history, and left the caller's front; the front before begins it
+pub record FindsJournal (found : List Entry) (before now : CallerState) : Type 0 where
+  pub ticket : ℕ
+  pub turn_is : now.history ≡ before.history ++ turn ticket found now.front ∷ []
+  pub one_history : AreOfOneHistory now.history
+  pub begins : IsPrefix before.front found
+
 -- in its turn the caller found the entries of its front but the last, and added this one, at the
 -- last place of its front
 pub record AddsEntry (e : Entry) (before now : CallerState) : Type 0 where
+  pub finds : FindsJournal (all_but_last now.front) before now
   pub front : now.front ≡ all_but_last now.front ++ e ∷ []
-  pub begins : IsPrefix before.front (all_but_last now.front)
   pub positions : now.positions ≡ before.positions ++ length (all_but_last now.front) ∷ []
 
--- in its turn the caller added nothing
-abbrev pub AddsNothing : CallerState → CallerState → Type 0
-AddsNothing before now = now.positions ≡ before.positions
+-- in its turn the caller found its front, and added nothing
+pub record AddsNothing (before now : CallerState) : Type 0 where
+  pub finds : FindsJournal now.front before now
+  pub positions : now.positions ≡ before.positions

@@ -1,10 +1,12 @@
 -- What the rule of a shared book says of any two callers, in plain words.
-use Rattle.std.specs.Prelude.{◌≡◌, ℕ, ◌<◌, ◌≤◌, ◌⊎◌, true, length}
+use Rattle.std.specs.Prelude.{◌≡◌, ◌≢◌, ℕ, ◌<◌, ◌⊎◌, true, List, ◌++◌, length}
 use mathlib.Core.Option.{some}
 use mathlib.Core.List.{IsPrefix}
 use lib.ListN.{get_elem?}
 use Rattle.live_book.specs.declared.rule.Plan.{Plan}
 use Rattle.live_book.specs.declared.rule.Knowledge.{Knowledge}
+use Rattle.live_book.specs.declared.rule.Turn.{Turn}
+use Rattle.live_book.specs.Histories.{AreOfOneHistory}
 use Rattle.live_book.specs.Rule.{IsLive, TableState}
 use Rattle.live_book.specs.Views.{holds, is_in_turn, times}
 
@@ -34,6 +36,17 @@ OneIsInTurn = (plan : Plan) (s : TableState) (i j : ℕ) (k l : Knowledge)
 abbrev pub PositionsDiffer : Type 0
 PositionsDiffer = (plan : Plan) (s : TableState) (i j position : ℕ) (k l : Knowledge)
     → AreCallers plan s i j k l → 0 < times position k → 0 < times position l → j ≡ i
+
+-- the turns of any two callers are of one history
+abbrev pub TurnsAgree : Type 0
+TurnsAgree = (plan : Plan) (s : TableState) (i j : ℕ) (k l : Knowledge)
+    → AreCallers plan s i j k l → j ≢ i → AreOfOneHistory (k.history ++ l.history)
+
+-- of two turns of one history the later found all that the earlier left
+abbrev pub LaterFindsMore : Type 0
+LaterFindsMore = (turns : List Turn) (i j : ℕ) (t u : Turn) → AreOfOneHistory turns
+    → get_elem? turns i ≡ some t → get_elem? turns j ≡ some u → t.ticket < u.ticket
+    → IsPrefix t.left u.found
 
 -- each position is below the number of entries
 abbrev pub PositionsStand : Type 0

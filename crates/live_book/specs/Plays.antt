@@ -4,9 +4,10 @@ use mathlib.Core.List.{IsPrefix}
 use Rattle.atomic_table.specs.Table.{Step, rest}
 use Rattle.live_journal.specs.declared.entry.Entry.{Entry}
 use Rattle.live_journal.specs.Journals.{JournalState, journal}
-use Rattle.live_book.specs.declared.rule.Knowledge.{Knowledge}
+use Rattle.live_book.specs.Histories.{AreOfOneHistory}
 use Rattle.live_book.specs.Rule.{SeatState, AllBegin}
-use Rattle.live_book.specs.Views.{waiting_view, in_turn_view, seeing_view, committed_view, passed_view, told_view, ticket_in, times}
+use Rattle.live_book.specs.Views.{waiting_view, in_turn_view, seeing_view, committed_view}
+use Rattle.live_book.specs.Views.{passed_view, told_view, ticket_in, times}
 
 abbrev pub BookStep : Type 0
 BookStep = Step (Option JournalState)
@@ -39,9 +40,15 @@ SeePlay s before found now = now ≡ (seeing_view before.0, before.1)
 abbrev pub CommitPlay : List Entry → BookStep → SeatState → ℕ → SeatState → Type 0
 CommitPlay entries s before found now = now ≡ (committed_view before.0 entries, before.1)
 
--- pass: the slot goes home
-abbrev pub PassPlay : BookStep → SeatState → ℕ → SeatState → Type 0
-PassPlay s before found now = now ≡ (passed_view before.0, rest before.1)
+-- the turn is passed on: the slot goes home, and the caller's turns are of one history
+pub record PassesOn (before now : SeatState) : Type 0 where
+  pub seat : now ≡ (passed_view before.0, rest before.1)
+  pub history : AreOfOneHistory now.0.history
+
+-- pass: the word found is the ticket held
+pub record PassPlay (s : BookStep) (before : SeatState) (found : ℕ) (now : SeatState) : Type 0 where
+  pub served : found ≡ ticket_in before.0.stage
+  pub passes : PassesOn before now
 
 -- a load that tells what a caller knows of the rule
 pub record Tells (before now : SeatState) : Type 0 where
@@ -50,6 +57,7 @@ pub record Tells (before now : SeatState) : Type 0 where
   pub fits : before.0.turns < 2 ^ 64
   pub once : (position : ℕ) → times position before.0 ≤ 1
   pub heard : AllBegin before.0.heard before.0.front
+  pub history : AreOfOneHistory before.0.history
 
 abbrev pub TellPlay : BookStep → SeatState → ℕ → SeatState → Type 0
 TellPlay s before found now = Tells before now

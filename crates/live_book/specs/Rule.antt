@@ -1,5 +1,6 @@
 -- The rule of a shared book: what holds between any two atomic steps of any threads.
-use Rattle.std.specs.Prelude.{◌≡◌, ℕ, ◌+◌, ◌^◌, ◌<◌, ◌≤◌, ◌⊎◌, Bool, false, cond, Option, Some, List, [], ◌∷◌, length, sum_by}
+use Rattle.std.specs.Prelude.{◌≡◌, ℕ, ◌+◌, ◌^◌, ◌<◌, ◌≤◌, ◌⊎◌, Bool, false, nat_lt, cond}
+use Rattle.std.specs.Prelude.{Option, Some, List, [], ◌∷◌, length, sum_by}
 use mathlib.Core.Option.{some}
 use mathlib.Core.List.{IsPrefix}
 use lib.ListN.{get_elem?}
@@ -10,7 +11,9 @@ use Rattle.live_book.specs.declared.rule.Plan.{Plan}
 use Rattle.live_book.specs.declared.rule.Knowledge.{Knowledge}
 use Rattle.live_book.specs.declared.rule.Stage.{Stage}
 use Rattle.live_book.specs.declared.rule.Stage.TheVariants.{Resting, Waiting, InTurn, Seeing}
-use Rattle.live_book.specs.Views.{empty_view, has_ticket, holds, is_in_turn, times}
+use Rattle.live_book.specs.declared.rule.Turn.{Turn}
+use Rattle.live_book.specs.Histories.{AddsAtMostOne, AllStand, Leads}
+use Rattle.live_book.specs.Views.{empty_view, had, has_ticket, holds, is_in_turn, times}
 
 -- the table as plain data, and one seat of it; the words are the tickets drawn, the ticket served
 -- and the number of entries, and the slot has the book
@@ -37,14 +40,17 @@ abbrev pub IsOpened : Plan → Knowledge → Type 0
 IsOpened plan k = ((k.names ≡ plan.names) × (k.all ≡ plan.turns)) ⊎ (k ≡ empty_view)
 
 -- a ticket is at least the one served and below those drawn; in turn it is the one served, and the
--- found journal, and after the see the front, is the longest front
-abbrev pub IsStage : ℕ → ℕ → List Entry → List Entry → Stage → Type 0
-IsStage drawn served longest front Resting = Unit {0}
-IsStage drawn served longest front (Waiting ticket) = (served ≤ ticket) × (ticket < drawn)
-IsStage drawn served longest front (InTurn ticket found) =
-    (ticket ≡ served) × (ticket < drawn) × (found ≡ longest)
-IsStage drawn served longest front (Seeing ticket) =
-    (ticket ≡ served) × (ticket < drawn) × (front ≡ longest)
+-- journal that it found is the one that the last turn left; that, and after the see the front, is
+-- the longest front
+abbrev pub IsStage : ℕ → ℕ → List Entry → List Entry → List Entry → Stage → Type 0
+IsStage drawn served settled longest front Resting = Unit {0}
+IsStage drawn served settled longest front (Waiting ticket) =
+    (served ≤ ticket) × (ticket < drawn)
+IsStage drawn served settled longest front (InTurn ticket found) =
+    (ticket ≡ served) × (ticket < drawn) × (found ≡ settled) × (found ≡ longest)
+IsStage drawn served settled longest front (Seeing ticket found) =
+    (ticket ≡ served) × (ticket < drawn) × (found ≡ settled) × (front ≡ longest)
+    × AddsAtMostOne found front
 
 -- some caller has this front
 pub record IsFront (callers : List Knowledge) (longest : List Entry) : Type 0 where
@@ -58,9 +64,19 @@ abbrev pub AllBegin : List (List Entry) → List Entry → Type 0
 AllBegin [] longest = Unit {0}
 AllBegin (front ∷ fronts) longest = IsPrefix front longest × AllBegin fronts longest
 
+-- the one history of all turns that were served and passed on: it leads from an empty journal to
+-- the one that the last of them left, and each of them stands once among those of the callers
+pub record HasHistory (served : ℕ) (settled : List Entry) (callers : List Knowledge) : Type 0 where
+  pub history : List Turn
+  pub leads : Leads 0 [] history settled
+  pub count : length history ≡ served
+  pub stand : Each (λ k. AllStand history k.history) callers
+  pub once : (ticket : ℕ) → total (had ticket) callers ≡ cond (nat_lt ticket served) 1 0
+
 pub record IsLive (plan : Plan) (s : TableState) : Type 0 where
   pub drawn : ℕ
   pub served : ℕ
+  pub settled : List Entry
   pub longest : List Entry
   pub words : s.words ≡ drawn ∷ served ∷ length longest ∷ []
   -- the turns that callers have left and the tickets drawn are the turns at opening
@@ -69,10 +85,13 @@ pub record IsLive (plan : Plan) (s : TableState) : Type 0 where
   pub opened : Each (IsOpened plan) s.views
   -- each ticket that was served was passed on once
   pub passes : total (λ k. k.passes) s.views ≡ served
+  pub history : HasHistory served settled s.views
+  -- where no view is in its turn, the longest front is what the last turn left
+  pub quiet : Each (λ k. is_in_turn k.stage ≡ false) s.views → settled ≡ longest
   -- the tickets held are different, and as many as were drawn and not served
   pub differ : (ticket : ℕ) → callers_with (λ k. holds ticket k.stage) s.views ≤ 1
   pub held : served + callers_with (λ k. has_ticket k.stage) s.views ≡ drawn
-  pub stages : Each (λ k. IsStage drawn served longest k.front k.stage) s.views
+  pub stages : Each (λ k. IsStage drawn served settled longest k.front k.stage) s.views
   -- each front, and each that a caller has heard of, begins the longest
   pub fronts : Each (λ k. IsPrefix k.front longest) s.views
   pub heard : Each (λ k. AllBegin k.heard longest) s.views

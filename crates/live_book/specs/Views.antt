@@ -1,10 +1,13 @@
 -- What a caller knows, and what each kind of step makes of it.
-use Rattle.std.specs.Prelude.{◌≡◌, ℕ, ◌+◌, ◌-◌, Bool, true, false, ◌==◌, nat_lt, if◌then◌else◌, List, [], ◌∷◌, ◌++◌, length, count_by}
+use Rattle.std.specs.Prelude.{ℕ, ◌+◌, ◌-◌, Bool, true, false, ◌==◌, nat_lt, if◌then◌else◌}
+use Rattle.std.specs.Prelude.{List, [], ◌∷◌, ◌++◌, length, count_by}
 use Rattle.live_journal.specs.declared.entry.Entry.{Entry}
 use Rattle.live_book.specs.declared.rule.Plan.{Plan}
 use Rattle.live_book.specs.declared.rule.Knowledge.{Knowledge}
 use Rattle.live_book.specs.declared.rule.Stage.{Stage}
 use Rattle.live_book.specs.declared.rule.Stage.TheVariants.{Resting, Waiting, InTurn, Seeing}
+use Rattle.live_book.specs.declared.rule.Turn.{Turn}
+use Rattle.live_book.specs.Histories.{turn, turns_with}
 
 -- the caller of a new book: it has all turns
 abbrev pub first_view : Plan → Knowledge
@@ -15,6 +18,7 @@ first_view plan = record {
   front = [];
   positions = [];
   passes = 0;
+  history = [];
   stage = Resting;
   heard = [];
 }
@@ -28,35 +32,39 @@ abbrev pub holds : ℕ → Stage → Bool
 holds n Resting = false
 holds n (Waiting ticket) = ticket == n
 holds n (InTurn ticket found) = ticket == n
-holds n (Seeing ticket) = ticket == n
+holds n (Seeing ticket found) = ticket == n
 
 -- this stage holds a ticket
 abbrev pub has_ticket : Stage → Bool
 has_ticket Resting = false
 has_ticket (Waiting ticket) = true
 has_ticket (InTurn ticket found) = true
-has_ticket (Seeing ticket) = true
+has_ticket (Seeing ticket found) = true
 
 -- the turn has come
 abbrev pub is_in_turn : Stage → Bool
 is_in_turn Resting = false
 is_in_turn (Waiting ticket) = false
 is_in_turn (InTurn ticket found) = true
-is_in_turn (Seeing ticket) = true
+is_in_turn (Seeing ticket found) = true
 
 -- the ticket that a stage holds, or 0
 abbrev pub ticket_in : Stage → ℕ
 ticket_in Resting = 0
 ticket_in (Waiting ticket) = ticket
 ticket_in (InTurn ticket found) = ticket
-ticket_in (Seeing ticket) = ticket
+ticket_in (Seeing ticket found) = ticket
 
 -- the journal of the book that was found, where the turn has come
 abbrev pub found_in : Stage → List Entry
 found_in Resting = []
 found_in (Waiting ticket) = []
 found_in (InTurn ticket found) = found
-found_in (Seeing ticket) = []
+found_in (Seeing ticket found) = found
+
+-- how many of the caller's turns had the ticket
+abbrev pub had : ℕ → Knowledge → ℕ
+had ticket k = turns_with ticket k.history
 
 -- how often the position stands among the caller's
 abbrev pub times : ℕ → Knowledge → ℕ
@@ -73,16 +81,27 @@ in_turn_view k found = record k { stage = InTurn (ticket_in k.stage) found }
 
 -- see: the front is the found journal
 abbrev pub seeing_view : Knowledge → Knowledge
-seeing_view k = record k { front = found_in k.stage; stage = Seeing (ticket_in k.stage) }
+seeing_view k = record k {
+  front = found_in k.stage;
+  stage = Seeing (ticket_in k.stage) (found_in k.stage);
+}
 
 -- commit: one more entry stands at the end of the front, by the caller
 abbrev pub committed_view : Knowledge → List Entry → Knowledge
 committed_view k entries =
     record k { front = entries; positions = k.positions ++ length k.front ∷ [] }
 
+-- the turn that a stage is in, which leaves this journal
+abbrev pub turn_in : Stage → List Entry → Turn
+turn_in stage left = turn (ticket_in stage) (found_in stage) left
+
 -- pass: the ticket is gone, and one turn more was passed on
 abbrev pub passed_view : Knowledge → Knowledge
-passed_view k = record k { stage = Resting; passes = k.passes + 1 }
+passed_view k = record k {
+  stage = Resting;
+  passes = k.passes + 1;
+  history = k.history ++ turn_in k.stage k.front ∷ [];
+}
 
 -- split: so many turns less
 abbrev pub left_view : ℕ → Knowledge → Knowledge
@@ -97,6 +116,7 @@ new_view turns k = record {
   front = k.front;
   positions = [];
   passes = 0;
+  history = [];
   stage = Resting;
   heard = [];
 }
@@ -105,13 +125,14 @@ new_view turns k = record {
 abbrev pub longer : List Entry → List Entry → List Entry
 longer front other = if nat_lt (length front) (length other) then other else front
 
--- join: turns and passes add up, the positions follow, and the front is the longer one
+-- join: turns and passes add up, positions and histories follow, and the front is the longer one
 abbrev pub joined_view : Knowledge → Knowledge → Knowledge
 joined_view k l = record k {
   turns = k.turns + l.turns;
   front = longer k.front l.front;
   positions = k.positions ++ l.positions;
   passes = k.passes + l.passes;
+  history = k.history ++ l.history;
   heard = k.front ∷ l.front ∷ [];
 }
 

@@ -2,8 +2,9 @@ use crate::single_steps::BookSeat;
 use std::marker::Model;
 
 /// One who may use a shared book, from one thread at a time. Contracts see of which book it is, the
-/// calls that it may still make, the journal as far as it has seen it, and the positions of its own
-/// entries. Dropping a caller does not return its turns.
+/// calls that it may still make, the journal as far as it has seen it, the positions of its own
+/// entries, and its turns so far. A caller that is dropped keeps its turns out: nobody can make
+/// those calls.
 #[derive(Drop)]
 pub struct Caller {
     pub(crate) seat: BookSeat,

@@ -8,9 +8,9 @@
 //! threads.
 //!
 //! A caller's front is the journal as far as it has seen it. After each of the five calls that wait
-//! it begins with the front before, and what the caller is told is the replay of its front. That it
-//! is then the whole journal as the call left it follows from the kinds of step, which no call can
-//! pass over; no clause of a call says so.
+//! it is the whole journal as the call left it: the call's turn stands in the one history of the
+//! book, in which each turn found what the turn before it left (specs/Histories.antt), and what the
+//! caller is told is the replay of its front.
 //!
 //! What a program has to know:
 //!
@@ -29,6 +29,8 @@ mod live_book;
 mod plays;
 mod rolling;
 mod rule;
+#[cfg(test)]
+mod service_tests;
 mod sharing;
 mod single_steps;
 #[cfg(test)]
@@ -40,4 +42,4 @@ mod turns;
 pub use callers::Caller;
 pub use live_book::LiveBook;
 pub use live_journal::{DeedFault, Entry, RollFault};
-pub use rule::{Knowledge, OneJournal, Plan, Stage};
+pub use rule::{Knowledge, OneJournal, Plan, Stage, Turn};

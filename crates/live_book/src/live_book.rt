@@ -9,7 +9,8 @@ use std::alloc::{AllocError, Global};
 use std::marker::Model;
 
 /// A book of days that callers on many threads share by reference. Contracts see which it is, and
-/// the numbers of names and turns at opening.
+/// the numbers of names and turns at opening. A thread that dies in its turn stops the others: no
+/// turn comes after it.
 #[derive(Drop)]
 pub struct LiveBook {
     pub(crate) table: Table<Option<JournaledBook>, Knowledge, Plan, OneJournal, Global>,

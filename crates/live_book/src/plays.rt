@@ -1,7 +1,8 @@
 //! The kinds of atomic step: what each makes of the seat that makes it.
 ghost use Rattle.std.specs.Prelude.{ℕ, List, []};
 ghost use Rattle.live_journal.specs.declared.entry.Entry.{Entry};
-ghost use Rattle.live_book.specs.Plays.{CommitPlay, PassPlay, SeePlay, TellPlay, TicketPlay, WatchPlay};
+ghost use Rattle.live_book.specs.Plays.{CommitPlay, PassPlay, SeePlay};
+ghost use Rattle.live_book.specs.Plays.{TellPlay, TicketPlay, WatchPlay};
 ghost use Rattle.live_book.specs.Views.{empty_view, joined_view, left_view, new_view};
 
 use crate::rule::Knowledge;

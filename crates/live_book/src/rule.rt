@@ -24,10 +24,21 @@ pub enum Stage {
         ticket: u64,
         found: LinkedList<Entry>,
     },
-    /// In its turn it has seen the whole journal.
+    /// In its turn it has seen the whole journal, which was this when its turn came.
     Seeing {
         ticket: u64,
+        found: LinkedList<Entry>,
     },
+}
+
+/// A turn that was passed on. No value of it is made.
+pub struct Turn {
+    /// The ticket that was served.
+    pub ticket: u64,
+    /// The whole journal when the turn came.
+    pub found: LinkedList<Entry>,
+    /// The whole journal when the turn was passed on.
+    pub left: LinkedList<Entry>,
 }
 
 /// What a caller has left, did and knows. No value of it is made.
@@ -44,14 +55,16 @@ pub struct Knowledge {
     pub positions: LinkedList<u64>,
     /// How many turns it had and passed on.
     pub passes: u64,
+    /// These turns, in the order of its calls.
+    pub history: LinkedList<Turn>,
     /// How far it is with a turn.
     pub stage: Stage,
     /// Fronts of callers that were joined, until it has told that they begin its own.
     pub heard: LinkedList<LinkedList<Entry>>,
 }
 
-/// The rule of a shared book: turns, tickets, fronts, positions and the place of the book fit
-/// together between any two atomic steps of any threads.
+/// The rule of a shared book: turns, tickets, fronts, positions, histories and the place of the
+/// book fit together between any two atomic steps of any threads.
 pub struct OneJournal;
 
 impl TableRule<Option<JournaledBook>, Knowledge, Plan> for OneJournal {

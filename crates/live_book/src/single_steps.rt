@@ -1,12 +1,13 @@
 //! The steps of a seat, one function for each kind. Each keeps the rule.
 ghost use Rattle.std.specs.Prelude.{◌≡◌, ◌+◌, ◌^◌, ◌<◌, ◌≤◌, [], ◌∷◌, length, MatchBool, Some};
 ghost use mathlib.Core.List.{IsPrefix};
-ghost use Rattle.live_book.specs.declared.rule.Stage.TheVariants.{Resting, Waiting, InTurn, Seeing};
+ghost use Rattle.live_book.specs.declared.rule.Stage.TheVariants.{Resting, Waiting, InTurn};
+ghost use Rattle.live_book.specs.Histories.{AreOfOneHistory};
 ghost use Rattle.live_book.specs.Plays.{TakesBook, Tells};
 ghost use Rattle.live_book.specs.Views.{committed_view, joined_view, left_view, new_view};
 ghost use Rattle.live_book.specs.Views.{passed_view, seeing_view, waiting_view};
 ghost use Rattle.live_book.specs.Views.{found_in, ticket_in};
-ghost use Rattle.live_book.specs.inner.Seats.{IsSeated, HasHeard};
+ghost use Rattle.live_book.specs.inner.Seats.{IsSeated, IsSeeing, HasHeard};
 
 use crate::plays::{Commit, Counted, DrawTicket, JoinUp, Left, Pass, See, SplitOff, Tell, Watch};
 use crate::rule::{Knowledge, OneJournal, Plan};
@@ -51,10 +52,11 @@ pub(crate) fn see(shared: &SharedBook, seat: &mut BookSeat)
     shared.load::<See>(seat, 2);
 }
 
-/// Counts one entry more: the last of the book that the seat has taken.
+/// Counts one entry more: the last of the book that the seat has taken. A turn counts at most one.
 pub(crate) fn commit<L: Left>(shared: &SharedBook, seat: &mut BookSeat, book: &JournaledBook)
     requires table { IsSeated seat.old.table_id shared.now.table_id shared.now.key seat.old.me.0 }
-    requires turn { seat.old.me.0.stage ≡ Seeing (ticket_in seat.old.me.0.stage) }
+    requires turn { IsSeeing seat.old.me.0.stage }
+    requires fresh { found_in seat.old.me.0.stage ≡ seat.old.me.0.front }
     requires left { L.entries ≡ book.now.entries }
     requires more { IsPrefix seat.old.me.0.front book.now.entries }
     requires one { length book.now.entries ≡ length seat.old.me.0.front + 1 }
@@ -65,14 +67,15 @@ pub(crate) fn commit<L: Left>(shared: &SharedBook, seat: &mut BookSeat, book: &J
     shared.fetch_add::<Commit<L>>(seat, 2, 1);
 }
 
-/// Passes the turn on, and the slot goes home.
+/// Passes the turn on, and the slot goes home. The turn stands in the one history.
 pub(crate) fn pass(shared: &SharedBook, seat: &mut BookSeat)
     requires table { IsSeated seat.old.table_id shared.now.table_id shared.now.key seat.old.me.0 }
-    requires turn { seat.old.me.0.stage ≡ Seeing (ticket_in seat.old.me.0.stage) }
+    requires turn { IsSeeing seat.old.me.0.stage }
     requires slot { seat.old.me.1
         ≡ (0, Some (record { names = seat.old.me.0.names; entries = seat.old.me.0.front })) ∷ [] }
     ensures table { seat.new.table_id ≡ seat.old.table_id }
     ensures seat { seat.new.me ≡ (passed_view seat.old.me.0, []) }
+    ensures history { AreOfOneHistory seat.new.me.0.history }
 {
     shared.fetch_add::<Pass>(seat, 1, 1);
 }

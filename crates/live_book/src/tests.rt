@@ -14,6 +14,8 @@ use trace_types::{NamedSegment, NamedSegmentList, NamedTrace, Text};
 pub(crate) const FULL: u64 = u64::MAX;
 /// The last word of two names when a touching trace is kept.
 pub(crate) const TOUCHED: u64 = 0xffff_ffff_ffff_fff5;
+/// The last word of two names when a swapped trace is kept.
+pub(crate) const SWAPPED: u64 = 0xffff_ffff_ffff_fff6;
 
 /// Makes a segment that is alone in its task and has no element.
 fn segment(name: u32, start: i64, end: i64) -> NamedSegment
@@ -80,7 +82,8 @@ pub(crate) fn sheet_of(alloc: Global, day: u32, touching: bool) -> Result<DayShe
     DaySheet::plain(alloc, traces, 2)
 }
 
-/// Rolls a sheet of one trace. Gives nothing where no turn or no memory is left, as the calls below.
+/// Rolls a sheet of one trace. Gives nothing where no turn or no memory is left, as do the calls
+/// below.
 pub(crate) fn roll<R: Wait>(
     rt: &R,
     alloc: Global,
@@ -256,6 +259,33 @@ fn a_rolled_day_is_dropped_by_another_caller(rt: HostRuntime) -> Result<(), Fail
 }
 
 #[test]
+fn only_the_newest_day_is_kept(rt: HostRuntime) -> Result<(), Fail> {
+    let alloc = rt.alloc();
+    let (book, mut caller) = LiveBook::open(alloc, 2, 5)?;
+    let Some(Ok(0)) = roll(&rt, alloc, &book, &mut caller, 3, true) else {
+        return Err(Fail::from("day 3 was not rolled"));
+    };
+    let Some(Ok(1)) = roll(&rt, alloc, &book, &mut caller, 5, false) else {
+        return Err(Fail::from("day 5 was not rolled"));
+    };
+    let Some(Ok(1)) = keep(&rt, &book, &mut caller, 1) else {
+        return Err(Fail::from("not one trace was dropped"));
+    };
+    let Some(words) = ask(&rt, alloc, &book, &mut caller) else {
+        return Err(Fail::from("not asked"));
+    };
+    assert_eq!(rt; words.get(126).copied(), Some(SWAPPED));
+    let Some(entries) = read(&rt, &book, &mut caller, 1) else {
+        return Err(Fail::from("not read"));
+    };
+    assert_eq!(rt; entries.len(), 2);
+    assert_eq!(rt; row_of(&entries[0]), ('r', 5, 1));
+    assert_eq!(rt; row_of(&entries[1]), ('k', 1, 0));
+    assert_eq!(rt; caller.turns(), 0);
+    Ok(())
+}
+
+#[test]
 fn a_65th_day_is_told_and_its_sheet_comes_back(rt: HostRuntime) -> Result<(), Fail> {
     let alloc = rt.alloc();
     let (book, mut caller) = LiveBook::open(alloc, 2, 100)?;
@@ -288,6 +318,10 @@ fn an_entry_past_the_last_is_told(rt: HostRuntime) -> Result<(), Fail> {
     assert!(rt; keep_often(&rt, &book, &mut caller));
     let Some(Err(DeedFault::JournalFull { entries })) = drop_day(&rt, &book, &mut caller, 7) else {
         return Err(Fail::from("dropped"));
+    };
+    assert_eq!(rt; entries, 10_000);
+    let Some(Err(DeedFault::JournalFull { entries })) = keep(&rt, &book, &mut caller, 0) else {
+        return Err(Fail::from("kept"));
     };
     assert_eq!(rt; entries, 10_000);
     let Some(Err(RollFault::JournalFull { sheet, entries })) = roll(

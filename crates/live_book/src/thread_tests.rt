@@ -2,7 +2,7 @@ ghost use Rattle.std.specs.Prelude.{◌≡◌, ◌≤◌};
 ghost use Rattle.std.specs.Thread.{IsSync};
 ghost use Rattle.live_book.specs.Callers.{IsOf};
 
-use crate::tests::{FULL, TOUCHED, ask, drop_day, keep, read, roll, row_of, sheet_of};
+use crate::tests::{FULL, SWAPPED, TOUCHED, ask, drop_day, keep, read, roll, row_of, sheet_of};
 use crate::{Caller, Entry, LiveBook};
 use live_journal::JournaledBook;
 use std::alloc::Global;
@@ -12,8 +12,6 @@ use std::test::Fail;
 use std::thread::{self, Threads};
 use trace_types::NamedTrace;
 
-/// The last word of two names when a swapped trace is kept.
-const SWAPPED: u64 = 0xffff_ffff_ffff_fff6;
 /// The last word of two names when a touching and a swapped trace are kept.
 const BOTH: u64 = 0xffff_ffff_ffff_fff4;
 
@@ -89,8 +87,8 @@ fn two_threads_see_what_both_rolled(rt: HostRuntime) -> Result<(), Fail> {
     Ok(())
 }
 
-/// Makes so many calls, drawn from a seed: it rolls one of six days, drops one, keeps the newest, or
-/// asks.
+/// Makes so many calls, drawn from a seed: it rolls one of six days, drops one, keeps the newest,
+/// or asks.
 fn work<R: Wait>(rt: &R, alloc: Global, book: &LiveBook, mut caller: Caller, seed: u32) -> Caller
     requires names { book.now.names ≡ 2 }
     requires of { IsOf book.now caller }

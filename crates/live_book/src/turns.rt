@@ -2,10 +2,11 @@
 ghost use Rattle.std.specs.Prelude.{◌≡◌, ◌<◌, [], ◌∷◌, None};
 ghost use Rattle.live_journal.specs.Journals.{journal};
 ghost use Rattle.live_journal.specs.Replays.{IsJournal};
-ghost use Rattle.live_book.specs.declared.rule.Stage.TheVariants.{Resting, Seeing, Waiting};
+ghost use Rattle.live_book.specs.declared.rule.Stage.TheVariants.{Resting, Waiting};
+ghost use Rattle.live_book.specs.Histories.{AreOfOneHistory};
 ghost use Rattle.live_book.specs.Plays.{TakesBook};
-ghost use Rattle.live_book.specs.Views.{committed_view, passed_view, ticket_in};
-ghost use Rattle.live_book.specs.inner.Seats.{IsSeated};
+ghost use Rattle.live_book.specs.Views.{committed_view, found_in, passed_view};
+ghost use Rattle.live_book.specs.inner.Seats.{IsSeated, IsSeeing};
 ghost use Rattle.live_book.specs.inner.Turns.{IsInTurn, IsOneMore};
 
 use crate::single_steps::{BookSeat, SharedBook, commit, draw_ticket, pass, see, watch};
@@ -53,11 +54,12 @@ pub(crate) fn begin_turn<R: Wait>(rt: &R, shared: &SharedBook, seat: &mut BookSe
 /// turn on.
 pub(crate) fn end_turn(shared: &SharedBook, seat: &mut BookSeat, book: JournaledBook)
     requires table { IsSeated seat.old.table_id shared.now.table_id shared.now.key seat.old.me.0 }
-    requires turn { seat.old.me.0.stage ≡ Seeing (ticket_in seat.old.me.0.stage) }
+    requires turn { IsSeeing seat.old.me.0.stage }
     requires slot { seat.old.me.1 ≡ (0, None) ∷ [] }
     requires book { book ≡ journal seat.old.me.0.names seat.old.me.0.front }
     ensures table { seat.new.table_id ≡ seat.old.table_id }
     ensures seat { seat.new.me ≡ (passed_view seat.old.me.0, []) }
+    ensures history { AreOfOneHistory seat.new.me.0.history }
 {
     shared.exchange(seat, 0, Some(book));
     pass(shared, seat);
@@ -66,13 +68,15 @@ pub(crate) fn end_turn(shared: &SharedBook, seat: &mut BookSeat, book: Journaled
 /// Counts the entry that the book has more, brings the book back and passes the turn on.
 pub(crate) fn commit_turn(shared: &SharedBook, seat: &mut BookSeat, book: JournaledBook)
     requires table { IsSeated seat.old.table_id shared.now.table_id shared.now.key seat.old.me.0 }
-    requires turn { seat.old.me.0.stage ≡ Seeing (ticket_in seat.old.me.0.stage) }
+    requires turn { IsSeeing seat.old.me.0.stage }
     requires slot { seat.old.me.1 ≡ (0, None) ∷ [] }
+    requires fresh { found_in seat.old.me.0.stage ≡ seat.old.me.0.front }
     requires names { book.names ≡ seat.old.me.0.names }
     requires one { IsOneMore seat.old.me.0.front book.entries }
     requires journal { IsJournal book.entries }
     ensures table { seat.new.table_id ≡ seat.old.table_id }
     ensures seat { seat.new.me ≡ (passed_view (committed_view seat.old.me.0 book.entries), []) }
+    ensures history { AreOfOneHistory seat.new.me.0.history }
 {
     commit::<Brand>(shared, seat, &book);
     end_turn(shared, seat, book);

@@ -1,18 +1,14 @@
 -- A book and its journal.
-use Rattle.std.proofs.Common.{◌≡◌, ℕ, zero, suc, ◌+◌, ◌-◌, ◌<◌, Bool, true, false, ◌==◌, List, [], ◌∷◌, ◌++◌, length, get_or, take, refl, sym, ap, ◌∙◌, subst, arith, ◌||◌}
+use Rattle.std.proofs.Common.{◌≡◌, ℕ, zero, suc, ◌+◌, ◌<◌, true, false, ◌==◌, List, [], ◌∷◌, ◌++◌, length, get_or, take, sym, ap, ◌∙◌, subst}
 use Rattle.std.specs.Prelude.{Option, Some, None, slice_get}
 use Rattle.std.specs.Option.{option_map}
 use Rattle.std.proofs.lemmas.Bool.{eq-eqb, or_from}
 use Rattle.std.proofs.lemmas.List.Folds.{list_any_at, list_any_more}
-use Rattle.pipeline_tests.specs.DaySheets.{SheetState}
-use Rattle.day_partitions.specs.Books.{BookState, KeptDay, all_traces, has_day}
-use Rattle.day_partitions.specs.Faults.{IsFault}
+use Rattle.day_partitions.specs.Books.{BookState, KeptDay, has_day}
 use Rattle.day_partitions.specs.Kept.{days_after}
-use Rattle.day_partitions.specs.declared.book_fault.BookFault.{BookFault}
-use Rattle.day_partitions.specs.declared.book_fault.BookFault.TheVariants.{Memory, TooManyDays}
 use Rattle.live_journal.specs.declared.entry.Entry.{Entry}
 use Rattle.live_journal.specs.Replays.{HasTraceCount, IsJournal, command_of, replay}
-use Rattle.live_journal.specs.inner.Fields.{IsReplay, sheet_in}
+use Rattle.live_journal.specs.inner.Fields.{IsReplay}
 use Rattle.live_journal.proofs.ReplayLemmas.{journal_more, replay_more}
 
 -- a book that did what the entry says is the replay of one entry more
@@ -21,10 +17,6 @@ grown book new es fs e h did is few counted = record {
   days = did ∙ ap (λ (ks : List KeptDay). days_after ks (command_of e)) h.days ∙ sym (replay_more es e) ∙ ap replay (sym is);
   journal = subst IsJournal (sym is) (journal_more es e h.journal few counted);
 }
-
-pub same_sheet : (b : BookState) (day : ℕ) (sheet : SheetState) (f : BookFault) → IsFault b day sheet f → sheet_in f ≡ sheet
-same_sheet b day sheet (Memory s) h = h.0
-same_sheet b day sheet (TooManyDays s days) h = h.0
 
 -- ---- the day at a place
 day_is : (ks : List KeptDay) (n x : ℕ) (d : KeptDay) → option_map (λ (k : KeptDay). k.day) (slice_get ks n) ≡ Some x → (get_or ks n d).day ≡ x

@@ -4,9 +4,11 @@ use Rattle.day_partitions.specs.Books.{KeptDay, has_day}
 use Rattle.pipeline_tests.specs.DaySheets.{SheetState}
 use Rattle.live_journal.specs.declared.entry.Entry.{Entry}
 use Rattle.live_journal.specs.declared.deed_fault.DeedFault.{DeedFault}
-use Rattle.live_journal.specs.declared.deed_fault.DeedFault.TheVariants.{Memory as DeedMemory, JournalFull as DeedJournalFull}
+use Rattle.live_journal.specs.declared.deed_fault.DeedFault.TheVariants.{Memory as DeedMemory}
+use Rattle.live_journal.specs.declared.deed_fault.DeedFault.TheVariants.{JournalFull as DeedJournalFull}
 use Rattle.live_journal.specs.declared.roll_fault.RollFault.{RollFault}
-use Rattle.live_journal.specs.declared.roll_fault.RollFault.TheVariants.{Memory, JournalFull, TooManyDays}
+use Rattle.live_journal.specs.declared.roll_fault.RollFault.TheVariants.{Memory, JournalFull}
+use Rattle.live_journal.specs.declared.roll_fault.RollFault.TheVariants.{TooManyDays}
 use Rattle.live_journal.specs.Replays.{replay}
 
 -- 64 days are kept, and this is none of them

@@ -1,5 +1,5 @@
 -- What a journal makes of a book of days.
-use Rattle.std.specs.Prelude.{◌≡◌, ℕ, ◌-◌, ◌<◌, ◌≤◌, List, [], ◌∷◌, ◌++◌, length, All}
+use Rattle.std.specs.Prelude.{ℕ, ◌-◌, ◌<◌, ◌≤◌, List, [], ◌∷◌, ◌++◌, length, All}
 use Rattle.day_partitions.specs.Books.{KeptDay, all_traces, traces_of}
 use Rattle.day_partitions.specs.Kept.{DayCommand, Add, Drop, Keep, AreKept, days_after}
 use Rattle.live_journal.specs.declared.entry.Entry.{Entry}

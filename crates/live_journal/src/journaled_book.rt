@@ -1,6 +1,5 @@
 ghost use Rattle.std.specs.Prelude.{◌≡◌, ◌<◌, ◌≤◌, length, vec_capacity, vec_len, IfErr, OnOk};
 ghost use Rattle.live_journal.specs.Faults.{IsDeedFault};
-ghost use Rattle.live_journal.specs.inner.Fields.{sheet_in};
 
 use crate::copying::{copy_entries, copy_traces};
 use crate::finding::is_full;
@@ -28,16 +27,6 @@ impl Model for JournaledBook {
     ghost view = { λ j. record { names = j.book.names; entries = j.entries.items } };
 
     ghost invariant = { λ j. IsReplay j.book j.entries.items };
-}
-
-/// Gives back the sheet of a fault.
-fn sheet_of(fault: BookFault) -> DaySheet
-    ensures { result ≡ sheet_in fault }
-{
-    match fault {
-        BookFault::Memory { sheet } => sheet,
-        BookFault::TooManyDays { sheet, .. } => sheet,
-    }
 }
 
 /// Makes room for one entry more.
@@ -135,13 +124,15 @@ impl JournaledBook {
         let Ok(()) = self.entries.reserve(1) else {
             return Err(RollFault::Memory { sheet });
         };
-        if let Err(fault) = self.book.add(day, sheet) {
-            return Err(RollFault::Memory {
-                sheet: sheet_of(fault),
-            });
+        match self.book.add(day, sheet) {
+            Ok(()) => {
+                self.entries.push_reserved(Entry::Rolled { day, traces });
+                Ok(entries)
+            }
+            Err(BookFault::Memory { sheet }) => Err(RollFault::Memory { sheet }),
+            // The book is not full for this day, as was tested above.
+            Err(BookFault::TooManyDays { .. }) => unreachable!(),
         }
-        self.entries.push_reserved(Entry::Rolled { day, traces });
-        Ok(entries)
     }
 
     /// Drops a day with all its traces, adds an entry, and tells how many traces there were. After

@@ -1,11 +1,12 @@
 -- What a table, a caller and a seat keep between calls.
-use Rattle.std.specs.Prelude.{◌≡◌, ℕ, ◌<◌, ◌≤◌, [], ◌∷◌, List, length, Option}
+use Rattle.std.specs.Prelude.{◌≡◌, ℕ, ◌≤◌, [], ◌∷◌, List, length}
 use Rattle.live_journal.specs.declared.entry.Entry.{Entry}
 use Rattle.atomic_table.specs.Seated.{TableId}
-use Rattle.live_journal.specs.Journals.{JournalState}
 use Rattle.live_book.specs.declared.rule.Plan.{Plan}
 use Rattle.live_book.specs.declared.rule.Knowledge.{Knowledge}
-use Rattle.live_book.specs.declared.rule.Stage.TheVariants.{Resting}
+use Rattle.live_book.specs.declared.rule.Stage.{Stage}
+use Rattle.live_book.specs.declared.rule.Stage.TheVariants.{Resting, Seeing}
+use Rattle.live_book.specs.Views.{found_in, ticket_in}
 use Rattle.live_book.specs.Rule.{SeatState}
 
 -- the table has three words and one slot
@@ -33,6 +34,10 @@ pub record IsCaller (turns : ℕ) (me : SeatState) : Type 0 where
   pub rests : me.0.stage ≡ Resting
   pub told : me.0.heard ≡ []
   pub no_slot : me.1 ≡ []
+
+-- the stage of a turn in which the whole journal was seen
+abbrev pub IsSeeing : Stage → Type 0
+IsSeeing stage = stage ≡ Seeing (ticket_in stage) (found_in stage)
 
 -- the fronts that the caller heard of are no longer than its own
 abbrev pub AreShort : List (List Entry) → ℕ → Type 0

@@ -10,7 +10,7 @@ use Rattle.live_book.specs.Rule.{SeatState}
 -- a caller that knew this before, in its turn, after it has seen this journal
 abbrev pub turn_view : Knowledge → ℕ → List Entry → Knowledge
 turn_view k ticket found =
-    record k { turns = k.turns - 1; front = found; stage = Seeing ticket }
+    record k { turns = k.turns - 1; front = found; stage = Seeing ticket found }
 
 -- the caller is in its turn and has seen this journal; it has taken the book out of the slot
 pub record IsInTurn (before : Knowledge) (now : SeatState) (found : List Entry) : Type 0 where

@@ -1,16 +1,8 @@
 -- What a book with a journal keeps between calls.
 use Rattle.std.specs.Prelude.{◌≡◌, List}
 use Rattle.day_partitions.specs.Books.{BookState}
-use Rattle.day_partitions.specs.declared.book_fault.BookFault.{BookFault}
-use Rattle.day_partitions.specs.declared.book_fault.BookFault.TheVariants.{Memory, TooManyDays}
-use Rattle.pipeline_tests.specs.DaySheets.{SheetState}
 use Rattle.live_journal.specs.declared.entry.Entry.{Entry}
 use Rattle.live_journal.specs.Replays.{IsJournal, replay}
-
--- the sheet that a fault gives back
-abbrev pub sheet_in : BookFault → SheetState
-sheet_in (Memory sheet) = sheet
-sheet_in (TooManyDays sheet days) = sheet
 
 -- the book keeps the days of the replay of its journal
 pub record IsReplay (book : BookState) (entries : List Entry) : Type 0 where

@@ -1,4 +1,4 @@
-use Rattle.std.proofs.Common.{◌≡◌, ℕ, ◌+◌, ◌%◌, ◌^◌, ◌<◌, List, sym, subst, arith}
+use Rattle.std.proofs.Common.{◌+◌, ◌%◌, ◌^◌, List, sym, subst, arith}
 use mathlib.Core.Option.{none}
 use Rattle.atomic_table.specs.Table.{Allows, step}
 use Rattle.live_journal.specs.declared.entry.Entry.{Entry}
@@ -13,5 +13,5 @@ fetch_add-requires g c = let t = c.requires.table in let seat = c.args.seat.now 
       t.here,
       (let words = t.shared.words in omega arith),
       subst (λ (es : List Entry). Allows (IsLive plan) slots seat.id seat.me 2 (λ n. (n + 1) % 2 ^ 64) (CommitPlay es (step slots 2 1 0 none) seat.me)) (sym c.requires.left)
-          (commit_allowed plan slots seat.id seat.me t.names t.all c.requires.turn entries c.requires.more c.requires.one c.requires.few),
+          (commit_allowed plan slots seat.id seat.me t.names t.all c.requires.turn c.requires.fresh entries c.requires.more c.requires.one c.requires.few),
     )

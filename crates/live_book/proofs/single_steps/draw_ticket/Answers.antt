@@ -1,4 +1,4 @@
-use Rattle.std.proofs.Common.{ℕ, ◌<◌, sym, subst, arith}
+use Rattle.std.proofs.Common.{arith}
 use Rattle.live_book.proofs.AllowLemmas.{draw_allowed}
 use Rattle.live_book.proofs.single_steps.draw_ticket.Goals as goal
 

@@ -1,4 +1,4 @@
-use Rattle.std.proofs.Common.{ℕ, ◌<◌, arith}
+use Rattle.std.proofs.Common.{arith}
 use Rattle.live_book.proofs.AllowLemmas.{join_allowed}
 use Rattle.live_book.proofs.single_steps.join_seats.Goals as goal
 

@@ -1,4 +1,4 @@
-use Rattle.std.proofs.Common.{ℕ, ◌<◌, arith}
+use Rattle.std.proofs.Common.{arith}
 use Rattle.live_book.proofs.AllowLemmas.{see_allowed}
 use Rattle.live_book.proofs.single_steps.see.Goals as goal
 

@@ -1,4 +1,4 @@
-use Rattle.std.proofs.Common.{ℕ, ◌<◌, ◌≤◌, sym, subst, arith}
+use Rattle.std.proofs.Common.{ℕ, ◌≤◌, sym, subst, arith}
 use Rattle.live_book.proofs.AllowLemmas.{split_allowed}
 use Rattle.live_book.proofs.single_steps.split_turns.Goals as goal
 

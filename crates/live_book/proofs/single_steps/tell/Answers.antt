@@ -1,4 +1,4 @@
-use Rattle.std.proofs.Common.{ℕ, ◌<◌, arith}
+use Rattle.std.proofs.Common.{arith}
 use Rattle.live_book.proofs.AllowLemmas.{tell_allowed}
 use Rattle.live_book.proofs.single_steps.tell.Goals as goal
 

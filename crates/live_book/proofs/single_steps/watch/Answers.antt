@@ -1,5 +1,4 @@
-use Rattle.std.proofs.Common.{ℕ, ◌<◌, ◌≡◌, ◌∙◌, ap, sym, subst, arith}
-use Rattle.live_book.specs.declared.rule.Stage.{Stage}
+use Rattle.std.proofs.Common.{ℕ, ◌≡◌, ◌∙◌, ap, sym, arith}
 use Rattle.live_book.specs.declared.rule.Stage.TheVariants.{Waiting}
 use Rattle.live_book.specs.Views.{ticket_in}
 use Rattle.live_book.proofs.AllowLemmas.{watch_allowed}

@@ -1,4 +1,4 @@
-use Rattle.std.proofs.Common.{◌≡◌, ◌==◌, false, take}
+use Rattle.std.proofs.Common.{◌≡◌, false, take}
 use Rattle.day_partitions.specs.Books.{has_day}
 use Rattle.live_journal.proofs.finding.is_kept.Given as goal
 

@@ -1,4 +1,4 @@
-use Rattle.std.proofs.Common.{◌∙◌, sym, refl, rules}
+use Rattle.std.proofs.Common.{◌∙◌, refl, rules}
 use Rattle.live_book.proofs.TurnLemmas.{takes_in}
 use Rattle.live_book.proofs.live_book.LiveBook.join.Goals as goal
 

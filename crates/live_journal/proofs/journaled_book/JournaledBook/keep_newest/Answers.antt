@@ -1,9 +1,8 @@
-use Rattle.std.proofs.Common.{◌≡◌, List, ◌∷◌, ◌++◌, [], length, ap, sym, refl, rules, ◌∙◌, arith}
+use Rattle.std.proofs.Common.{◌≡◌, List, ◌∷◌, ◌++◌, [], length, ap, refl, rules, ◌∙◌, arith}
 use Rattle.day_partitions.specs.Books.{BookState, KeptDay, all_traces}
 use Rattle.live_journal.specs.declared.entry.Entry.{Entry}
 use Rattle.live_journal.specs.declared.entry.Entry.TheVariants.{Kept}
 use Rattle.live_journal.specs.Replays.{replay}
-use Rattle.live_journal.specs.inner.Fields.{IsReplay}
 use Rattle.live_journal.proofs.BookLemmas.{grown}
 use Rattle.live_journal.proofs.journaled_book.JournaledBook.keep_newest.Goals as goal
 

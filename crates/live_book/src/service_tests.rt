@@ -1,0 +1,177 @@
+//! A service over one shared book: two threads record days and roll them, a third asks for the
+//! relations that survive and drops days. Whatever the order of their turns, the journal accounts
+//! for each trace.
+ghost use Rattle.std.specs.Prelude.{◌≡◌};
+ghost use Rattle.std.specs.Thread.{IsSync};
+ghost use Rattle.live_book.specs.Callers.{IsOf};
+
+use crate::tests::{FULL, TOUCHED, ask, drop_day, keep, read, roll, row_of};
+use crate::{Caller, Entry, LiveBook};
+use std::alloc::Global;
+use std::sync::Wait;
+use std::test::Fail;
+use std::thread::{self, Threads};
+
+/// Rolls one trace into each second of eight days, in order. Tells how many were rolled.
+fn record<R: Wait>(
+    rt: &R,
+    alloc: Global,
+    book: &LiveBook,
+    mut caller: Caller,
+    first: u32,
+) -> (Caller, u32)
+    requires names { book.now.names ≡ 2 }
+    requires of { IsOf book.now caller }
+    ensures { IsOf book.now result.0 }
+{
+    let mut rolled = 0u32;
+    'days: for place in 0..4u32 {
+        let day = first.wrapping_add(2 * place);
+        if let Some(Ok(_)) = roll(rt, alloc, book, &mut caller, day, true) {
+            rolled = rolled.wrapping_add(1);
+        }
+    }
+    (caller, rolled)
+}
+
+/// What a thread that asks and drops has found.
+#[derive(Clone, Copy)]
+struct Watched {
+    /// How many traces its drops had.
+    dropped: u32,
+    /// Whether each answer had all relations, or all but those that a rolled trace refutes.
+    sound: bool,
+}
+
+/// Asks and then drops a day, for each of eight days in order.
+fn watch<R: Wait>(rt: &R, alloc: Global, book: &LiveBook, mut caller: Caller) -> (Caller, Watched)
+    requires names { book.now.names ≡ 2 }
+    requires of { IsOf book.now caller }
+    ensures { IsOf book.now result.0 }
+{
+    let mut watched = Watched {
+        dropped: 0,
+        sound: true,
+    };
+    'days: for day in 0..8u32 {
+        if let Some(words) = ask(rt, alloc, book, &mut caller) {
+            let last = words.get(126).copied().unwrap_or(0);
+            watched.sound = watched.sound && (last == FULL || last == TOUCHED);
+        }
+        if let Some(Ok(dropped)) = drop_day(rt, book, &mut caller, day) {
+            watched.dropped = watched.dropped.wrapping_add(dropped);
+        }
+    }
+    (caller, watched)
+}
+
+/// Records the even and the odd days in two threads. Joins their callers, and tells how many traces
+/// were rolled.
+fn record_beside<R: Threads + Wait + Sync>(
+    rt: &R,
+    alloc: Global,
+    book: &LiveBook,
+    even: Caller,
+    odd: Caller,
+) -> (Caller, u32)
+    requires names { book.now.names ≡ 2 }
+    requires even { IsOf book.now even }
+    requires odd { IsOf book.now odd }
+    ensures { IsOf book.now result.0 }
+{
+    let ((mut even, first), (odd, second)) = thread::join(
+        rt,
+        move || -> (Caller, u32)
+            requires { IsSync R.row × IsOf book.now even × (book.now.names ≡ 2) }
+            ensures { IsOf book.entry.now result.0 }
+        { record(rt, alloc, book, even, 0) },
+        move || -> (Caller, u32)
+            requires { IsSync R.row × IsOf book.now odd × (book.now.names ≡ 2) }
+            ensures { IsOf book.entry.now result.0 }
+        { record(rt, alloc, book, odd, 1) },
+    );
+    book.join(&mut even, odd);
+    (even, first.wrapping_add(second))
+}
+
+/// Serves: two threads record days while a third asks and drops. Joins their callers, and tells how
+/// many traces were rolled and what the third found.
+fn serve<R: Threads + Wait + Sync>(
+    rt: &R,
+    alloc: Global,
+    book: &LiveBook,
+    even: Caller,
+    odd: Caller,
+    watcher: Caller,
+) -> (Caller, u32, Watched)
+    requires names { book.now.names ≡ 2 }
+    requires even { IsOf book.now even }
+    requires odd { IsOf book.now odd }
+    requires watcher { IsOf book.now watcher }
+    ensures { IsOf book.now result.0 }
+{
+    let ((mut caller, rolled), (watcher, watched)) = thread::join(
+        rt,
+        move || -> (Caller, u32)
+            requires { IsSync R.row × IsOf book.now even × IsOf book.now odd
+                × (book.now.names ≡ 2) }
+            ensures { IsOf book.entry.now result.0 }
+        { record_beside(rt, alloc, book, even, odd) },
+        move || -> (Caller, Watched)
+            requires { IsSync R.row × IsOf book.now watcher × (book.now.names ≡ 2) }
+            ensures { IsOf book.entry.now result.0 }
+        { watch(rt, alloc, book, watcher) },
+    );
+    book.join(&mut caller, watcher);
+    (caller, rolled, watched)
+}
+
+/// Tells whether the days of the entries of this kind rise, of those with this remainder by two.
+fn days_rise(entries: &[Entry], kind: char, remainder: u32) -> bool {
+    let mut next = 0u32;
+    for entry in entries {
+        let (letter, day, _) = row_of(entry);
+        if letter == kind && day % 2 == remainder {
+            if day < next {
+                return false;
+            }
+            next = day.wrapping_add(1);
+        }
+    }
+    true
+}
+
+#[test]
+fn a_service_accounts_for_each_trace(rt: HostRuntime) -> Result<(), Fail> {
+    let alloc = rt.alloc();
+    let (book, mut caller) = LiveBook::open(alloc, 2, 27)?;
+    let even = book.split(&mut caller, 4);
+    let odd = book.split(&mut caller, 4);
+    let watcher = book.split(&mut caller, 16);
+    let (others, rolled, watched) = serve(&rt, alloc, &book, even, odd, watcher);
+    book.join(&mut caller, others);
+    let Some(Ok(left)) = keep(&rt, &book, &mut caller, 0) else {
+        return Err(Fail::from("not kept"));
+    };
+    assert!(rt; watched.sound);
+    assert_eq!(rt; (rolled, watched.dropped.wrapping_add(left)), (8, 8));
+    let Some(words) = ask(&rt, alloc, &book, &mut caller) else {
+        return Err(Fail::from("not asked"));
+    };
+    assert!(rt; words.iter().all(|word| *word == FULL));
+    let Some(entries) = read(&rt, &book, &mut caller, 0) else {
+        return Err(Fail::from("not read"));
+    };
+    let kinds = |kind: char| -> usize {
+        entries
+            .iter()
+            .filter(|entry| row_of(entry).0 == kind)
+            .count()
+    };
+    assert_eq!(rt; (kinds('r'), kinds('d'), kinds('k')), (8, 8, 1));
+    let entries = entries.as_slice();
+    assert!(rt; days_rise(entries, 'r', 0) && days_rise(entries, 'r', 1));
+    assert!(rt; days_rise(entries, 'd', 0) && days_rise(entries, 'd', 1));
+    assert_eq!(rt; caller.turns(), 0);
+    Ok(())
+}
