@@ -1,0 +1,4 @@
+-- What private contracts alone cite.
+pub mod Ends
+pub mod Firsts
+pub mod Named

@@ -1,0 +1,6 @@
+pub mod CountLemmas
+pub mod SlowLemmas
+pub mod MarkLemmas
+pub mod PathLemmas
+pub mod TailLemmas
+pub mod OnePathLemmas

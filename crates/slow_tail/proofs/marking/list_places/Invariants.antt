@@ -1,0 +1,6 @@
+use Rattle.std.proofs.Common.{◌≡◌, take}
+use Rattle.slow_tail.specs.SlowTraces.{with_indices}
+use Rattle.slow_tail.proofs.marking.list_places.Given as goal
+
+abbrev pub invariant-latencies : goal.invariant-latencies
+invariant-latencies l = l.places.items ≡ with_indices (take l.latency-index l.latencies)

@@ -1,0 +1,4 @@
+pub mod SlowLaws
+pub mod SlowReports
+pub mod SlowTraces
+pub mod inner

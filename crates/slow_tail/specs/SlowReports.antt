@@ -1,0 +1,41 @@
+-- The report on the slowest of a list of traces: what is on their critical paths, beside what is on
+-- those of the rest.
+use Rattle.std.specs.Prelude.{◌≡◌, nat_eq, Bool, ℕ, List, length, map, count_by, All}
+use Rattle.trace_paths.specs.CriticalPaths.{AreCriticalPaths}
+use Rattle.trace_paths.specs.Durations.{paths_with, time_on}
+use Rattle.trace_paths.specs.NameOrders.{AreNamesOf}
+use Rattle.trace_types.specs.declared.named_segment.NamedSegment.{NamedSegment}
+use Rattle.trace_types.specs.declared.named_trace.NamedTrace.{NamedTrace}
+use Rattle.trace_types.specs.Parts.{Parts, by_number}
+use Rattle.trace_types.specs.Segments.{SegmentName}
+use Rattle.slow_tail.specs.declared.slow_report.SlowReport.{SlowReport}
+use Rattle.slow_tail.specs.declared.tail_row.TailRow.{TailRow}
+use Rattle.slow_tail.specs.SlowTraces.{IsFloor, rest_of, slow_count, slow_marks, slow_of}
+
+module _ {A S N T E : Type 0} (p : Parts A S N T E) (same : N → N → Bool) where
+  -- on how many of the slow traces' critical paths there is a segment with this name, and for how
+  -- long, and the same of the rest; `same` tells whether two names are one
+  pub record IsTailRow (slow rest : List (List S)) (name : N) (row : TailRow) : Type 0 where
+    pub slow_on : row.slow_on ≡ paths_with p same name slow
+    pub slow_sum : row.slow_sum ≡ time_on p same name slow
+    pub rest_on : row.rest_on ≡ paths_with p same name rest
+    pub rest_sum : row.rest_sum ≡ time_on p same name rest
+
+-- the latencies of traces
+abbrev pub latencies_of : List NamedTrace → List ℕ
+latencies_of traces = map (λ (t : NamedTrace). t.latency) traces
+
+-- the report over a list of traces whose names have these texts: how many traces there are, how
+-- many are slow, which is one in twenty and exactly how many the definition has, the least latency
+-- of the slow ones, and a row for each name of the traces' segments, in name order
+pub record IsSlowReport (known : List SegmentName) (traces : List NamedTrace) (report : SlowReport)
+    : Type 0 where
+  pub paths : List (List NamedSegment)
+  pub critical_paths : AreCriticalPaths by_number traces paths
+  pub count : report.traces ≡ length traces
+  pub slow : report.slow ≡ slow_count (length traces)
+  pub exact : count_by (λ (m : Bool). m) (slow_marks (latencies_of traces)) ≡ report.slow
+  pub floor : IsFloor (slow_of (latencies_of traces) (latencies_of traces)) report.floor
+  pub names : AreNamesOf known traces (map (λ (r : TailRow). r.name) report.rows)
+  pub rows : All (λ (r : TailRow). IsTailRow by_number nat_eq (slow_of (latencies_of traces) paths)
+      (rest_of (latencies_of traces) paths) r.name r) report.rows
