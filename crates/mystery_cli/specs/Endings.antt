@@ -14,7 +14,8 @@ use Rattle.mystery_cli.specs.Works.{Work, work_said}
 -- the input is within the limit and has no bad line, and P holds of its work
 abbrev pub OfWork : Call → List ℕ → (Work → Type 0) → Type 0
 OfWork call input P =
-    (length input ≤ input_limit) × ((work : Work) × (work_said call.action input ≡ Ok work) × P work)
+    (length input ≤ input_limit)
+    × ((work : Work) × (work_said call.action input ≡ Ok work) × P work)
 
 -- a call over this input may end so, with this text
 abbrev pub CallEnds : Call → List ℕ → Outcome → List ℕ → Type 0
