@@ -4,6 +4,9 @@ use Rattle.std.specs.Prelude.{Option, Some, None, Ok, Err}
 use Rattle.std.specs.Io.KnownBytes.{append_known}
 use Rattle.mystery_io.specs.Input.{input_limit}
 use Rattle.mystery_io.specs.Prefixes.{AppendsPrefix}
+use Rattle.session.specs.declared.command_fault.CommandFault.{CommandFault}
+use Rattle.session.specs.declared.command_fault.CommandFault.TheVariants as faults
+use Rattle.session_rules.specs.declared.limit.Limit.TheVariants.{Names, Tasks, Days}
 use Rattle.mystery_cli.specs.declared.outcome.Outcome.{Outcome}
 use Rattle.mystery_cli.specs.declared.outcome.Outcome.TheVariants.{Done, Memory, Arguments, BadLine}
 use Rattle.mystery_cli.specs.declared.outcome.Outcome.TheVariants.{File, Write, Size, Over}
@@ -61,3 +64,11 @@ IsDecided Size = ⊤
 IsDecided Memory = ⊥
 IsDecided (File index) = ⊥
 IsDecided Write = ⊥
+
+-- the ending of a run whose jobs end with this fault
+abbrev pub outcome_of : CommandFault → Outcome
+outcome_of faults.Memory = Memory
+outcome_of faults.Write = Write
+outcome_of (faults.TooManyDays days) = Over (Days days)
+outcome_of (faults.TooManyNames count) = Over (Names count)
+outcome_of (faults.TooManyTasks count) = Over (Tasks count)
