@@ -11,8 +11,7 @@ use Rattle.mystery_cli.specs.Runs.{OfInput}
 use Rattle.mystery_cli.specs.Texts.{IsTextOf, IsTextUpTo}
 use Rattle.mystery_cli.specs.Works.{BadInput, Work, Jobs, Steps, work_said}
 use Rattle.job_runs.specs.EndingLaws.{AreAlike, JobsStopAtOneLimit, TextsToLimitAreAlike, WholeStopsAtNoLimit, WholeTextsAreAlike}
-use Rattle.job_runs.specs.WatchLaws.{AreAlikeByPart, OnlyWatchNumbersDiffer}
-use Rattle.session_rules.specs.Parts.{Part}
+use Rattle.job_runs.specs.WatchLaws.{AlikeTextsDifferInNumbers, DifferInWatchNumbers}
 
 -- what an input said is one thing
 one_work : (said : Result Work BadInput) (a b : Work) → said ≡ Ok a → said ≡ Ok b → b ≡ a
@@ -166,10 +165,11 @@ module _ (whole : WholeTextsAreAlike) (limited : TextsToLimitAreAlike) where
   alike_at None input o t u d h k = inl (h.1 ∙ sym k.1)
   alike_at (Some call) input o t u d h k = call_alike call input o t u d h k
 
-  pub alike : (words : List (List ℕ)) (input : List ℕ) (o : Outcome) (t u : List ℕ) → IsDecided o → Ends words input o t → Ends words input o u → (t ≡ u) ⊎ AreAlike t u
+  alike : (words : List (List ℕ)) (input : List ℕ) (o : Outcome) (t u : List ℕ) → IsDecided o → Ends words input o t → Ends words input o u → (t ≡ u) ⊎ AreAlike t u
   alike words input o t u d h k = alike_at (call_of words) input o t u d h k
 
--- texts of the same parts differ in watch numbers alone
-pub numbers_alone : OnlyWatchNumbersDiffer → (t u : List ℕ) → (t ≡ u) ⊎ AreAlike t u → (t ≡ u) ⊎ ((parts : List Part) × AreAlikeByPart parts t u)
-numbers_alone only t u (inl same) = inl same
-numbers_alone only t u (inr h) = inr (h.0, only h.0 t u h.1 h.2)
+  pub differ_alone : AlikeTextsDifferInNumbers → (words : List (List ℕ)) (input : List ℕ) (o : Outcome) (t u : List ℕ) → IsDecided o → Ends words input o t → Ends words input o u → (t ≡ u) ⊎ DifferInWatchNumbers t u
+  differ_alone numbers words input o t u d h k = elim (alike words input o t u d h k) [
+    | inl same ↦ inl same
+    | inr h ↦ inr (numbers t u h)
+  ]

@@ -1,5 +1,6 @@
 -- The rows of a replay, one step after another.
 use Rattle.std.proofs.Common.{◌≡◌, ℕ, ◌+◌, ◌<◌, List, [], ◌∷◌, ◌++◌, length, take, drop, get_or, Option, Some, None, Result, Ok, Err, refl, sym, ap, ◌∙◌, subst, append_assoc, arith}
+use Rattle.std.specs.Prelude.{OnErr, OnOk}
 use Rattle.std.specs.Io.KnownBytes.{append_known}
 use Rattle.std.proofs.lemmas.List.{append-nil, take_more, take-append-drop}
 use Rattle.std.proofs.lemmas.Grind.{common_steps}
@@ -16,6 +17,15 @@ use Rattle.mystery_cli.specs.ReplayTexts.{fault_row, step_row}
 use Rattle.text_rows.specs.Printing.{Prints, print_faults, PrintsText}
 use Rattle.text_rows.specs.TextsFollow.{PrintsFollow, PrefixFollows, PrefixGoesOn}
 use Rattle.mystery_cli.specs.inner.Replaying.{row_of_fault, steps_text}
+
+-- what holds of a value, or of an error, follows from what does
+pub on_ok : {A E : Type 0} (r : Result A E) (P Q : Type 0) → (P → Q) → OnOk r P → OnOk r Q
+on_ok (Ok a) P Q f h = f h
+on_ok (Err e) P Q f h = h
+
+pub on_err : {A E : Type 0} (r : Result A E) (P Q : Type 0) → (P → Q) → OnErr r P → OnErr r Q
+on_err (Ok a) P Q f h = h
+on_err (Err e) P Q f h = f h
 
 append_nothing : (w : Option (List ℕ)) → append_known w [] ≡ w
 append_nothing None = refl

@@ -48,18 +48,18 @@ named_view name =
     if bytes_eq name (codes "slack") then Some Slack else (
     if bytes_eq name (codes "graph") then Some Graph else None)))
 
--- a view of the files that these words are
+-- a view of the files that these arguments name
 abbrev pub view_of_words : List (List ℕ) → View → Option Action
 view_of_words words v = option_map (view v) (some_files words)
 
--- what the command with this name and these words after it asks for
+-- what the command with this name and these arguments after it asks for
 abbrev pub named_action : List ℕ → List (List ℕ) → Option Action
 named_action name words =
     if bytes_eq name (codes "session") then option_map session (some_files words) else (
     if bytes_eq name (codes "replay") then option_map replay (one_file words) else
     option_and_then (view_of_words words) (named_view name))
 
--- what these words ask for: a command and its words
+-- what these arguments ask for: a command and its arguments
 abbrev pub action_of_words : List (List ℕ) → Option Action
 action_of_words [] = None
 action_of_words (name ∷ words) = named_action name words

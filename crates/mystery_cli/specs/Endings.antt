@@ -4,6 +4,9 @@ use Rattle.std.specs.Prelude.{Option, Some, None, Ok, Err}
 use Rattle.std.specs.Io.KnownBytes.{append_known}
 use Rattle.mystery_io.specs.Input.{input_limit}
 use Rattle.mystery_io.specs.Prefixes.{AppendsPrefix}
+use Rattle.session.specs.declared.command_fault.CommandFault.{CommandFault}
+use Rattle.session.specs.declared.command_fault.CommandFault.TheVariants as faults
+use Rattle.session_rules.specs.declared.limit.Limit.TheVariants.{Names, Tasks, Days}
 use Rattle.mystery_cli.specs.declared.outcome.Outcome.{Outcome}
 use Rattle.mystery_cli.specs.declared.outcome.Outcome.TheVariants.{Done, Memory, Arguments, BadLine}
 use Rattle.mystery_cli.specs.declared.outcome.Outcome.TheVariants.{File, Write, Size, Over}
@@ -14,7 +17,8 @@ use Rattle.mystery_cli.specs.Works.{Work, work_said}
 -- the input is within the limit and has no bad line, and P holds of its work
 abbrev pub OfWork : Call → List ℕ → (Work → Type 0) → Type 0
 OfWork call input P =
-    (length input ≤ input_limit) × ((work : Work) × (work_said call.action input ≡ Ok work) × P work)
+    (length input ≤ input_limit)
+    × ((work : Work) × (work_said call.action input ≡ Ok work) × P work)
 
 -- a call over this input may end so, with this text
 abbrev pub CallEnds : Call → List ℕ → Outcome → List ℕ → Type 0
@@ -60,3 +64,11 @@ IsDecided Size = ⊤
 IsDecided Memory = ⊥
 IsDecided (File index) = ⊥
 IsDecided Write = ⊥
+
+-- the ending of a run whose jobs end with this fault
+abbrev pub outcome_of : CommandFault → Outcome
+outcome_of faults.Memory = Memory
+outcome_of faults.Write = Write
+outcome_of (faults.TooManyDays days) = Over (Days days)
+outcome_of (faults.TooManyNames count) = Over (Names count)
+outcome_of (faults.TooManyTasks count) = Over (Tasks count)

@@ -5,7 +5,7 @@ use crate::view::View;
 use std::slice;
 use trace_types::Text;
 
-/// What the arguments ask for. Files are one at least.
+/// What the arguments ask for. At least one file is named.
 #[derive(Clone, Copy, Debug)]
 pub(crate) enum Action<'w> {
     /// Carry out the control lines of these files.

@@ -44,7 +44,7 @@ fn are_files(words: &[Text]) -> bool
     words.iter().all(|word| !word.as_str().is_empty())
 }
 
-/// Finds what the command with this name asks for of the words after it.
+/// Finds what the command with this name and the arguments after it asks for.
 fn find_named<'w>(name: &str, words: &'w [Text]) -> Option<Action<'w>>
     ensures asked { option_map action_of result ≡ named_action name.now words.now }
     ensures few { IfSome result (λ a.
@@ -62,7 +62,7 @@ fn find_named<'w>(name: &str, words: &'w [Text]) -> Option<Action<'w>>
     }
 }
 
-/// Finds what a command with its words asks for.
+/// Finds what a command with its arguments asks for.
 fn find_action(words: &[Text]) -> Option<Action<'_>>
     ensures asked { option_map action_of result ≡ action_of_words words.now }
     ensures few { IfSome result (λ a.

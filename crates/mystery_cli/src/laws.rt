@@ -1,8 +1,6 @@
 //! What holds of the definitions, each law a function that does nothing.
 ghost use Rattle.std.specs.Prelude.{◌≡◌, ◌⊎◌, ℕ, List};
-ghost use Rattle.job_runs.specs.EndingLaws.{AreAlike};
-ghost use Rattle.job_runs.specs.WatchLaws.{AreAlikeByPart};
-ghost use Rattle.session_rules.specs.Parts.{Part};
+ghost use Rattle.job_runs.specs.WatchLaws.{DifferInWatchNumbers};
 ghost use Rattle.mystery_cli.specs.declared.outcome.Outcome.{Outcome};
 ghost use Rattle.mystery_cli.specs.Endings.{Ends, IsDecided};
 
@@ -17,14 +15,11 @@ pub fn an_input_has_one_ending()
 }
 
 /// States that two texts of arguments, an input and an ending are one, or are texts of the same
-/// parts, and then differ in watch numbers alone.
+/// parts that differ in watch numbers alone.
 pub fn texts_are_alike()
-    ensures parts { (words : List (List ℕ)) (input : List ℕ) (o : Outcome) (text other : List ℕ)
+    ensures { (words : List (List ℕ)) (input : List ℕ) (o : Outcome) (text other : List ℕ)
         → IsDecided o → Ends words input o text → Ends words input o other
-        → (text ≡ other) ⊎ AreAlike text other }
-    ensures numbers { (words : List (List ℕ)) (input : List ℕ) (o : Outcome)
-        (text other : List ℕ) → IsDecided o → Ends words input o text → Ends words input o other
-        → (text ≡ other) ⊎ ((parts : List Part) × AreAlikeByPart parts text other) }
+        → (text ≡ other) ⊎ DifferInWatchNumbers text other }
 {
     jobs_end_in_one_way();
     only_watch_numbers_differ();

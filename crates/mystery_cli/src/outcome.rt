@@ -1,6 +1,6 @@
 ghost use Rattle.std.specs.Prelude.{◌≡◌, ◌+◌, ◌≤◌, ◌<◌, ◌++◌, length, codes, decimal};
+ghost use Rattle.mystery_cli.specs.Endings.{outcome_of};
 ghost use Rattle.mystery_cli.specs.Messages.{limit_count, limit_unit, message_of, status_of};
-ghost use Rattle.mystery_cli.specs.inner.InputEnds.{outcome_of};
 
 use crate::Reason;
 use arrayvec::ArrayString;
@@ -79,11 +79,11 @@ fn make_limit_line(limit: Limit) -> ArrayString<LONGEST>
     make_numbered_line("limit: ", u64::from(count), " ", unit)
 }
 
-impl Outcome {
-    /// Returns how a run ended whose jobs ended with this fault.
-    pub(crate) fn of_fault(fault: CommandFault) -> Outcome
-        ensures { result ≡ outcome_of fault }
-    {
+impl From<CommandFault> for Outcome {
+    ghost from_gives = { λ fault outcome. outcome ≡ outcome_of fault };
+
+    /// Gives the ending of a run whose jobs end with this fault.
+    fn from(fault: CommandFault) -> Outcome {
         match fault {
             CommandFault::Memory => Outcome::Memory,
             CommandFault::Write => Outcome::Write,
@@ -98,7 +98,9 @@ impl Outcome {
             },
         }
     }
+}
 
+impl Outcome {
     /// Returns the exit status, from 0 to 6.
     pub fn status(self) -> u8
         ensures { result ≡ status_of self }

@@ -325,6 +325,5 @@ pub(crate) fn print_replay<S: Sink>(
     flush_ends_a_text();
     let mut buffer = RowBuffer::new(alloc);
     print_rows(alloc, out, &mut buffer, file)?;
-    flush(out, &mut buffer)?;
-    Ok(())
+    flush(out, &mut buffer)
 }

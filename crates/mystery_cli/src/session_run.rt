@@ -36,7 +36,7 @@ fn carry_out<R: Threads + Sync, S: Sink, G: Gate + Sync>(
 {
     match run_jobs(rt, alloc, workers, jobs, out, gate) {
         Ok(()) => Outcome::Done,
-        Err(fault) => Outcome::of_fault(fault),
+        Err(fault) => Outcome::from(fault),
     }
 }
 

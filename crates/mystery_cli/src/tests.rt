@@ -11,6 +11,7 @@ mod watches;
 
 use crate::run;
 use mystery_io::{ByteList, MemFile, MemFiles, MemSink, OpenGate};
+use rows::{Row, input_of};
 use std::alloc::{AllocError, Global};
 use std::process::Abort;
 use std::test::Fail;
@@ -96,5 +97,27 @@ pub(crate) fn expect<R: Threads + Sync + Abort>(
     assert_eq!(rt; to_err.bytes(), err);
     assert_eq!(rt; got, status);
     assert_eq!(rt; to_out.bytes(), out);
+    Ok(())
+}
+
+/// What is printed: the command, the pieces of the input, and the text.
+pub(crate) type Printed<'t> = (&'t str, &'t [&'t [Row<'t>]], &'t [u8]);
+
+/// Runs each command with so many workers over its input and compares the text.
+pub(crate) fn expect_texts<R: Threads + Sync + Abort>(
+    rt: &R,
+    alloc: Global,
+    workers: &str,
+    table: &[Printed<'_>],
+) -> Result<(), Fail> {
+    for (command, pieces, out) in table {
+        let f = input_of(alloc, pieces)?;
+        let setting = Setting {
+            words: &["--workers", workers, command, "f"],
+            f: &f,
+            ..SETTING
+        };
+        expect(rt, alloc, setting, 0, out, b"")?;
+    }
     Ok(())
 }

@@ -1,8 +1,5 @@
 -- How a run goes on from an input that was read and is within the limit.
 use Rattle.std.specs.Prelude.{ℕ, ◌≡◌, ◌⊎◌, List, [], Option, Result, Ok, Err}
-use Rattle.session.specs.declared.command_fault.CommandFault.{CommandFault}
-use Rattle.session.specs.declared.command_fault.CommandFault.TheVariants as faults
-use Rattle.session_rules.specs.declared.limit.Limit.TheVariants.{Names, Tasks, Days}
 use Rattle.mystery_cli.specs.declared.outcome.Outcome.{Outcome}
 use Rattle.mystery_cli.specs.declared.outcome.Outcome.TheVariants.{Done, Memory, Arguments, BadLine}
 use Rattle.mystery_cli.specs.declared.outcome.Outcome.TheVariants.{File, Write, Size, Over}
@@ -32,11 +29,3 @@ abbrev pub InputEnds : ℕ → Result Work BadInput → Outcome → Option (List
     → Type 0
 InputEnds workers said outcome before now =
     (text : List ℕ) × SaidEnds workers said outcome text × Writes outcome before now text
-
--- the outcome of a run whose session answered this fault
-abbrev pub outcome_of : CommandFault → Outcome
-outcome_of faults.Memory = Memory
-outcome_of faults.Write = Write
-outcome_of (faults.TooManyDays days) = Over (Days days)
-outcome_of (faults.TooManyNames count) = Over (Names count)
-outcome_of (faults.TooManyTasks count) = Over (Tasks count)

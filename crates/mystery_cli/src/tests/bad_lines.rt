@@ -1,82 +1,87 @@
-use super::{SETTING, Setting, expect};
+use super::rows::Row::Line;
+use super::{SETTING, Setting, expect, expect_texts};
+use std::alloc::Global;
+use std::process::Abort;
 use std::test::Fail;
+use std::thread::Threads;
 
-/// Inputs of one bad line, and what is told of each.
-const BAD_LINES: [(&[u8], &[u8]); 25] = [
-    (b"[]", b"line 1: not a JSON object\n"),
-    (
-        b"{\"request\":\"r1\",\"machine\":\"m\",\"task\":\"a\",\"event\":\"s\"}",
-        b"line 1: missing member\n",
-    ),
-    (
-        b"{\"request\":\"r1\",\"machine\":\"m\",\"task\":\"a\",\"event\":\"s\",\"time\":\"5\"}",
-        b"line 1: wrong kind\n",
-    ),
-    (
-        b"{\"request\":\"r1\",\"machine\":\"m\",\"task\":\"a\",\"event\":\"s\",\"time\":true}",
-        b"line 1: wrong kind\n",
-    ),
-    (
-        b"{\"request\":\"r1\",\"machine\":\"m\",\"task\":\"a\",\"event\":\"s\",\"time\":-1}",
-        b"line 1: out of range\n",
-    ),
-    (
-        b"{\"request\":\"r1\",\"machine\":\"m\",\"task\":\"a\",\"event\":\"s\",\"time\":4102444800000001}",
-        b"line 1: out of range\n",
-    ),
-    (
-        b"{\"request\":\"r1\",\"machine\":\"m\",\"task\":\"\",\"event\":\"s\",\"time\":0}",
-        b"line 1: bad text\n",
-    ),
-    (b"{\"do\":\"stop\"}", b"line 1: unknown command\n"),
-    (b"{\"do\":\"drop\"}", b"line 1: missing member\n"),
-    (b"{\"do\":5}", b"line 1: wrong kind\n"),
-    (
-        b"{\"request\":\"r1\",\"machine\":\"m\",\"task\":\"a\",\"event\":\"s\",\"nanos\":4102444800000000001}",
-        b"line 1: out of range\n",
-    ),
-    (
-        b"{\"request\":\"r1\",\"machine\":\"m\",\"task\":\"a\",\"event\":\"s\",\"nanos\":\"5\"}",
-        b"line 1: wrong kind\n",
-    ),
-    (
-        b"{\"request\":\"r1\",\"machine\":\"m\",\"task\":\"a\",\"event\":\"s\",\"time\":0,\"nanos\":\"5\"}",
-        b"line 1: wrong kind\n",
-    ),
-    (
-        b"{\"request\":\"r1\",\"machine\":\"m\",\"task\":\"a\",\"event\":\"s\"}",
-        b"line 1: missing member\n",
-    ),
-    (
-        b"{\"do\":\"watch\",\"every\":1000001}",
-        b"line 1: out of range\n",
-    ),
-    (b"{\"do\":\"keep\"}", b"line 1: missing member\n"),
-    (b"{\"do\":\"watch\"}", b"line 1: missing member\n"),
-    (b"{\"do\":\"grace\"}", b"line 1: missing member\n"),
-    (b"{\"do\":\"drop\",\"day\":\"1\"}", b"line 1: wrong kind\n"),
-    (b"{\"do\":\"keep\",\"days\":true}", b"line 1: wrong kind\n"),
-    (
-        b"{\"do\":\"grace\",\"micros\":1000001}",
-        b"line 1: out of range\n",
-    ),
-    (b"{\"do\":\"drop\",\"day\":-1}", b"line 1: out of range\n"),
-    (b"{\"do\":\"Add\"}", b"line 1: unknown command\n"),
-    (b"{\"do\":null}", b"line 1: wrong kind\n"),
-    (b"{\"do\":\"report\"}", b"line 1: not built\n"),
-];
+/// Rows of a reason and a line that is bad for it.
+const BAD_LINES: &str = r#"
+not a JSON object|[]
+missing member|{"request":"r1","machine":"m","task":"a","event":"s"}
+wrong kind|{"request":"r1","machine":"m","task":"a","event":"s","time":"5"}
+wrong kind|{"request":"r1","machine":"m","task":"a","event":"s","time":true}
+wrong kind|{"request":"r1","machine":"m","task":"a","event":"s","nanos":"5"}
+wrong kind|{"request":"r1","machine":"m","task":"a","event":"s","time":0,"nanos":"5"}
+out of range|{"request":"r1","machine":"m","task":"a","event":"s","time":-1}
+out of range|{"request":"r1","machine":"m","task":"a","event":"s","time":4102444800000001}
+out of range|{"request":"r1","machine":"m","task":"a","event":"s","nanos":4102444800000000001}
+bad text|{"request":"r1","machine":"m","task":"","event":"s","time":0}
+unknown command|{"do":"stop"}
+unknown command|{"do":"Add"}
+wrong kind|{"do":5}
+wrong kind|{"do":null}
+missing member|{"do":"drop"}
+missing member|{"do":"keep"}
+missing member|{"do":"watch"}
+missing member|{"do":"grace"}
+wrong kind|{"do":"drop","day":"1"}
+wrong kind|{"do":"keep","days":true}
+wrong kind|{"do":"watch","every":"1"}
+wrong kind|{"do":"grace","micros":"1"}
+out of range|{"do":"drop","day":-1}
+out of range|{"do":"keep","days":1000001}
+out of range|{"do":"watch","every":1000001}
+out of range|{"do":"grace","micros":1000001}
+not built|{"do":"report"}
+"#;
+
+/// Compares what two commands tell of a bad line.
+fn expect_bad_line<R: Threads + Sync + Abort>(
+    rt: &R,
+    alloc: Global,
+    line: &str,
+    reason: &str,
+) -> Result<(), Fail> {
+    let err = format!(in alloc; "line 1: {reason}\n")?;
+    let setting = Setting {
+        words: &["session", "f"],
+        f: line.as_bytes(),
+        ..SETTING
+    };
+    let graph = Setting {
+        words: &["graph", "f"],
+        ..setting
+    };
+    expect(rt, alloc, setting, 3, b"", err.as_bytes())?;
+    expect(rt, alloc, graph, 3, b"", err.as_bytes())
+}
 
 #[test]
 fn each_single_bad_line_is_told(rt: HostRuntime) -> Result<(), Fail> {
-    for (f, err) in BAD_LINES {
-        for words in [&["session", "f"], &["graph", "f"]] {
-            let setting = Setting {
-                words,
-                f,
-                ..SETTING
-            };
-            expect(&rt, rt.alloc(), setting, 3, b"", err)?;
+    let mut rows = 0usize;
+    for row in BAD_LINES.lines() {
+        if let Some((reason, line)) = row.split_once('|') {
+            rows = rows.wrapping_add(1);
+            expect_bad_line(&rt, rt.alloc(), line, reason)?;
         }
+    }
+    assert_eq!(rt; rows, 27);
+    Ok(())
+}
+
+/// Good lines of one event: the greatest time, a message that is null, and nanoseconds that are.
+const GOOD_LINES: [&str; 3] = [
+    r#"{"request":"r1","machine":"m","task":"a","event":"s","time":4102444800000000}"#,
+    r#"{"request":"r1","machine":"m","task":"a","event":"s","time":0,"send":null}"#,
+    r#"{"request":"r1","machine":"m","task":"a","event":"s","time":0,"nanos":null}"#,
+];
+
+#[test]
+fn a_good_line_at_the_edge_is_a_trace(rt: HostRuntime) -> Result<(), Fail> {
+    let model: &[u8] = b"model\ttraces=1\tdays=1\tsegments=0\ttasks=0\thb=0\tmx=0\tpipe=0\n";
+    for line in GOOD_LINES {
+        expect_texts(&rt, rt.alloc(), "4", &[("model", &[&[Line(line)]], model)])?;
     }
     Ok(())
 }

@@ -1,5 +1,7 @@
 use super::rows::{ADD, MODEL, TOUCHING, input_of, put_event};
-use super::{SETTING, Setting, expect};
+use super::{ROOM, SETTING, Setting, expect, mem_file, texts};
+use crate::run;
+use mystery_io::{MemFiles, MemSink, OpenGate};
 use std::alloc::{AllocError, Global};
 use std::test::Fail;
 
@@ -20,17 +22,18 @@ fn put_days(alloc: Global, bytes: &mut Vec<u8>, days: u8, each: bool) -> Result<
     bytes.extend_from_slice(b"{\"do\":\"add\"}\n")
 }
 
-/// Appends so many events of one task, each with a name of its own.
+/// Appends so many events of one task of this request, each with a name of its own.
 fn put_events(
     alloc: Global,
     bytes: &mut Vec<u8>,
+    request: &str,
     task: &str,
     count: u32,
 ) -> Result<(), AllocError> {
     for n in 0..count {
         let event = format!(in alloc; "e{n}")?;
         let time = format!(in alloc; "{n}")?;
-        put_event(bytes, "r2", "m", task, event.as_str(), time.as_str())?;
+        put_event(bytes, request, "m", task, event.as_str(), time.as_str())?;
         bytes.extend_from_slice(b"}\n")?;
     }
     Ok(())
@@ -80,13 +83,14 @@ fn the_text_before_an_add_that_passes_a_limit_is_whole(rt: HostRuntime) -> Resul
     put_event(&mut days, "r64", "m", "a", "s", "5529600000000")?;
     days.extend_from_slice(b"}\n{\"do\":\"add\"}\n{\"do\":\"model\"}\n")?;
     let mut names = input_of(alloc, &[&TOUCHING, &[ADD, MODEL]])?;
-    put_events(alloc, &mut names, "c", 512)?;
+    put_events(alloc, &mut names, "r2", "c", 512)?;
     names.extend_from_slice(b"{\"do\":\"add\"}\n{\"do\":\"model\"}\n")?;
     let table: [(&[u8], &[u8], &[u8]); 2] = [
         (&days, b"keep\t64\t0\n", b"limit: 65 days\n"),
         (
             &names,
-            b"model\ttraces=1\tdays=1\tsegments=2\ttasks=2\thb=1\tmx=0\tpipe=0\nhb\ta\ts\te\tb\ts\te\n",
+            b"model\ttraces=1\tdays=1\tsegments=2\ttasks=2\thb=1\tmx=0\tpipe=0\n\
+                hb\ta\ts\te\tb\ts\te\n",
             b"limit: 513 segment names\n",
         ),
     ];
@@ -106,7 +110,7 @@ fn a_trace_passes_the_limit_of_names_or_of_tasks(rt: HostRuntime) -> Result<(), 
     let alloc = rt.alloc();
     for (count, status, err) in [(513, 0, ""), (514, 6, "limit: 513 segment names\n")] {
         let mut f = Vec::new(alloc);
-        put_events(alloc, &mut f, "a", count)?;
+        put_events(alloc, &mut f, "r2", "a", count)?;
         f.extend_from_slice(b"{\"do\":\"add\"}\n")?;
         let setting = Setting {
             words: &["session", "f"],
@@ -131,4 +135,38 @@ fn a_trace_passes_the_limit_of_names_or_of_tasks(rt: HostRuntime) -> Result<(), 
         expect(&rt, alloc, setting, status, out, err)?;
     }
     Ok(())
+}
+
+/// The room of the model of 512 names: 130,816 rows of at most 30 bytes.
+const GREAT_ROOM: usize = 4_194_304;
+
+#[test]
+fn a_model_of_512_names_has_each_pair_of_them(rt: HostRuntime) -> Result<(), Fail> {
+    let alloc = rt.alloc();
+    let mut f = Vec::new(alloc);
+    put_events(alloc, &mut f, "r1", "a", 513)?;
+    let words = texts(alloc, &["model", "f"])?;
+    let mut all = Vec::new(alloc);
+    all.push(mem_file(alloc, "f", &f)?)?;
+    let mut files = MemFiles::new(all, ROOM, Vec::new(alloc));
+    let mut out = MemSink::new(alloc, ROOM, Vec::new(alloc), GREAT_ROOM)?;
+    let mut err = MemSink::new(alloc, ROOM, Vec::new(alloc), ROOM)?;
+    let got = run(
+        &rt, alloc, &words, &mut files, &mut out, &mut err, &OpenGate,
+    );
+    assert_eq!(rt; got, 0);
+    let header = b"model\ttraces=1\tdays=1\tsegments=512\ttasks=1\thb=130816\tmx=0\tpipe=0\n";
+    assert!(rt; out.bytes().starts_with(header));
+    Ok(())
+}
+
+#[test]
+fn a_trace_of_4097_events_is_refused(rt: HostRuntime) -> Result<(), Fail> {
+    let alloc = rt.alloc();
+    let mut f = Vec::new(alloc);
+    put_events(alloc, &mut f, "r1", "a", 4097)?;
+    let setting = Setting { f: &f, ..SETTING };
+    let out = b"refused\tr1\ttoo many events\t4097\n\
+        model\ttraces=0\tdays=0\tsegments=0\ttasks=0\thb=0\tmx=0\tpipe=0\n";
+    expect(&rt, alloc, setting, 0, out, b"")
 }

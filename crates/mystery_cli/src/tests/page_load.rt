@@ -1,354 +1,105 @@
-use super::rows::{Row, input_of};
-use super::{SETTING, Setting, expect};
-use Row::Full;
+use super::expect_texts;
+use super::rows::Row::Table;
 use std::test::Fail;
 
 /// Two requests for a page, over a phone, a web server and a server of advertisements.
-const PAGE_LOAD: [Row<'static>; 36] = [
-    Full(
-        "req 4711",
-        "phone-17",
-        "browser request",
-        "tap",
-        "1710720000000000",
-        "",
-        "",
-    ),
-    Full(
-        "req 4711",
-        "phone-17",
-        "browser request",
-        "request sent",
-        "1710720000001200",
-        "m1",
-        "",
-    ),
-    Full(
-        "req 4711",
-        "web-03",
-        "web accept",
-        "request received",
-        "1710720000031450",
-        "",
-        "m1",
-    ),
-    Full(
-        "req 4711",
-        "web-03",
-        "web accept",
-        "parsed",
-        "1710720000032250",
-        "",
-        "",
-    ),
-    Full(
-        "req 4711",
-        "web-03",
-        "page head",
-        "write head@html",
-        "1710720000032250",
-        "",
-        "",
-    ),
-    Full(
-        "req 4711",
-        "web-03",
-        "page head",
-        "head flushed",
-        "1710720000033750",
-        "m5",
-        "",
-    ),
-    Full(
-        "req 4711",
-        "web-03",
-        "user query",
-        "query start",
-        "1710720000032250",
-        "",
-        "",
-    ),
-    Full(
-        "req 4711",
-        "web-03",
-        "user query",
-        "query end",
-        "1710720000039250",
-        "",
-        "",
-    ),
-    Full(
-        "req 4711",
-        "web-03",
-        "ads call",
-        "call start",
-        "1710720000032250",
-        "m2",
-        "",
-    ),
-    Full(
-        "req 4711",
-        "ads-02",
-        "ads ranking",
-        "rank start",
-        "1710720000032060",
-        "",
-        "m2",
-    ),
-    Full(
-        "req 4711",
-        "ads-02",
-        "ads ranking",
-        "rank end",
-        "1710720000046960",
-        "m3",
-        "",
-    ),
-    Full(
-        "req 4711",
-        "web-03",
-        "ads call",
-        "call end",
-        "1710720000047350",
-        "",
-        "m3",
-    ),
-    Full(
-        "req 4711",
-        "web-03",
-        "page body",
-        "write body",
-        "1710720000047350",
-        "",
-        "",
-    ),
-    Full(
-        "req 4711",
-        "web-03",
-        "page body",
-        "body flushed",
-        "1710720000049350",
-        "m4",
-        "",
-    ),
-    Full(
-        "req 4711",
-        "phone-17",
-        "download",
-        "first byte@html",
-        "1710720000063500",
-        "",
-        "m5",
-    ),
-    Full(
-        "req 4711",
-        "phone-17",
-        "download",
-        "last byte",
-        "1710720000079100",
-        "",
-        "m4",
-    ),
-    Full(
-        "req 4711",
-        "phone-17",
-        "browser render",
-        "paint start",
-        "1710720000079100",
-        "",
-        "",
-    ),
-    Full(
-        "req 4711",
-        "phone-17",
-        "browser render",
-        "paint end",
-        "1710720000084100",
-        "",
-        "",
-    ),
-    Full(
-        "req 4712",
-        "phone-22",
-        "browser request",
-        "tap",
-        "1710720001000000",
-        "",
-        "",
-    ),
-    Full(
-        "req 4712",
-        "phone-22",
-        "browser request",
-        "request sent",
-        "1710720001000900",
-        "m1",
-        "",
-    ),
-    Full(
-        "req 4712",
-        "web-03",
-        "web accept",
-        "request received",
-        "1710720001019900",
-        "",
-        "m1",
-    ),
-    Full(
-        "req 4712",
-        "web-03",
-        "web accept",
-        "parsed",
-        "1710720001020500",
-        "",
-        "",
-    ),
-    Full(
-        "req 4712",
-        "web-03",
-        "page head",
-        "write head@html",
-        "1710720001020500",
-        "",
-        "",
-    ),
-    Full(
-        "req 4712",
-        "web-03",
-        "page head",
-        "head flushed",
-        "1710720001021500",
-        "m5",
-        "",
-    ),
-    Full(
-        "req 4712",
-        "web-03",
-        "user query",
-        "query start",
-        "1710720001020500",
-        "",
-        "",
-    ),
-    Full(
-        "req 4712",
-        "web-03",
-        "user query",
-        "query end",
-        "1710720001040500",
-        "",
-        "",
-    ),
-    Full(
-        "req 4712",
-        "web-03",
-        "ads call",
-        "call start",
-        "1710720001020500",
-        "m2",
-        "",
-    ),
-    Full(
-        "req 4712",
-        "ads-02",
-        "ads ranking",
-        "rank start",
-        "1710720001020310",
-        "",
-        "m2",
-    ),
-    Full(
-        "req 4712",
-        "ads-02",
-        "ads ranking",
-        "rank end",
-        "1710720001032310",
-        "m3",
-        "",
-    ),
-    Full(
-        "req 4712",
-        "web-03",
-        "ads call",
-        "call end",
-        "1710720001032700",
-        "",
-        "m3",
-    ),
-    Full(
-        "req 4712",
-        "web-03",
-        "page body",
-        "write body",
-        "1710720001040500",
-        "",
-        "",
-    ),
-    Full(
-        "req 4712",
-        "web-03",
-        "page body",
-        "body flushed",
-        "1710720001043000",
-        "m4",
-        "",
-    ),
-    Full(
-        "req 4712",
-        "phone-22",
-        "download",
-        "first byte@html",
-        "1710720001042500",
-        "",
-        "m5",
-    ),
-    Full(
-        "req 4712",
-        "phone-22",
-        "download",
-        "last byte",
-        "1710720001064000",
-        "",
-        "m4",
-    ),
-    Full(
-        "req 4712",
-        "phone-22",
-        "browser render",
-        "paint start",
-        "1710720001064000",
-        "",
-        "",
-    ),
-    Full(
-        "req 4712",
-        "phone-22",
-        "browser render",
-        "paint end",
-        "1710720001067000",
-        "",
-        "",
-    ),
-];
+const PAGE_LOAD: &str = "\
+req 4711|phone-17|browser request|tap|1710720000000000||
+req 4711|phone-17|browser request|request sent|1710720000001200|m1|
+req 4711|web-03|web accept|request received|1710720000031450||m1
+req 4711|web-03|web accept|parsed|1710720000032250||
+req 4711|web-03|page head|write head@html|1710720000032250||
+req 4711|web-03|page head|head flushed|1710720000033750|m5|
+req 4711|web-03|user query|query start|1710720000032250||
+req 4711|web-03|user query|query end|1710720000039250||
+req 4711|web-03|ads call|call start|1710720000032250|m2|
+req 4711|ads-02|ads ranking|rank start|1710720000032060||m2
+req 4711|ads-02|ads ranking|rank end|1710720000046960|m3|
+req 4711|web-03|ads call|call end|1710720000047350||m3
+req 4711|web-03|page body|write body|1710720000047350||
+req 4711|web-03|page body|body flushed|1710720000049350|m4|
+req 4711|phone-17|download|first byte@html|1710720000063500||m5
+req 4711|phone-17|download|last byte|1710720000079100||m4
+req 4711|phone-17|browser render|paint start|1710720000079100||
+req 4711|phone-17|browser render|paint end|1710720000084100||
+req 4712|phone-22|browser request|tap|1710720001000000||
+req 4712|phone-22|browser request|request sent|1710720001000900|m1|
+req 4712|web-03|web accept|request received|1710720001019900||m1
+req 4712|web-03|web accept|parsed|1710720001020500||
+req 4712|web-03|page head|write head@html|1710720001020500||
+req 4712|web-03|page head|head flushed|1710720001021500|m5|
+req 4712|web-03|user query|query start|1710720001020500||
+req 4712|web-03|user query|query end|1710720001040500||
+req 4712|web-03|ads call|call start|1710720001020500|m2|
+req 4712|ads-02|ads ranking|rank start|1710720001020310||m2
+req 4712|ads-02|ads ranking|rank end|1710720001032310|m3|
+req 4712|web-03|ads call|call end|1710720001032700||m3
+req 4712|web-03|page body|write body|1710720001040500||
+req 4712|web-03|page body|body flushed|1710720001043000|m4|
+req 4712|phone-22|download|first byte@html|1710720001042500||m5
+req 4712|phone-22|download|last byte|1710720001064000||m4
+req 4712|phone-22|browser render|paint start|1710720001064000||
+req 4712|phone-22|browser render|paint end|1710720001067000||
+";
 
 const PAGE_LOAD_MODEL: &[u8] =
-    b"model\ttraces=2\tdays=1\tsegments=9\ttasks=9\thb=29\tmx=0\tpipe=1\nhb\tads call\tcall start\tcall end\tbrowser render\tpaint start\tpaint end\nhb\tads call\tcall start\tcall end\tdownload\tfirst byte@html\tlast byte\nhb\tads call\tcall start\tcall end\tpage body\twrite body\tbody flushed\nhb\tads ranking\trank start\trank end\tbrowser render\tpaint start\tpaint end\nhb\tads ranking\trank start\trank end\tdownload\tfirst byte@html\tlast byte\nhb\tads ranking\trank start\trank end\tpage body\twrite body\tbody flushed\nhb\tbrowser request\ttap\trequest sent\tads call\tcall start\tcall end\nhb\tbrowser request\ttap\trequest sent\tads ranking\trank start\trank end\nhb\tbrowser request\ttap\trequest sent\tbrowser render\tpaint start\tpaint end\nhb\tbrowser request\ttap\trequest sent\tdownload\tfirst byte@html\tlast byte\nhb\tbrowser request\ttap\trequest sent\tpage body\twrite body\tbody flushed\nhb\tbrowser request\ttap\trequest sent\tpage head\twrite head@html\thead flushed\nhb\tbrowser request\ttap\trequest sent\tuser query\tquery start\tquery end\nhb\tbrowser request\ttap\trequest sent\tweb accept\trequest received\tparsed\nhb\tdownload\tfirst byte@html\tlast byte\tbrowser render\tpaint start\tpaint end\nhb\tpage body\twrite body\tbody flushed\tbrowser render\tpaint start\tpaint end\nhb\tpage head\twrite head@html\thead flushed\tbrowser render\tpaint start\tpaint end\nhb\tpage head\twrite head@html\thead flushed\tdownload\tfirst byte@html\tlast byte\nhb\tpage head\twrite head@html\thead flushed\tpage body\twrite body\tbody flushed\nhb\tuser query\tquery start\tquery end\tbrowser render\tpaint start\tpaint end\nhb\tuser query\tquery start\tquery end\tdownload\tfirst byte@html\tlast byte\nhb\tuser query\tquery start\tquery end\tpage body\twrite body\tbody flushed\nhb\tweb accept\trequest received\tparsed\tads call\tcall start\tcall end\nhb\tweb accept\trequest received\tparsed\tads ranking\trank start\trank end\nhb\tweb accept\trequest received\tparsed\tbrowser render\tpaint start\tpaint end\nhb\tweb accept\trequest received\tparsed\tdownload\tfirst byte@html\tlast byte\nhb\tweb accept\trequest received\tparsed\tpage body\twrite body\tbody flushed\nhb\tweb accept\trequest received\tparsed\tpage head\twrite head@html\thead flushed\nhb\tweb accept\trequest received\tparsed\tuser query\tquery start\tquery end\npipe\tpage head\tdownload\n";
+    b"model\ttraces=2\tdays=1\tsegments=9\ttasks=9\thb=29\tmx=0\tpipe=1\n\
+        hb\tads call\tcall start\tcall end\tbrowser render\tpaint start\tpaint end\n\
+        hb\tads call\tcall start\tcall end\tdownload\tfirst byte@html\tlast byte\n\
+        hb\tads call\tcall start\tcall end\tpage body\twrite body\tbody flushed\n\
+        hb\tads ranking\trank start\trank end\tbrowser render\tpaint start\tpaint end\n\
+        hb\tads ranking\trank start\trank end\tdownload\tfirst byte@html\tlast byte\n\
+        hb\tads ranking\trank start\trank end\tpage body\twrite body\tbody flushed\n\
+        hb\tbrowser request\ttap\trequest sent\tads call\tcall start\tcall end\n\
+        hb\tbrowser request\ttap\trequest sent\tads ranking\trank start\trank end\n\
+        hb\tbrowser request\ttap\trequest sent\tbrowser render\tpaint start\tpaint end\n\
+        hb\tbrowser request\ttap\trequest sent\tdownload\tfirst byte@html\tlast byte\n\
+        hb\tbrowser request\ttap\trequest sent\tpage body\twrite body\tbody flushed\n\
+        hb\tbrowser request\ttap\trequest sent\tpage head\twrite head@html\thead flushed\n\
+        hb\tbrowser request\ttap\trequest sent\tuser query\tquery start\tquery end\n\
+        hb\tbrowser request\ttap\trequest sent\tweb accept\trequest received\tparsed\n\
+        hb\tdownload\tfirst byte@html\tlast byte\tbrowser render\tpaint start\tpaint end\n\
+        hb\tpage body\twrite body\tbody flushed\tbrowser render\tpaint start\tpaint end\n\
+        hb\tpage head\twrite head@html\thead flushed\tbrowser render\tpaint start\tpaint end\n\
+        hb\tpage head\twrite head@html\thead flushed\tdownload\tfirst byte@html\tlast byte\n\
+        hb\tpage head\twrite head@html\thead flushed\tpage body\twrite body\tbody flushed\n\
+        hb\tuser query\tquery start\tquery end\tbrowser render\tpaint start\tpaint end\n\
+        hb\tuser query\tquery start\tquery end\tdownload\tfirst byte@html\tlast byte\n\
+        hb\tuser query\tquery start\tquery end\tpage body\twrite body\tbody flushed\n\
+        hb\tweb accept\trequest received\tparsed\tads call\tcall start\tcall end\n\
+        hb\tweb accept\trequest received\tparsed\tads ranking\trank start\trank end\n\
+        hb\tweb accept\trequest received\tparsed\tbrowser render\tpaint start\tpaint end\n\
+        hb\tweb accept\trequest received\tparsed\tdownload\tfirst byte@html\tlast byte\n\
+        hb\tweb accept\trequest received\tparsed\tpage body\twrite body\tbody flushed\n\
+        hb\tweb accept\trequest received\tparsed\tpage head\twrite head@html\thead flushed\n\
+        hb\tweb accept\trequest received\tparsed\tuser query\tquery start\tquery end\n\
+        pipe\tpage head\tdownload\n";
 
-const PAGE_LOAD_PATHS: &[u8] =
-    b"paths\ttraces=2\npath\treq 4711\t19800\t84100000\t37700000\t5\nstep\tbrowser request\ttap\trequest sent\t1200000\nstep\tweb accept\trequest received\tparsed\t800000\nstep\tads call\tcall start\tcall end\t15100000\nstep\tdownload\tfirst byte@html\tlast byte\t15600000\nstep\tbrowser render\tpaint start\tpaint end\t5000000\npath\treq 4712\t19800\t67000000\t46000000\t5\nstep\tbrowser request\ttap\trequest sent\t900000\nstep\tweb accept\trequest received\tparsed\t600000\nstep\tuser query\tquery start\tquery end\t20000000\nstep\tdownload\tfirst byte@html\tlast byte\t21500000\nstep\tbrowser render\tpaint start\tpaint end\t3000000\n";
+const PAGE_LOAD_PATHS: &[u8] = b"paths\ttraces=2\npath\treq 4711\t19800\t84100000\t37700000\t5\n\
+        step\tbrowser request\ttap\trequest sent\t1200000\n\
+        step\tweb accept\trequest received\tparsed\t800000\n\
+        step\tads call\tcall start\tcall end\t15100000\n\
+        step\tdownload\tfirst byte@html\tlast byte\t15600000\n\
+        step\tbrowser render\tpaint start\tpaint end\t5000000\n\
+        path\treq 4712\t19800\t67000000\t46000000\t5\n\
+        step\tbrowser request\ttap\trequest sent\t900000\n\
+        step\tweb accept\trequest received\tparsed\t600000\n\
+        step\tuser query\tquery start\tquery end\t20000000\n\
+        step\tdownload\tfirst byte@html\tlast byte\t21500000\n\
+        step\tbrowser render\tpaint start\tpaint end\t3000000\n";
 
 #[test]
-fn two_page_loads_look_alike_with_any_number_of_workers(rt: HostRuntime) -> Result<(), Fail> {
-    let f = input_of(rt.alloc(), &[&PAGE_LOAD])?;
+fn the_page_load_prints_the_same_with_any_number_of_workers(rt: HostRuntime) -> Result<(), Fail> {
     for workers in ["1", "4", "64"] {
-        for (view, out) in [("model", PAGE_LOAD_MODEL), ("paths", PAGE_LOAD_PATHS)] {
-            let setting = Setting {
-                words: &["--workers", workers, view, "f"],
-                f: &f,
-                ..SETTING
-            };
-            expect(&rt, rt.alloc(), setting, 0, out, b"")?;
-        }
+        expect_texts(
+            &rt,
+            rt.alloc(),
+            workers,
+            &[
+                ("model", &[&[Table(PAGE_LOAD)]], PAGE_LOAD_MODEL),
+                ("paths", &[&[Table(PAGE_LOAD)]], PAGE_LOAD_PATHS),
+            ],
+        )?;
     }
     Ok(())
 }

@@ -5,9 +5,9 @@ use std::alloc::{AllocError, Global};
 pub(crate) enum Row<'t> {
     /// An event of machine m: the request, the task, the event and the time in microseconds.
     Event(&'t str, &'t str, &'t str, &'t str),
-    /// An event with the request, the machine, the task, the event, the time in microseconds, and
-    /// the messages that are sent and received, empty where there is none.
-    Full(&'t str, &'t str, &'t str, &'t str, &'t str, &'t str, &'t str),
+    /// A table of events, a line each: the request, the machine, the task, the event, the time in
+    /// microseconds, and the messages that are sent and received, empty where there is none.
+    Table(&'t str),
     /// A line as it is.
     Line(&'t str),
 }
@@ -45,6 +45,28 @@ pub(crate) fn put_event(
     put_member(bytes, "event", event)
 }
 
+/// Appends the event of a line of a table.
+fn put_line(bytes: &mut Vec<u8>, line: &str) -> Result<(), AllocError> {
+    let mut columns = line.split('|');
+    let request = columns.next().unwrap_or("");
+    let machine = columns.next().unwrap_or("");
+    let task = columns.next().unwrap_or("");
+    let event = columns.next().unwrap_or("");
+    let time = columns.next().unwrap_or("");
+    put_event(bytes, request, machine, task, event, time)?;
+    put_member(bytes, "send", columns.next().unwrap_or(""))?;
+    put_member(bytes, "recv", columns.next().unwrap_or(""))?;
+    bytes.extend_from_slice(b"}\n")
+}
+
+/// Appends the events of a table.
+fn put_table(bytes: &mut Vec<u8>, table: &str) -> Result<(), AllocError> {
+    for line in table.lines() {
+        put_line(bytes, line)?;
+    }
+    Ok(())
+}
+
 /// Appends a row.
 fn put_row(bytes: &mut Vec<u8>, row: Row<'_>) -> Result<(), AllocError> {
     match row {
@@ -52,12 +74,7 @@ fn put_row(bytes: &mut Vec<u8>, row: Row<'_>) -> Result<(), AllocError> {
             put_event(bytes, request, "m", task, event, time)?;
             bytes.extend_from_slice(b"}\n")
         }
-        Row::Full(request, machine, task, event, time, send, recv) => {
-            put_event(bytes, request, machine, task, event, time)?;
-            put_member(bytes, "send", send)?;
-            put_member(bytes, "recv", recv)?;
-            bytes.extend_from_slice(b"}\n")
-        }
+        Row::Table(table) => put_table(bytes, table),
         Row::Line(line) => {
             bytes.extend_from_slice(line.as_bytes())?;
             bytes.extend_from_slice(b"\n")

@@ -1,5 +1,5 @@
-use super::rows::{INSIDE, OPPOSITE, OVERLAP, Row, TOUCHING, input_of};
-use super::{SETTING, Setting, expect};
+use super::rows::{INSIDE, OPPOSITE, OVERLAP, Row, TOUCHING};
+use super::{Printed, expect_texts};
 use Row::{Event, Line};
 use std::test::Fail;
 
@@ -85,8 +85,7 @@ const BOTH_UNITS: [Row<'static>; 4] = [
 
 #[test]
 fn relations_survive_or_are_refuted(rt: HostRuntime) -> Result<(), Fail> {
-    let alloc = rt.alloc();
-    let table: [(&str, &[&[Row<'_>]], &[u8]); 10] = [
+    let table: [Printed<'_>; 10] = [
         (
             "model",
             &[&[]],
@@ -95,12 +94,14 @@ fn relations_survive_or_are_refuted(rt: HostRuntime) -> Result<(), Fail> {
         (
             "model",
             &[&TOUCHING],
-            b"model\ttraces=1\tdays=1\tsegments=2\ttasks=2\thb=1\tmx=0\tpipe=0\nhb\ta\ts\te\tb\ts\te\n",
+            b"model\ttraces=1\tdays=1\tsegments=2\ttasks=2\thb=1\tmx=0\tpipe=0\n\
+                hb\ta\ts\te\tb\ts\te\n",
         ),
         (
             "model",
             &[&TOUCHING, &OPPOSITE],
-            b"model\ttraces=2\tdays=1\tsegments=2\ttasks=2\thb=0\tmx=1\tpipe=0\nmx\ta\ts\te\tb\ts\te\n",
+            b"model\ttraces=2\tdays=1\tsegments=2\ttasks=2\thb=0\tmx=1\tpipe=0\n\
+                mx\ta\ts\te\tb\ts\te\n",
         ),
         (
             "model",
@@ -110,7 +111,8 @@ fn relations_survive_or_are_refuted(rt: HostRuntime) -> Result<(), Fail> {
         (
             "model",
             &[&WITHOUT_DURATION],
-            b"model\ttraces=1\tdays=1\tsegments=2\ttasks=2\thb=2\tmx=0\tpipe=0\nhb\ta\ts\te\tb\ts\te\nhb\tb\ts\te\ta\ts\te\n",
+            b"model\ttraces=1\tdays=1\tsegments=2\ttasks=2\thb=2\tmx=0\tpipe=0\n\
+                hb\ta\ts\te\tb\ts\te\nhb\tb\ts\te\ta\ts\te\n",
         ),
         (
             "model",
@@ -120,44 +122,45 @@ fn relations_survive_or_are_refuted(rt: HostRuntime) -> Result<(), Fail> {
         (
             "model",
             &[&PIPELINE],
-            b"model\ttraces=1\tdays=1\tsegments=4\ttasks=2\thb=6\tmx=0\tpipe=1\nhb\tt\tx@d\tx@e\tt\tx@e\tz\nhb\tt\tx@d\tx@e\tu\ty@d\ty@e\nhb\tt\tx@d\tx@e\tu\ty@e\tw\nhb\tt\tx@e\tz\tu\ty@d\ty@e\nhb\tt\tx@e\tz\tu\ty@e\tw\nhb\tu\ty@d\ty@e\tu\ty@e\tw\npipe\tt\tu\n",
+            b"model\ttraces=1\tdays=1\tsegments=4\ttasks=2\thb=6\tmx=0\tpipe=1\n\
+                hb\tt\tx@d\tx@e\tt\tx@e\tz\nhb\tt\tx@d\tx@e\tu\ty@d\ty@e\n\
+                hb\tt\tx@d\tx@e\tu\ty@e\tw\nhb\tt\tx@e\tz\tu\ty@d\ty@e\nhb\tt\tx@e\tz\tu\ty@e\tw\n\
+                hb\tu\ty@d\ty@e\tu\ty@e\tw\npipe\tt\tu\n",
         ),
         (
             "model",
             &[&PIPELINE, &OTHER_ORDER],
-            b"model\ttraces=2\tdays=1\tsegments=6\ttasks=2\thb=11\tmx=0\tpipe=0\nhb\tt\tx@d\tx@e\tt\tx@e\tz\nhb\tt\tx@d\tx@e\tu\ty@d\tw\nhb\tt\tx@d\tx@e\tu\ty@d\ty@e\nhb\tt\tx@d\tx@e\tu\ty@e\tw\nhb\tt\tx@d\tx@e\tu\ty@e\ty@d\nhb\tt\tx@e\tz\tu\ty@d\tw\nhb\tt\tx@e\tz\tu\ty@d\ty@e\nhb\tt\tx@e\tz\tu\ty@e\tw\nhb\tt\tx@e\tz\tu\ty@e\ty@d\nhb\tu\ty@d\ty@e\tu\ty@e\tw\nhb\tu\ty@e\ty@d\tu\ty@d\tw\n",
+            b"model\ttraces=2\tdays=1\tsegments=6\ttasks=2\thb=11\tmx=0\tpipe=0\n\
+                hb\tt\tx@d\tx@e\tt\tx@e\tz\nhb\tt\tx@d\tx@e\tu\ty@d\tw\n\
+                hb\tt\tx@d\tx@e\tu\ty@d\ty@e\nhb\tt\tx@d\tx@e\tu\ty@e\tw\n\
+                hb\tt\tx@d\tx@e\tu\ty@e\ty@d\nhb\tt\tx@e\tz\tu\ty@d\tw\n\
+                hb\tt\tx@e\tz\tu\ty@d\ty@e\nhb\tt\tx@e\tz\tu\ty@e\tw\nhb\tt\tx@e\tz\tu\ty@e\ty@d\n\
+                hb\tu\ty@d\ty@e\tu\ty@e\tw\nhb\tu\ty@e\ty@d\tu\ty@d\tw\n",
         ),
         (
             "model",
             &[&[ONE_MICROSECOND], &TOUCHING, &OPPOSITE, &OVERLAP],
-            b"model\ttraces=3\tdays=1\tsegments=2\ttasks=2\thb=0\tmx=1\tpipe=0\nmx\ta\ts\te\tb\ts\te\n",
+            b"model\ttraces=3\tdays=1\tsegments=2\ttasks=2\thb=0\tmx=1\tpipe=0\n\
+                mx\ta\ts\te\tb\ts\te\n",
         ),
         (
             "model",
             &[&[TEN_MICROSECONDS], &INSIDE],
-            b"model\ttraces=1\tdays=1\tsegments=2\ttasks=2\thb=1\tmx=0\tpipe=0\nhb\tb\ts\te\ta\ts\te\n",
+            b"model\ttraces=1\tdays=1\tsegments=2\ttasks=2\thb=1\tmx=0\tpipe=0\n\
+                hb\tb\ts\te\ta\ts\te\n",
         ),
     ];
-    for (view, pieces, out) in table {
-        let f = input_of(alloc, pieces)?;
-        let setting = Setting {
-            words: &[view, "f"],
-            f: &f,
-            ..SETTING
-        };
-        expect(&rt, alloc, setting, 0, out, b"")?;
-    }
-    Ok(())
+    expect_texts(&rt, rt.alloc(), "4", &table)
 }
 
 #[test]
 fn paths_slacks_and_graphs_are_printed(rt: HostRuntime) -> Result<(), Fail> {
-    let alloc = rt.alloc();
-    let table: [(&str, &[&[Row<'_>]], &[u8]); 12] = [
+    let table: [Printed<'_>; 13] = [
         (
             "graph",
             &[&WITHOUT_DURATION],
-            b"graph\ttraces=1\ntrace\tr1\t0\t0\t2\t1\nvertex\t0\ta\ts\te\t0\nvertex\t1\tb\ts\te\t0\nedge\t0\t1\n",
+            b"graph\ttraces=1\ntrace\tr1\t0\t0\t2\t1\nvertex\t0\ta\ts\te\t0\n\
+                vertex\t1\tb\ts\te\t0\nedge\t0\t1\n",
         ),
         (
             "paths",
@@ -172,57 +175,68 @@ fn paths_slacks_and_graphs_are_printed(rt: HostRuntime) -> Result<(), Fail> {
         (
             "slack",
             &[&BRANCHES],
-            b"slack\ttraces=1\ntrace\tr1\t0\t18000\t18000\nsegment\ta\ts\te\t5000\t0\nsegment\tc\ts\te\t4000\t6000\nsegment\tb\ts\te\t10000\t0\nsegment\td\ts\te\t3000\t0\n",
+            b"slack\ttraces=1\ntrace\tr1\t0\t18000\t18000\nsegment\ta\ts\te\t5000\t0\n\
+                segment\tc\ts\te\t4000\t6000\nsegment\tb\ts\te\t10000\t0\n\
+                segment\td\ts\te\t3000\t0\n",
         ),
         (
             "paths",
             &[&BRANCHES],
-            b"paths\ttraces=1\npath\tr1\t0\t18000\t18000\t3\nstep\ta\ts\te\t5000\nstep\tb\ts\te\t10000\nstep\td\ts\te\t3000\n",
+            b"paths\ttraces=1\npath\tr1\t0\t18000\t18000\t3\nstep\ta\ts\te\t5000\n\
+                step\tb\ts\te\t10000\nstep\td\ts\te\t3000\n",
         ),
         (
             "graph",
             &[&BRANCHES],
-            b"graph\ttraces=1\ntrace\tr1\t0\t18000\t4\t4\nvertex\t0\ta\ts\te\t5000\nvertex\t1\tc\ts\te\t4000\nvertex\t2\tb\ts\te\t10000\nvertex\t3\td\ts\te\t3000\nedge\t0\t1\nedge\t0\t2\nedge\t1\t3\nedge\t2\t3\n",
+            b"graph\ttraces=1\ntrace\tr1\t0\t18000\t4\t4\nvertex\t0\ta\ts\te\t5000\n\
+                vertex\t1\tc\ts\te\t4000\nvertex\t2\tb\ts\te\t10000\nvertex\t3\td\ts\te\t3000\n\
+                edge\t0\t1\nedge\t0\t2\nedge\t1\t3\nedge\t2\t3\n",
         ),
         (
             "paths",
             &[&EQUAL_BRANCHES],
-            b"paths\ttraces=1\npath\tr1\t0\t18000\t18000\t3\nstep\ta\ts\te\t5000\nstep\tb\ts\te\t10000\nstep\td\ts\te\t3000\n",
+            b"paths\ttraces=1\npath\tr1\t0\t18000\t18000\t3\nstep\ta\ts\te\t5000\n\
+                step\tb\ts\te\t10000\nstep\td\ts\te\t3000\n",
         ),
         (
             "slack",
             &[&EQUAL_BRANCHES],
-            b"slack\ttraces=1\ntrace\tr1\t0\t18000\t18000\nsegment\ta\ts\te\t5000\t0\nsegment\tb\ts\te\t10000\t0\nsegment\tc\ts\te\t10000\t0\nsegment\td\ts\te\t3000\t0\n",
+            b"slack\ttraces=1\ntrace\tr1\t0\t18000\t18000\nsegment\ta\ts\te\t5000\t0\n\
+                segment\tb\ts\te\t10000\t0\nsegment\tc\ts\te\t10000\t0\n\
+                segment\td\ts\te\t3000\t0\n",
         ),
         (
             "graph",
             &[&EQUAL_BRANCHES],
-            b"graph\ttraces=1\ntrace\tr1\t0\t18000\t4\t4\nvertex\t0\ta\ts\te\t5000\nvertex\t1\tb\ts\te\t10000\nvertex\t2\tc\ts\te\t10000\nvertex\t3\td\ts\te\t3000\nedge\t0\t1\nedge\t0\t2\nedge\t1\t3\nedge\t2\t3\n",
+            b"graph\ttraces=1\ntrace\tr1\t0\t18000\t4\t4\nvertex\t0\ta\ts\te\t5000\n\
+                vertex\t1\tb\ts\te\t10000\nvertex\t2\tc\ts\te\t10000\nvertex\t3\td\ts\te\t3000\n\
+                edge\t0\t1\nedge\t0\t2\nedge\t1\t3\nedge\t2\t3\n",
         ),
         (
             "paths",
             &[&TURNED],
-            b"paths\ttraces=1\npath\tr1\t0\t18000\t18000\t3\nstep\ta\ts\te\t5000\nstep\tc\ts\te\t10000\nstep\td\ts\te\t3000\n",
+            b"paths\ttraces=1\npath\tr1\t0\t18000\t18000\t3\nstep\ta\ts\te\t5000\n\
+                step\tc\ts\te\t10000\nstep\td\ts\te\t3000\n",
+        ),
+        (
+            "slack",
+            &[&TURNED],
+            b"slack\ttraces=1\ntrace\tr1\t0\t18000\t18000\nsegment\ta\ts\te\t5000\t0\n\
+                segment\tc\ts\te\t10000\t0\nsegment\tb\ts\te\t10000\t0\n\
+                segment\td\ts\te\t3000\t0\n",
         ),
         (
             "paths",
             &[&[TEN_MICROSECONDS], &INSIDE],
-            b"paths\ttraces=1\npath\tr1\t0\t100000\t104000\t2\nstep\ta\ts\te\t100000\nstep\tb\ts\te\t4000\n",
+            b"paths\ttraces=1\npath\tr1\t0\t100000\t104000\t2\nstep\ta\ts\te\t100000\n\
+                step\tb\ts\te\t4000\n",
         ),
         (
             "paths",
             &[&BOTH_UNITS],
-            b"paths\ttraces=1\npath\tr1\t0\t2500\t2000\t2\nstep\ta\ts\te\t1500\nstep\tb\ts\te\t500\n",
+            b"paths\ttraces=1\npath\tr1\t0\t2500\t2000\t2\nstep\ta\ts\te\t1500\n\
+                step\tb\ts\te\t500\n",
         ),
     ];
-    for (view, pieces, out) in table {
-        let f = input_of(alloc, pieces)?;
-        let setting = Setting {
-            words: &[view, "f"],
-            f: &f,
-            ..SETTING
-        };
-        expect(&rt, alloc, setting, 0, out, b"")?;
-    }
-    Ok(())
+    expect_texts(&rt, rt.alloc(), "4", &table)
 }

@@ -1,5 +1,5 @@
 use super::rows::{ADD, OPPOSITE, Row, TOUCHING, input_of};
-use super::{ROOM, mem_file, texts};
+use super::{Printed, ROOM, expect_texts, mem_file, texts};
 use crate::run;
 use Row::{Event, Line};
 use mystery_io::{Gate, MemFiles, MemSink};
@@ -24,7 +24,18 @@ const SWAPPED: [Row<'static>; 4] = [
     Event("r4", "a", "e", "9"),
 ];
 
+const NEXT_DAY: [Row<'static>; 4] = [
+    Event("r5", "a", "s", "86400000000"),
+    Event("r5", "a", "e", "86400000010"),
+    Event("r5", "b", "s", "86400000010"),
+    Event("r5", "b", "e", "86400000030"),
+];
+
 const WATCH_EACH: [Row<'static>; 1] = [Line("{\"do\":\"watch\",\"every\":1}")];
+
+const WATCH_THIRD: [Row<'static>; 1] = [Line("{\"do\":\"watch\",\"every\":3}")];
+
+const WATCH_NONE: [Row<'static>; 1] = [Line("{\"do\":\"watch\",\"every\":0}")];
 
 /// Waits for a turn that another worker marks, for so many rounds. Answers whether it came.
 fn comes(turn: &AtomicU64) -> bool {
@@ -170,4 +181,26 @@ fn a_reading_sees_what_the_other_worker_offered(rt: HostRuntime) -> Result<(), F
         b"watch\t0\t0\t1\t3\nwatch\t0\t0\t2\t3\nwatch\t0\t1\t1\t2\nwatch\t0\t1\t2\t3\n".as_slice()
     );
     Ok(())
+}
+
+#[test]
+fn watch_rows_stand_where_a_worker_has_enough_traces_of_a_day(rt: HostRuntime) -> Result<(), Fail> {
+    let table: [Printed<'_>; 3] = [
+        (
+            "session",
+            &[&WATCH_THIRD, &TOUCHING, &OPPOSITE, &NEXT_DAY, &[ADD]],
+            b"",
+        ),
+        (
+            "session",
+            &[&WATCH_EACH, &WATCH_NONE, &TOUCHING, &[ADD]],
+            b"",
+        ),
+        (
+            "session",
+            &[&WATCH_EACH, &TOUCHING, &NEXT_DAY, &[ADD]],
+            b"watch\t0\t0\t1\t2\nwatch\t1\t0\t1\t2\n",
+        ),
+    ];
+    expect_texts(&rt, rt.alloc(), "1", &table)
 }
