@@ -53,6 +53,7 @@ pub(crate) fn read_jobs(
     good_lines_are_built();
     jobs_are_ready();
     let mut lines = read_lines(alloc, &input)?;
+    drop(input);
     push_further(&mut lines, view)?;
     Ok(jobs(alloc, lines)?)
 }

@@ -63,7 +63,7 @@ pub(crate) const SETTING: Setting<'static> = Setting {
     err_failing: 0,
 };
 
-/// Runs over files and sinks in memory and compares the status and what was written.
+/// Runs with the arguments of the setting and compares the status and what was written.
 pub(crate) fn expect<R: Threads + Sync + Abort>(
     rt: &R,
     alloc: Global,
@@ -73,6 +73,20 @@ pub(crate) fn expect<R: Threads + Sync + Abort>(
     err: &[u8],
 ) -> Result<(), Fail> {
     let words = texts(alloc, setting.words)?;
+    expect_run(rt, alloc, &words, setting, status, out, err)
+}
+
+/// Runs with these arguments over files and sinks in memory and compares the status and what was
+/// written.
+fn expect_run<R: Threads + Sync + Abort>(
+    rt: &R,
+    alloc: Global,
+    words: &[Text],
+    setting: Setting<'_>,
+    status: u8,
+    out: &[u8],
+    err: &[u8],
+) -> Result<(), Fail> {
     let mut all = Vec::new(alloc);
     all.push(mem_file(alloc, "f", setting.f)?)?;
     all.push(mem_file(alloc, "g", setting.g)?)?;
@@ -88,7 +102,7 @@ pub(crate) fn expect<R: Threads + Sync + Abort>(
     let got = run(
         rt,
         alloc,
-        &words,
+        words,
         &mut files,
         &mut to_out,
         &mut to_err,
@@ -103,6 +117,15 @@ pub(crate) fn expect<R: Threads + Sync + Abort>(
 /// What is printed: the command, the pieces of the input, and the text.
 pub(crate) type Printed<'t> = (&'t str, &'t [&'t [Row<'t>]], &'t [u8]);
 
+/// Makes the arguments of a command over the file `f` with so many workers.
+fn words_of(alloc: Global, workers: &str, command: &str) -> Result<Vec<Text>, AllocError> {
+    let mut words = texts(alloc, &["--workers"])?;
+    words.push(Text::new(alloc, workers)?)?;
+    words.push(Text::new(alloc, command)?)?;
+    words.push(Text::new(alloc, "f")?)?;
+    Ok(words)
+}
+
 /// Runs each command with so many workers over its input and compares the text.
 pub(crate) fn expect_texts<R: Threads + Sync + Abort>(
     rt: &R,
@@ -111,13 +134,10 @@ pub(crate) fn expect_texts<R: Threads + Sync + Abort>(
     table: &[Printed<'_>],
 ) -> Result<(), Fail> {
     for (command, pieces, out) in table {
+        let words = words_of(alloc, workers, command)?;
         let f = input_of(alloc, pieces)?;
-        let setting = Setting {
-            words: &["--workers", workers, command, "f"],
-            f: &f,
-            ..SETTING
-        };
-        expect(rt, alloc, setting, 0, out, b"")?;
+        let setting = Setting { f: &f, ..SETTING };
+        expect_run(rt, alloc, &words, setting, 0, out, b"")?;
     }
     Ok(())
 }
