@@ -3,7 +3,7 @@ use Rattle.std.proofs.Common.{◌≡◌, ℕ, zero, suc, ◌+◌, ◌*◌, ◌�
 use Rattle.std.specs.Prelude.{All}
 use Rattle.std.proofs.lemmas.List.Elements.{All-cons}
 use Rattle.std.specs.Option.{option_map_or}
-use Rattle.std.specs.Result.{result_map_both, result_flatten}
+use Rattle.std.specs.Result.{result_map_both}
 use Rattle.std.proofs.lemmas.Bool.{ltb-false}
 use Rattle.serde_json.specs.Data.{Data}
 use Rattle.serde_json.specs.Find.{as_object}
@@ -11,14 +11,14 @@ use Rattle.event_lines.specs.declared.line.Line.{Line}
 use Rattle.event_lines.specs.declared.line.Line.TheVariants.{Event, Control}
 use Rattle.event_lines.specs.declared.command.Command.{Command}
 use Rattle.event_lines.specs.declared.why.Why.{Why}
-use Rattle.event_lines.specs.declared.why.Why.TheVariants.{NotJson, Missing, WrongKind, OutOfRange, NotBuilt}
+use Rattle.event_lines.specs.declared.why.Why.TheVariants.{NotJson, Missing, WrongKind, OutOfRange}
 use Rattle.event_lines.specs.declared.time_unit.TimeUnit.{TimeUnit}
 use Rattle.event_lines.specs.declared.time_unit.TimeUnit.TheVariants.{Microseconds, Nanoseconds}
 use Rattle.event_lines.specs.Cut.{input_lines, is_blank_line}
 use Rattle.event_lines.specs.GoodLines.{line_number, NumbersRise, IsTimely, IsLimited}
-use Rattle.event_lines.specs.Commands.{command_result, is_built}
+use Rattle.event_lines.specs.Commands.{command_result}
 use Rattle.event_lines.specs.EventFaults.{event_line_fault, time_name, lacks_member, has_wrong_kind, is_out_of_range}
-use Rattle.event_lines.specs.LineResults.{line_event, event_line_result, built_line, control_line_result, object_result, value_result, line_result, json_value}
+use Rattle.event_lines.specs.LineResults.{line_event, event_line_result, control_line_result, object_result, value_result, line_result, json_value}
 use Rattle.event_lines.specs.Members.{has_member, number_at}
 use Rattle.event_lines.specs.TimeUnits.{time_unit_of, latest_in, nanoseconds_in}
 use Rattle.event_lines.specs.InputLines.{LineFault, lines_said_from, lines_said}
@@ -59,15 +59,11 @@ good_event n d line said = by (event_line_fault d) refl
         })
 
 good_command : (n : ℕ) (d : Data) (line : Line) (command : Result Command Why) → command_result d ≡ command
-    → result_flatten (result_map_both (built_line n) (λ why. why) command) ≡ Ok line → IsGood n line
+    → result_map_both (λ command. Control n command) (λ why. why) command ≡ Ok line → IsGood n line
 good_command n d line (Err why) is said = absurd (cc said)
-good_command n d line (Ok command) is said = by (is_built command) said
-  where
-    by : (b : Bool) → (if b then Ok (Control n command) else Err NotBuilt) ≡ Ok line → IsGood n line
-    by false h = absurd (cc h)
-    by true h =
-        let same : Control n command ≡ line = cc in
-        subst (IsGood n) same (record { numbered = refl; timely = tt; limited = command_small d command is })
+good_command n d line (Ok command) is said =
+    let same : Control n command ≡ line = cc in
+    subst (IsGood n) same (record { numbered = refl; timely = tt; limited = command_small d command is })
 
 good_object : (n : ℕ) (d : Data) (line : Line) → object_result n d ≡ Ok line → IsGood n line
 good_object n d line said = by (has_member (codes "do") d) said

@@ -2,7 +2,6 @@ pub mod BatchLemmas
 pub mod CommandLemmas
 pub mod ConvertingLemmas
 pub mod CutLemmas
-pub mod EventsAloneLemmas
 pub mod FlatEventLemmas
 pub mod FlatReadingLemmas
 pub mod GoodLineLemmas

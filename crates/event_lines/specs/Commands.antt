@@ -1,5 +1,5 @@
 -- The commands of control lines: an object with the member do is one.
-use Rattle.std.specs.Prelude.{ℕ, List, [], ◌∷◌, codes, Bool, true, false, not, nat_lt, find}
+use Rattle.std.specs.Prelude.{ℕ, List, [], ◌∷◌, codes, not, nat_lt, find}
 use Rattle.std.specs.Prelude.{if◌then◌else◌, Option, Some, None, Result, Ok, Err}
 use Rattle.std.specs.Option.{option_map_or}
 use Rattle.std.specs.Result.{result_map_both}
@@ -77,16 +77,3 @@ named_result d name =
 -- the command of a control line, or the first reason that the line is bad
 abbrev pub command_result : Data → Result Command Why
 command_result d = option_map_or (named_result d) (text_at (codes "do") d) (Err WrongKind)
-
--- the command is carried out; a report is not, so far
-abbrev pub is_built : Command → Bool
-is_built Add = true
-is_built (Drop day) = true
-is_built (Keep days) = true
-is_built (Watch every) = true
-is_built (Grace micros) = true
-is_built Model = true
-is_built Paths = true
-is_built Slack = true
-is_built Report = false
-is_built Graph = true

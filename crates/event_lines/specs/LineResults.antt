@@ -2,20 +2,19 @@
 use Rattle.std.specs.Prelude.{ℕ, ◌*◌, List, [], codes, if◌then◌else◌}
 use Rattle.std.specs.Prelude.{Option, None, is_some, unwrap_or, Result, Ok, Err}
 use Rattle.std.specs.Option.{option_map_or}
-use Rattle.std.specs.Result.{result_map_both, result_flatten}
+use Rattle.std.specs.Result.{result_map_both}
 use Rattle.std.specs.Str.{is_utf8}
 use Rattle.serde_json.specs.Data.{Data}
 use Rattle.serde_json.specs.Read.{read}
 use Rattle.serde_json.specs.Find.{as_object}
 use Rattle.trace_types.specs.declared.event.Event as events
 use Rattle.event_lines.specs.declared.why.Why.{Why}
-use Rattle.event_lines.specs.declared.why.Why.TheVariants.{NotJson, NotBuilt}
+use Rattle.event_lines.specs.declared.why.Why.TheVariants.{NotJson}
 use Rattle.event_lines.specs.declared.line.Line.{Line}
 use Rattle.event_lines.specs.declared.line.Line.TheVariants.{Event, Control}
-use Rattle.event_lines.specs.declared.command.Command.{Command}
 use Rattle.event_lines.specs.Members.{has_member, text_at, number_at}
 use Rattle.event_lines.specs.TimeUnits.{time_unit_of, nanoseconds_in}
-use Rattle.event_lines.specs.Commands.{command_result, is_built}
+use Rattle.event_lines.specs.Commands.{command_result}
 use Rattle.event_lines.specs.EventFaults.{time_name, event_line_fault}
 
 -- the event of line n, where the line has no fault
@@ -35,14 +34,10 @@ line_event n d = record {
 abbrev pub event_line_result : ℕ → Data → Result Line Why
 event_line_result n d = option_map_or Err (event_line_fault d) (Ok (Event (line_event n d)))
 
--- the line of a command, where it is carried out
-abbrev pub built_line : ℕ → Command → Result Line Why
-built_line n command = if is_built command then Ok (Control n command) else Err NotBuilt
-
 -- what a control line says
 abbrev pub control_line_result : ℕ → Data → Result Line Why
 control_line_result n d =
-    result_flatten (result_map_both (built_line n) (λ why. why) (command_result d))
+    result_map_both (λ command. Control n command) (λ why. why) (command_result d)
 
 -- what an object says: with the member do it is a control line, and otherwise an event line
 abbrev pub object_result : ℕ → Data → Result Line Why

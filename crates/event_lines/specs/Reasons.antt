@@ -2,7 +2,7 @@
 use Rattle.std.specs.Prelude.{ℕ, List, codes}
 use Rattle.event_lines.specs.declared.why.Why.{Why}
 use Rattle.event_lines.specs.declared.why.Why.TheVariants.{NotJson, Missing, WrongKind, OutOfRange}
-use Rattle.event_lines.specs.declared.why.Why.TheVariants.{BadText, UnknownCommand, NotBuilt}
+use Rattle.event_lines.specs.declared.why.Why.TheVariants.{BadText, UnknownCommand}
 
 -- the text in which a reason is printed
 abbrev pub why_text : Why → List ℕ
@@ -12,4 +12,3 @@ why_text WrongKind = codes "wrong kind"
 why_text OutOfRange = codes "out of range"
 why_text BadText = codes "bad text"
 why_text UnknownCommand = codes "unknown command"
-why_text NotBuilt = codes "not built"

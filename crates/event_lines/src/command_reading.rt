@@ -1,6 +1,6 @@
 ghost use Rattle.std.specs.Prelude.{◌≡◌};
 ghost use Rattle.serde_json.specs.View.{view};
-ghost use Rattle.event_lines.specs.Commands.{number_result, named_result, is_built};
+ghost use Rattle.event_lines.specs.Commands.{number_result, named_result};
 
 use crate::object_members::{as_whole_number, member};
 use crate::{Command, Why};
@@ -44,11 +44,4 @@ pub(crate) fn read_command(value: &Value, name: &str) -> Result<Command, Why>
         "graph" => Ok(Command::Graph),
         _ => Err(Why::UnknownCommand),
     }
-}
-
-/// Tells whether the command is carried out; a report is not, so far.
-pub(crate) fn is_built(command: Command) -> bool
-    ensures { result ≡ is_built command }
-{
-    !matches!(command, Command::Report)
 }

@@ -6,7 +6,6 @@ mod blank_lines;
 mod command;
 mod command_reading;
 mod event_fields;
-mod event_input;
 mod flat_lines;
 mod gathering;
 mod line;
@@ -21,7 +20,6 @@ mod why;
 
 pub use blank_lines::is_blank_line;
 pub use command::Command;
-pub use event_input::read_event_lines;
 pub use gathering::gather;
 pub use line::Line;
 pub use line_error::LineError;

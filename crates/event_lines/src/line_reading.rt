@@ -6,7 +6,7 @@ ghost use Rattle.event_lines.specs.LineResults.{json_value, control_line_result,
 ghost use Rattle.event_lines.specs.LineResults.{object_result, line_result};
 ghost use Rattle.event_lines.specs.inner.Fields.{AreFields};
 
-use crate::command_reading::{is_built, read_command};
+use crate::command_reading::read_command;
 use crate::event_fields::EventFields;
 use crate::flat_lines::flat_fields;
 use crate::object_members::as_text;
@@ -31,15 +31,10 @@ fn read_control_line(number: u32, value: &Value, name: &Value) -> Result<Line, W
     requires { get (codes "do") (view value.now) ≡ Some (view name.now) }
     ensures { result ≡ control_line_result number (view value.now) }
 {
-    let command = read_command(value, as_text(name)?)?;
-    if is_built(command) {
-        Ok(Line::Control {
-            line: number,
-            command,
-        })
-    } else {
-        Err(Why::NotBuilt)
-    }
+    Ok(Line::Control {
+        line: number,
+        command: read_command(value, as_text(name)?)?,
+    })
 }
 
 /// Makes the event of a line with these fields, unless one of its texts is bad.

@@ -16,9 +16,6 @@ pub enum Why {
     BadText,
     /// A control line names no command.
     UnknownCommand,
-    /// The line is an otherwise good control line that asks for a report. Nothing carries it out
-    /// yet.
-    NotBuilt,
 }
 
 impl Why {
@@ -34,7 +31,6 @@ impl Why {
             Why::OutOfRange => "out of range",
             Why::BadText => "bad text",
             Why::UnknownCommand => "unknown command",
-            Why::NotBuilt => "not built",
         }
     }
 }

@@ -1,5 +1,5 @@
 use super::fault_of;
-use crate::{Command, Line, LineError, is_blank_line, read_event_lines, read_lines};
+use crate::{Command, Line, is_blank_line, read_lines};
 use std::alloc::Global;
 use std::test::Fail;
 
@@ -37,12 +37,10 @@ out of range|{"do":"watch","every":-9223372036854775808}
 out of range|{"do":"watch","every":1000001}
 out of range|{"do":"grace","micros":-1}
 out of range|{"do":"grace","micros":18446744073709551615}
-not built|{"do":"report"}
-not built|{"do":"report","day":-1,"request":5}
 "#;
 
 /// Good control lines, and their commands.
-pub(crate) const GOOD: [(&str, Command); 18] = [
+pub(crate) const GOOD: [(&str, Command); 20] = [
     (r#"{"do":"add"}"#, Command::Add),
     (r#" { "do" : "add" } "#, Command::Add),
     (r#"{"do":"\u0061dd","day":-1}"#, Command::Add),
@@ -70,6 +68,8 @@ pub(crate) const GOOD: [(&str, Command); 18] = [
     (r#"{"do":"model","time":-1}"#, Command::Model),
     (r#"{"do":"paths"}"#, Command::Paths),
     (r#"{"do":"slack"}"#, Command::Slack),
+    (r#"{"do":"report"}"#, Command::Report),
+    (r#"{"do":"report","day":-1,"request":5}"#, Command::Report),
     (r#"{"do":"graph"}"#, Command::Graph),
     (
         r#"{"request":"r1","machine":"m","task":"a","event":"s","time":0,"do":"graph"}"#,
@@ -90,18 +90,6 @@ fn command_of(alloc: Global, bytes: &[u8]) -> Option<(u32, Command)> {
     }
 }
 
-/// Reads a short input as events alone: its number of lines, or its first fault.
-fn events_of(alloc: Global, bytes: &[u8]) -> Result<usize, Option<(u32, &'static str)>> {
-    if bytes.len() > 1000 {
-        return Err(None);
-    }
-    match read_event_lines(alloc, bytes) {
-        Ok(lines) => Ok(lines.len()),
-        Err(LineError::Memory) => Err(None),
-        Err(LineError::Bad { line, why }) => Err(Some((line, why.as_str()))),
-    }
-}
-
 #[test]
 fn a_bad_control_line_has_the_first_reason_that_holds(rt: HostRuntime) -> Result<(), Fail> {
     let mut rows = 0usize;
@@ -112,7 +100,7 @@ fn a_bad_control_line_has_the_first_reason_that_holds(rt: HostRuntime) -> Result
             assert_eq!(rt; found, (1, reason), "{line}");
         }
     }
-    assert_eq!(rt; rows, 34);
+    assert_eq!(rt; rows, 32);
     Ok(())
 }
 
@@ -141,27 +129,6 @@ fn events_and_commands_keep_the_order_and_the_numbers_of_their_lines(
     }
     let told = told.join(rt.alloc(), ",")?;
     assert_eq!(rt; told.as_str(), "1 Watch { every: 2 },3 x@d,5 Add,6 Model");
-    Ok(())
-}
-
-#[test]
-fn only_events_without_an_at_sign_are_built_for_a_program_of_events(
-    rt: HostRuntime,
-) -> Result<(), Fail> {
-    let event =
-        "{\"request\":\"r\",\"machine\":\"m@\",\"task\":\"t\",\"event\":\"x\",\"time\":3}\n";
-    let element =
-        "{\"request\":\"r\",\"machine\":\"m\",\"task\":\"t\",\"event\":\"x@d\",\"time\":3}\n";
-    let add = "{\"do\":\"add\"}\n";
-    for (lines, told) in [
-        (["\n", event, event], Ok(2)),
-        (["\n", event, add], Err(Some((3, "not built")))),
-        ([event, element, add], Err(Some((2, "not built")))),
-        ([add, "[]\n", element], Err(Some((2, "not a JSON object")))),
-    ] {
-        let input = lines.as_slice().concat(rt.alloc())?;
-        assert_eq!(rt; events_of(rt.alloc(), input.as_bytes()), told, "{input}");
-    }
     Ok(())
 }
 
