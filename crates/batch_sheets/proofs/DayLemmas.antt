@@ -4,16 +4,19 @@ use Rattle.std.specs.declared.cmp.Ordering.{Ordering}
 use Rattle.std.specs.declared.cmp.Ordering.TheVariants.{Less, Equal, Greater}
 use Rattle.std.specs.Cmp.{nat_cmp_is}
 use Rattle.std.specs.List.{dedup}
-use Rattle.std.specs.List.Sorted.{IsSorted}
-use Rattle.std.specs.Ordering.{nat_cmp}
-use Rattle.std.specs.Prelude.{IsPermutation, nat_eq}
-use Rattle.std.proofs.lemmas.List.{take_all}
+use Rattle.std.specs.List.Sorted.{IsSorted, IsNonDecreasingBy, IsSearchInRange, IsBinarySearchResult}
+use Rattle.std.specs.Ordering.{nat_cmp, ordering_index}
+use Rattle.std.specs.Prelude.{IsPermutation, nat_eq, Result, Ok, Err, IfSome, IfNone}
+use Rattle.std.specs.Result.{result_ok}
+use Rattle.std.proofs.lemmas.Cmp.{ranked}
+use Rattle.std.proofs.lemmas.Bool.Decides.{nat_tests}
+use Rattle.std.proofs.lemmas.List.{take_all, length-map, get_or-map}
 use Rattle.std.proofs.lemmas.List.Elements.{All-contains_itself}
 use Rattle.std.proofs.lemmas.List.Kept.{AllPairs-from_increasing, Contains-dedup_nat, Contains-from_dedup}
 use Rattle.std.proofs.lemmas.List.Sorted.{Contains-permutation, IsPermutation-sym}
 use Rattle.std.proofs.lemmas.Map.Keys.{IsStrictlyIncreasing-dedup}
 use Rattle.trace_types.specs.Listing.{ListsExactly}
-use Rattle.std.proofs.lemmas.Bool.{eq-eqb, ne_eqb, cond-true, cond-false, cases_eq}
+use Rattle.std.proofs.lemmas.Bool.{eq-eqb, ne_eqb, cond-true, cond-false, cases_eq, cases_lt}
 use Rattle.std.proofs.lemmas.List.Elements.{All-nil, All-cons, All-head, All-tail, All-weaker, filter-append}
 use Rattle.trace_types.specs.declared.named_trace.NamedTrace.{NamedTrace}
 use Rattle.kept_books.specs.Shown.{named_on}
@@ -111,6 +114,39 @@ days_listed traces i days sorted once le is moved rises made = rw made (record {
 
 pub days_differ : (days : List ℕ) → AllPairs (λ x y. nat_cmp x y ≡ Less) days → AllPairs (λ x y. x ≢ y) days
 days_differ days p j k d l m = less_differ (get_or days j d) (get_or days k d) (p j k d l m)
+
+-- ---- the list of a day among lists whose days rise
+compared : (a b day : ℕ) → a ≤ b → ordering_index (nat_cmp a day) ≤ ordering_index (nat_cmp b day)
+compared a b day le = grind (arith, nat_tests)
+
+-- a search by halves finds the list of a day, where there is one
+pub searched : (ss : List DayTraces) (day : ℕ) → IsNonDecreasingBy split_day ss → (r : Result ℕ ℕ) → IsSearchInRange r (length ss) → IsBinarySearchResult (λ (s : DayTraces). nat_cmp s.day day) ss r
+    → record { some : IfSome (result_ok r) (λ place. (place < length ss) × ((d : DayTraces) → (get_or ss place d).day ≡ day)); none : IfNone (result_ok r) (All (λ (s : DayTraces). s.day ≢ day) ss) }
+searched ss day rising (Ok place) within equal = record { some = (within, λ d. ranked (get_or ss place d).day day Equal (sym (equal d))); none = tt }
+searched ss day rising (Err place) within parted =
+    let sides = parted (λ i j d le l. compared (get_or ss i d).day (get_or ss j d).day day (rising i j d le l)) in
+    record {
+      some = tt;
+      none = λ k d l same.
+          elim (cases_lt k place) [
+            | inl before ↦ let less : (get_or ss k d).day < day = ranked (get_or ss k d).day day Less (sym (sides.0 k d (omega arith) before)) in absurd (omega (arith, same, less))
+            | inr after ↦ let more : day < (get_or ss k d).day = ranked (get_or ss k d).day day Greater (sym (sides.1 k d (omega (arith, after)) l)) in absurd (omega (arith, same, more))
+          ];
+    }
+
+-- lists with the different days of traces have rising days
+pub days_rise : (days : List ℕ) (ss : List DayTraces) → AllPairs (λ x y. nat_cmp x y ≡ Less) days → map split_day ss ≡ days → IsNonDecreasingBy split_day ss
+days_rise days ss rising is i j d le l =
+    let long : length days ≡ length ss = ap length (sym is) ∙ length-map ss split_day in
+    let there : (k : ℕ) → k < length ss → get_or days k 0 ≡ (get_or ss k d).day = λ k m. ap (λ ds. get_or ds k 0) (sym is) ∙ get_or-map split_day ss k d 0 m in
+    elim (cases_lt i j) [
+      | inl before ↦
+          let less : get_or days i 0 < get_or days j 0 = ranked (get_or days i 0) (get_or days j 0) Less (sym (rising i j 0 before (omega (arith, l, long)))) in
+          omega (arith, less, there i (omega (arith, before, l)), there j l)
+      | inr after ↦
+          let same : i ≡ j = omega (arith, le, after) in
+          rw same (omega arith)
+    ]
 
 -- ---- one item among others
 pub all_middle : {X : Type 0} (P : X → Type 0) (done rest : List X) (x : X) → All P (done ++ x ∷ rest) → P x

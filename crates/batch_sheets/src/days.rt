@@ -1,5 +1,6 @@
 ghost use Rattle.std.specs.Prelude.{◌≡◌, ◌≢◌, ◌<◌, ◌++◌, ◌∷◌, [], ℕ, List, All, AllPairs, Contains};
 ghost use Rattle.std.specs.Prelude.{length, map, slice_index_or, IfOk, IfSome, IfNone, OnOk};
+ghost use Rattle.std.specs.List.Sorted.{IsNonDecreasingBy};
 ghost use Rattle.std.specs.Ordering.{nat_cmp};
 ghost use Rattle.trace_types.specs.Listing.{ListsExactly};
 ghost use Rattle.trace_types.specs.declared.named_trace.NamedTrace.{NamedTrace};
@@ -46,23 +47,20 @@ fn no_traces(alloc: Global, days: &[u32]) -> Result<Vec<DayTraces>, AllocError>
     Ok(split)
 }
 
-/// Finds the list of a day.
+/// Finds the list of a day, where the days of the lists rise.
 fn find_day(split: &[DayTraces], day: u32) -> Option<usize>
+    requires { IsNonDecreasingBy split_day split.now }
     ensures some { IfSome result (λ place. (place < length split.now)
         × ((d : DayTraces) → (slice_index_or split.now place d).day ≡ day)) }
     ensures none { IfNone result (All (λ (s : DayTraces). s.day ≢ day) split.now) }
 {
-    for place in 0..split.len() {
-        if split[place].day == day {
-            return Some(place);
-        }
-    }
-    None
+    split.binary_search_by_key(&day, |list| list.day).ok()
 }
 
-/// Appends a trace to those of its day.
+/// Appends a trace to those of its day, where the days of the lists rise.
 fn put_trace(split: &mut Vec<DayTraces>, trace: NamedTrace) -> Result<(), AllocError>
-    requires { Contains (map split_day split.old.items) trace.day }
+    requires rising { IsNonDecreasingBy split_day split.old.items }
+    requires listed { Contains (map split_day split.old.items) trace.day }
     ensures { OnOk result ((days : List ℕ) (named : List NamedTrace) → AllPairs (λ x y. x ≢ y) days
         → AreSplitSoFar days named split.old.items
         → AreSplitSoFar days (named ++ trace ∷ []) split.new.items) }

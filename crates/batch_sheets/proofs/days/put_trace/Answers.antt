@@ -5,7 +5,7 @@ use Rattle.batch_sheets.proofs.DayLemmas.{day_missing, put_more}
 use Rattle.batch_sheets.proofs.days.put_trace.Goals as goal
 
 pub unreachable-requires : goal.unreachable-requires
-unreachable-requires c = day_missing c.args.split.now.items c.args.trace.day (rw c.deref.ensures.value at c.in_default.ensures.none) c.requires
+unreachable-requires c = day_missing c.args.split.now.items c.args.trace.day (rw c.deref.ensures.value at c.in_default.ensures.none) c.requires.listed
 
 pub returns : goal.returns
 returns c days named p h =

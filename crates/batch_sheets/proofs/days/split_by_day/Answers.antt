@@ -2,15 +2,18 @@ use Rattle.std.proofs.Common.{◌≡◌, ◌∷◌, ◌++◌, [], ◌∙◌, Lis
 use Rattle.std.specs.Vec.Iter.{into_iter_items}
 use Rattle.trace_types.specs.declared.named_trace.NamedTrace.{NamedTrace}
 use Rattle.batch_sheets.specs.Splitting.{named_day}
-use Rattle.batch_sheets.proofs.DayLemmas.{days_differ, in_middle, split_done}
+use Rattle.batch_sheets.proofs.DayLemmas.{days_differ, days_rise, in_middle, split_done}
 use Rattle.batch_sheets.proofs.days.split_by_day.Goals as goal
 
 nothing_left : {X : Type 0} (xs : List X) → length xs ≡ 0 → xs ≡ []
 nothing_left [] h = refl
 nothing_left (x ∷ xs) h = absurd (omega arith)
 
-pub put_trace-requires : goal.put_trace-requires
-put_trace-requires c =
+pub put_trace-requires-clause-rising : goal.put_trace-requires-clause-rising
+put_trace-requires-clause-rising c = days_rise c.args.days.now c.loop-trace.split.items c.requires.rising c.loop-trace.invariant.split.each_day
+
+pub put_trace-requires-clause-listed : goal.put_trace-requires-clause-listed
+put_trace-requires-clause-listed c =
     let at = c.loop-trace in
     let trace = c.in-Some.trace in
     let steps : into_iter_items at.trace-iterator ≡ trace ∷ into_iter_items c.next.new.self = c.in-Some.ensures.steps.0 in
