@@ -1,0 +1,4 @@
+mod DrawLemmas
+mod LengthLemmas
+mod LineLemmas
+mod TraceLemmas

@@ -1,0 +1,4 @@
+pub mod Draws
+pub mod DrillInput
+pub mod InputLaws
+pub mod inner
