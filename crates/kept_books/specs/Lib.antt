@@ -1,2 +1,4 @@
 pub mod BookLaws
+pub mod GraphLaws
+pub mod NameLaws
 pub mod Shown

@@ -1,6 +1,13 @@
 //! Laws over the definitions alone: each function does nothing, and its contract is the law.
 ghost use Rattle.kept_books.specs.BookLaws.{DropShows, NewestShow, SheetsShow, DaysAreCounted};
 ghost use Rattle.kept_books.specs.BookLaws.{GrownShows};
+ghost use Rattle.kept_books.specs.GraphLaws.{GraphIsShown};
+ghost use Rattle.kept_books.specs.NameLaws.{NamesAreListed};
+
+use session_rules::KeptTrace;
+use trace_graph::laws::renamed_graph_is_the_same;
+use trace_types::laws::{names_are_totally_ordered, numbering_is_one_to_one};
+use trace_types::{NameText, NamedSegment, NamedTrace, Segment, Text};
 
 /// A day is dropped from the book and from the kept traces alike.
 pub fn drop_shows()
@@ -22,3 +29,30 @@ pub fn sheets_show()
 pub fn grown_shows()
     ensures { GrownShows }
 {}
+
+/// The graph of a trace by numbers is that of the kept trace.
+pub fn graph_is_shown()
+    ensures { GraphIsShown }
+{
+    numbering_is_one_to_one::<NameText>();
+    numbering_is_one_to_one::<Text>();
+    renamed_graph_is_the_same::<
+        NamedTrace,
+        NamedSegment,
+        u32,
+        u32,
+        u32,
+        KeptTrace,
+        Segment,
+        NameText,
+        Text,
+        Text,
+    >();
+}
+
+/// The names of kept traces can be listed in name order.
+pub fn names_are_listed()
+    ensures { NamesAreListed }
+{
+    names_are_totally_ordered::<NameText>();
+}

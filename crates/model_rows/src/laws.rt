@@ -1,7 +1,7 @@
 //! What the model that is found by number is of the kept traces, by laws of the crates below.
 ghost use Rattle.model_rows.specs.inner.Shown.{FoundIsShown};
 
-use crate::kept_trace::KeptTrace;
+use session_rules::KeptTrace;
 use trace_types::laws::{numbering_is_one_to_one, renamed_traces_leave_alike};
 use trace_types::{NameText, NamedSegment, NamedTrace, Segment, Text};
 

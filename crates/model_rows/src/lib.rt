@@ -4,7 +4,6 @@
 #![tactic(auto)]
 
 mod found_model;
-mod kept_trace;
 mod laws;
 mod listed;
 mod listing;
@@ -16,4 +15,4 @@ mod printing;
 mod task_pair;
 mod task_pairs;
 
-pub use printing::print_model;
+pub use printing::{print_model, print_model_head};

@@ -4,8 +4,8 @@ ghost use Rattle.day_partitions.specs.Books.{all_traces};
 ghost use Rattle.kept_books.specs.Shown.{AreShown};
 ghost use Rattle.model_rows.specs.inner.Found.{figures_in};
 ghost use Rattle.session_rules.specs.KeptTraces.{Kept};
-ghost use Rattle.session_rules.specs.ModelTexts.{IsModelText, header_row, model_text, pair_row};
-ghost use Rattle.session_rules.specs.ModelTexts.{pipe_row};
+ghost use Rattle.session_rules.specs.ModelTexts.{IsModelHead, IsModelText, header_row, model_text};
+ghost use Rattle.session_rules.specs.ModelTexts.{pair_row, pipe_row};
 ghost use Rattle.text_rows.specs.Printing.{print_faults, PrintsText};
 ghost use Rattle.text_rows.specs.TextsOfParts.{PrintsPart};
 
@@ -200,4 +200,26 @@ pub fn print_model<S: Sink>(
     let _days = book.days();
     let model = find_model(alloc, book, catalogue)?;
     print_found(sink, buffer, &model)
+}
+
+/// Prints the header alone of what `print_model` prints.
+pub fn print_model_head<S: Sink>(
+    alloc: Global,
+    book: &DayBook,
+    catalogue: &Catalogue,
+    sink: &mut S,
+    buffer: &mut RowBuffer,
+) -> Result<(), PrintFault>
+    requires names { book.now.names ≡ length catalogue.now.names }
+    ensures printed { (kept : List Kept)
+        → AreShown catalogue.now (all_traces book.now.days) kept
+        → PrintsPart S.written S.faults result sink.old sink.new (IsModelHead kept)
+        buffer.old buffer.new }
+    ensures counted { S.faults sink.new ≡ print_faults result (S.faults sink.old) }
+{
+    found_is_shown();
+    let _names = catalogue.names();
+    let _days = book.days();
+    let model = find_model(alloc, book, catalogue)?;
+    print_header(sink, buffer, &model)
 }

@@ -1,5 +1,5 @@
 -- Which traces are kept. Whatever was added is kept until its day is dropped.
-use Rattle.std.specs.Prelude.{◌≡◌, ℕ, ◌==◌, not, nat_lt, nat_le, nat_eq, if◌then◌else◌, List, [], ◌∷◌}
+use Rattle.std.specs.Prelude.{ℕ, ◌==◌, not, nat_lt, nat_le, nat_eq, if◌then◌else◌, List, [], ◌∷◌}
 use Rattle.std.specs.Prelude.{length, map, filter, Bool}
 use Rattle.trace_types.specs.declared.segment.Segment.{Segment}
 use Rattle.trace_types.specs.declared.trace.Trace.{Trace}
@@ -35,6 +35,10 @@ day_of k = k.trace.day
 -- it is of this day
 abbrev pub is_of_day : ℕ → Kept → Bool
 is_of_day day k = day_of k == day
+
+-- the latencies of traces, in nanoseconds
+abbrev pub latencies_of : List Kept → List ℕ
+latencies_of kept = map (λ k. k.trace.latency) kept
 
 -- the traces of one day
 abbrev pub traces_on : ℕ → List Kept → List Kept

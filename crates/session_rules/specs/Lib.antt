@@ -1,9 +1,12 @@
 pub mod Batches
+pub mod ForecastTexts
 pub mod Hypotheses
 pub mod Jobs
 pub mod KeptTraces
 pub mod ModelTexts
 pub mod Parts
+pub mod ReportTexts
 pub mod Sessions
+pub mod TailTexts
 pub mod TraceTexts
 pub mod WatchLines

@@ -59,6 +59,12 @@ pair_row word pair =
 abbrev pub pipe_row : List ℕ × List ℕ → List ℕ
 pipe_row pair = row_of (codes "pipe" ∷ pair.0 ∷ pair.1 ∷ [])
 
+-- the bytes are the first row of the model of kept traces
+pub record IsModelHead (kept : List Kept) (bytes : List ℕ) : Type 0 where
+  pub figures : Figures
+  pub told : AreFigures kept figures
+  pub text : bytes ≡ header_row (length kept) figures
+
 -- the header, the ordered pairs, the exclusive pairs and the pipelines
 abbrev pub model_text : ℕ → Figures → List ℕ
 model_text traces figures =

@@ -4,9 +4,14 @@ use Rattle.std.specs.List.{flat_map}
 use Rattle.segment_cut.specs.Faults.{fault_reason, fault_number}
 use Rattle.text_rows.specs.Rows.{figure, row_of}
 use Rattle.trace_pass.specs.declared.watch_lines.WatchLine.{WatchLine}
+use Rattle.trace_types.specs.Segments.{SegmentName}
+use Rattle.session_rules.specs.declared.named_change.NamedChange.{NamedChange}
 use Rattle.session_rules.specs.declared.refused.Refused.{Refused}
+use Rattle.session_rules.specs.ForecastTexts.{IsForecastHead, IsForecastText}
 use Rattle.session_rules.specs.KeptTraces.{Kept}
-use Rattle.session_rules.specs.ModelTexts.{IsModelText}
+use Rattle.session_rules.specs.ModelTexts.{IsModelHead, IsModelText}
+use Rattle.session_rules.specs.ReportTexts.{IsLatencyText, IsReportHead, IsSegmentText}
+use Rattle.session_rules.specs.TailTexts.{IsTailHead, IsTailText}
 use Rattle.session_rules.specs.TraceTexts.{IsGraphText, IsPathText, IsSlackText}
 use Rattle.session_rules.specs.WatchLines.{AreWatchLines}
 
@@ -27,6 +32,18 @@ pub data Part : Type 0 where
   PathOf : List Kept → Kept → Part
   SlacksOf : List Kept → Kept → Part
   GraphOf : List Kept → Kept → Part
+  -- of the kept traces: the first row of their model; of their report the header, the row of their
+  -- latencies, and the row of a name
+  ModelHead : List Kept → Part
+  ReportHead : List Kept → Part
+  LatenciesOf : List Kept → Part
+  SegmentOf : List Kept → SegmentName → Part
+  -- of the report on the slowest of them: the header, and the row of a name
+  TailHead : List Kept → Part
+  TailOf : List Kept → SegmentName → Part
+  -- of a forecast: the header, and the row of one of the kept traces
+  ForecastHead : NamedChange → List Kept → Part
+  ForecastOf : NamedChange → List Kept → Kept → Part
 
 -- `refused`, the request, the reason and its number
 abbrev pub refused_row : Refused → List ℕ
@@ -65,3 +82,11 @@ IsPart (Header word count) bytes = bytes ≡ traces_row word count
 IsPart (PathOf kept k) bytes = IsPathText kept k bytes
 IsPart (SlacksOf kept k) bytes = IsSlackText kept k bytes
 IsPart (GraphOf kept k) bytes = IsGraphText kept k bytes
+IsPart (ModelHead kept) bytes = IsModelHead kept bytes
+IsPart (ReportHead kept) bytes = IsReportHead kept bytes
+IsPart (LatenciesOf kept) bytes = IsLatencyText kept bytes
+IsPart (SegmentOf kept name) bytes = IsSegmentText kept name bytes
+IsPart (TailHead kept) bytes = IsTailHead kept bytes
+IsPart (TailOf kept name) bytes = IsTailText kept name bytes
+IsPart (ForecastHead change kept) bytes = IsForecastHead change kept bytes
+IsPart (ForecastOf change kept k) bytes = IsForecastText change kept k bytes

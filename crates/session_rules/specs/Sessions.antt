@@ -1,27 +1,33 @@
 -- What each job does to the state of a session, and which parts it prints.
-use Rattle.std.specs.Prelude.{◌≡◌, ℕ, ◌+◌, ◌*◌, ◌<◌, ◌≤◌, List, [], ◌∷◌, ◌++◌, length, map, filter, codes}
-use Rattle.std.specs.Ordering.{nat_cmp}
+use Rattle.std.specs.Prelude.{◌≡◌, ℕ, ◌+◌, ◌*◌, ◌<◌, List, [], ◌∷◌, ◌++◌, length, map, codes}
 use Rattle.std.specs.Prelude.{Contains}
+use Rattle.std.specs.Ordering.{nat_cmp}
 use Rattle.event_lines.specs.declared.command.Command.{Command}
 use Rattle.event_lines.specs.declared.command.Command.TheVariants as commands
 use Rattle.segment_names.specs.Known.{Known, with_traces}
 use Rattle.segment_names.specs.Limits.{PassesLimit}
 use Rattle.segment_names.specs.declared.name_fault.NameFault.{NameFault}
-use Rattle.segment_names.specs.declared.name_fault.NameFault.TheVariants.{TooManyNames, TooManyTasks}
+use Rattle.segment_names.specs.declared.name_fault.NameFault.TheVariants.{TooManyNames}
+use Rattle.segment_names.specs.declared.name_fault.NameFault.TheVariants.{TooManyTasks}
 use Rattle.trace_types.specs.declared.event.Event.{Event}
 use Rattle.trace_types.specs.declared.trace.Trace.{Trace}
 use Rattle.trace_types.specs.Batch.{traces_of}
 use Rattle.trace_types.specs.Listing.{ListsExactly}
+use Rattle.trace_types.specs.Segments.{SegmentName}
 use Rattle.session_rules.specs.declared.job.Job.{Job}
-use Rattle.session_rules.specs.declared.job.Job.TheVariants.{Add, Control}
+use Rattle.session_rules.specs.declared.job.Job.TheVariants.{Add, Control, Summary, WhatIf, Tail}
 use Rattle.session_rules.specs.declared.limit.Limit.{Limit}
 use Rattle.session_rules.specs.declared.limit.Limit.TheVariants.{Names, Tasks, Days}
+use Rattle.session_rules.specs.declared.named_change.NamedChange.{NamedChange}
 use Rattle.session_rules.specs.declared.refused.Refused.{Refused}
 use Rattle.session_rules.specs.Batches.{AreJudged}
 use Rattle.session_rules.specs.KeptTraces.{Kept, day_of, days_of, kept_with, newest, traces_on}
 use Rattle.session_rules.specs.KeptTraces.{with_taken, without_day}
 use Rattle.session_rules.specs.Parts.{Part, Refusals, Watched, Dropped, KeptNewest, ModelOf, Header}
-use Rattle.session_rules.specs.Parts.{PathOf, SlacksOf, GraphOf}
+use Rattle.session_rules.specs.Parts.{PathOf, SlacksOf, GraphOf, ModelHead, ReportHead}
+use Rattle.session_rules.specs.Parts.{LatenciesOf, SegmentOf, TailHead, TailOf, ForecastHead}
+use Rattle.session_rules.specs.Parts.{ForecastOf}
+use Rattle.session_rules.specs.ReportTexts.{AreNamesOf}
 
 -- the state of a session: the kept traces, by day and within a day in the order in which they were
 -- taken; the names and tasks of all traces that were ever valid, by first sight; after how many of
@@ -97,8 +103,24 @@ pub record Adds (workers : ℕ) (events : List Event) (s : State) (parts : List 
   pub days_are : ListsExactly nat_cmp (Contains (map day_of (graced s valid))) days
   pub printed : parts ≡ Refusals refused ∷ watch_parts s.watch workers (graced s valid) days
 
--- a command over the state prints these parts and leaves this state; an add is a job of its own, and
--- no session is asked for a report yet
+-- the parts of a report on kept traces with these names: the header, the row of latencies, and a row
+-- for each name
+abbrev pub report_parts : List Kept → List SegmentName → List Part
+report_parts kept names = ReportHead kept ∷ LatenciesOf kept ∷ map (SegmentOf kept) names
+
+-- the parts of a report on the slowest of them: the header, and a row for each name
+abbrev pub tail_parts : List Kept → List SegmentName → List Part
+tail_parts kept names = TailHead kept ∷ map (TailOf kept) names
+
+-- the parts of a forecast: the header, and a row for each trace
+abbrev pub forecast_parts : NamedChange → List Kept → List Part
+forecast_parts change kept = ForecastHead change kept ∷ map (ForecastOf change kept) kept
+
+-- the first row of the model of kept traces, and the first two of their report
+abbrev pub summary_parts : List Kept → List Part
+summary_parts kept = ModelHead kept ∷ ReportHead kept ∷ LatenciesOf kept ∷ []
+
+-- a command over the state prints these parts and leaves this state; an add is a job of its own
 abbrev pub Commands : Command → State → List Part → State → Type 0
 Commands commands.Add s parts next = ⊥
 Commands (commands.Drop day) s parts next =
@@ -114,7 +136,8 @@ Commands commands.Paths s parts next = (next ≡ s)
     × (parts ≡ Header (codes "paths") (length s.kept) ∷ map (PathOf s.kept) s.kept)
 Commands commands.Slack s parts next = (next ≡ s)
     × (parts ≡ Header (codes "slack") (length s.kept) ∷ map (SlacksOf s.kept) s.kept)
-Commands commands.Report s parts next = ⊥
+Commands commands.Report s parts next = (next ≡ s) × ((names : List SegmentName)
+    × AreNamesOf s.kept names × (parts ≡ report_parts s.kept names))
 Commands commands.Graph s parts next = (next ≡ s)
     × (parts ≡ Header (codes "graph") (length s.kept) ∷ map (GraphOf s.kept) s.kept)
 
@@ -122,12 +145,19 @@ Commands commands.Graph s parts next = (next ≡ s)
 abbrev pub Does : ℕ → Job → State → List Part → State → Type 0
 Does workers (Add events) s parts next = Adds workers events s parts next
 Does workers (Control command) s parts next = Commands command s parts next
+Does workers Summary s parts next = (next ≡ s) × (parts ≡ summary_parts s.kept)
+Does workers (WhatIf change) s parts next = (next ≡ s) × (parts ≡ forecast_parts change s.kept)
+Does workers Tail s parts next = (next ≡ s) × ((names : List SegmentName)
+    × AreNamesOf s.kept names × (parts ≡ tail_parts s.kept names))
 
 -- a job passes this limit: it prints nothing
 abbrev pub Passes : Job → State → Limit → Type 0
 Passes (Add events) s limit = (valid : List Trace) × (refused : List Refused)
     × AreJudged (traces_of events) valid refused × PassesLimitOf s valid limit
 Passes (Control command) s limit = ⊥
+Passes Summary s limit = ⊥
+Passes (WhatIf change) s limit = ⊥
+Passes Tail s limit = ⊥
 
 -- jobs, one after another, print these parts and leave this state
 abbrev pub Leads : ℕ → List Job → State → List Part → State → Type 0

@@ -1,3 +1,4 @@
+use crate::NamedChange;
 use event_lines::Command;
 use trace_types::EventList;
 
@@ -14,4 +15,13 @@ pub enum Job {
         /// The command.
         command: Command,
     },
+    /// Print the first row of the model and the first two of the report.
+    Summary,
+    /// Print how long the critical paths would be if the segments of one name took less time.
+    WhatIf {
+        /// How much less.
+        change: NamedChange,
+    },
+    /// Print the report on the slowest traces.
+    Tail,
 }

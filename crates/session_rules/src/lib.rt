@@ -4,9 +4,15 @@
 #![tactic(auto)]
 
 mod job;
+mod kept_trace;
 mod limit;
+mod named_change;
 mod refused;
+mod session_part;
 
 pub use job::Job;
+pub use kept_trace::KeptTrace;
 pub use limit::Limit;
+pub use named_change::NamedChange;
 pub use refused::Refused;
+pub use session_part::SessionPart;

@@ -2,24 +2,16 @@
 use Rattle.std.proofs.Common.{◌≡◌, ℕ, zero, suc, ◌<◌, List, [], ◌∷◌, length, slice_get, slice_index, Some, Contains, ◌↔◌, refl, sym, ◌∙◌, ap, arith}
 use Rattle.std.specs.List.{AllZip, enumerate_from}
 use Rattle.std.specs.Option.{option_map_or, unwrap_or}
-use Rattle.kept_books.specs.Shown.{AreShown, IsShown}
+use Rattle.kept_books.specs.Shown.{IsShown}
 use Rattle.segment_names.specs.Known.{Known}
 use Rattle.session_rules.specs.KeptTraces.{Kept, by_kept}
 use Rattle.session_rules.specs.TraceTexts.{name_at}
 use Rattle.trace_rows.specs.inner.NumberedGraphs.{IsNumbered, NumberedGraph, name_of_number, vertex_name}
 use Rattle.trace_types.specs.Parts.{by_number}
-use Rattle.trace_types.specs.Renaming.{AreRenamed, IsSegmentRenamed}
+use Rattle.trace_types.specs.Renaming.{IsSegmentRenamed}
 use Rattle.trace_types.specs.Segments.{SegmentName, name_of}
 use Rattle.trace_types.specs.declared.named_segment.NamedSegment.{NamedSegment}
-use Rattle.trace_types.specs.declared.named_trace.NamedTrace.{NamedTrace}
 use Rattle.trace_types.specs.declared.segment.Segment.{Segment}
-
--- shown traces are renamed ones
-pub all_renamed : (known : Known) (traces : List NamedTrace) (kept : List Kept) → AreShown known traces kept → AreRenamed by_number by_kept (enumerate_from 0 known.names) (enumerate_from 0 known.tasks) traces kept
-all_renamed known [] [] h = h
-all_renamed known [] (k ∷ kept) h = absurd h
-all_renamed known (t ∷ traces) [] h = absurd h
-all_renamed known (t ∷ traces) (k ∷ kept) h = (h.0.renamed, all_renamed known traces kept h.1)
 
 -- what stands at one place of two lists that are alike
 pub zip_at : {A B : Type 0} (R : A → B → Type 0) (xs : List A) (ys : List B) (i : ℕ) → AllZip R xs ys → i < length xs → (x : A) × (y : B) × (slice_get xs i ≡ Some x) × (slice_get ys i ≡ Some y) × R x y

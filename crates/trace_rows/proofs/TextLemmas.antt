@@ -11,8 +11,9 @@ use Rattle.text_rows.specs.Rows.{row_of}
 use Rattle.trace_graph.specs.TraceGraphs.{IsTraceGraph}
 use Rattle.trace_types.specs.Parts.{by_number}
 use Rattle.trace_types.specs.declared.named_trace.NamedTrace.{NamedTrace}
+use Rattle.kept_books.specs.GraphLaws.{GraphIsShown}
 use Rattle.trace_rows.specs.inner.NumberedGraphs.{IsNumbered, NumberedGraph, edge_row, edge_rows, graph_rows, name_row, named_row, path_rows, segment_row, slack_rows, step_row, vertex_row}
-use Rattle.trace_rows.specs.inner.ShownTraces.{GraphIsShown, NamesAreShown, NumberedBook, traces_in}
+use Rattle.trace_rows.specs.inner.ShownTraces.{NamesAreShown, NumberedBook, traces_in}
 use Rattle.trace_rows.proofs.EdgeLemmas.{edge_rows_are}
 use Rattle.weighted_dag.specs.Chains.{IsChain, IsLongestLength, NoLongestIsBefore, NoneIsLonger, chain_length}
 use Rattle.weighted_dag.specs.Graphs.{Graph, IsEdge, IsGraph, order_of, weight_of}

@@ -7,13 +7,14 @@ ghost use Rattle.trace_rows.specs.inner.NumberedGraphs.{edge_row, edge_rows, gra
 ghost use Rattle.trace_rows.specs.inner.NumberedGraphs.{named_row, vertex_row};
 ghost use Rattle.weighted_dag.specs.Graphs.{order_of};
 
-use crate::laws::{graph_is_shown, names_are_shown};
+use crate::laws::names_are_shown;
 use crate::numbered_book::NumberedBook;
 use crate::numbered_graph::NumberedGraph;
-use crate::session_part::SessionPart;
 use crate::trace_texts::TraceTexts;
 use crate::vertex_rows::{VertexRows, print_first};
+use kept_books::laws::graph_is_shown;
 use mystery_io::Sink;
+use session_rules::SessionPart;
 use std::alloc::Global;
 use text_rows::laws::{calls_follow, part_calls_follow, parts_follow};
 use text_rows::{Field, PrintFault, RowBuffer, Rows, print_row, print_rows};

@@ -1,32 +1,10 @@
-//! How the graph of a trace by numbers is that of a kept trace, by laws of the crates below.
-ghost use Rattle.trace_rows.specs.inner.ShownTraces.{GraphIsShown, NamesAreShown};
+//! How the names of a trace by numbers are those of a kept trace, by a law of the crates below.
+ghost use Rattle.trace_rows.specs.inner.ShownTraces.{NamesAreShown};
 
-use crate::kept_trace::KeptTrace;
-use trace_graph::laws::renamed_graph_is_the_same;
+use trace_types::NameText;
 use trace_types::laws::numbering_is_one_to_one;
-use trace_types::{NameText, NamedSegment, NamedTrace, Segment, Text};
 
-/// The graph of a trace by numbers is that of the kept trace.
-pub(crate) fn graph_is_shown()
-    ensures { GraphIsShown }
-{
-    numbering_is_one_to_one::<NameText>();
-    numbering_is_one_to_one::<Text>();
-    renamed_graph_is_the_same::<
-        NamedTrace,
-        NamedSegment,
-        u32,
-        u32,
-        u32,
-        KeptTrace,
-        Segment,
-        NameText,
-        Text,
-        Text,
-    >();
-}
-
-/// The names of its vertices are those of the kept trace.
+/// The names of the vertices of a trace's graph are those of the kept trace.
 pub(crate) fn names_are_shown()
     ensures { NamesAreShown }
 {

@@ -4,12 +4,10 @@
 
 mod commands;
 mod graph_texts;
-mod kept_trace;
 mod laws;
 mod numbered_book;
 mod numbered_graph;
 mod path_texts;
-mod session_part;
 mod slack_texts;
 mod trace_texts;
 mod vertex_rows;

@@ -4,14 +4,15 @@ ghost use Rattle.session_rules.specs.Parts.{PathOf};
 ghost use Rattle.text_rows.specs.Printing.{PrintsText};
 ghost use Rattle.trace_rows.specs.inner.NumberedGraphs.{named_row, path_rows, step_row};
 
-use crate::laws::{graph_is_shown, names_are_shown};
+use crate::laws::names_are_shown;
 use crate::numbered_book::NumberedBook;
 use crate::numbered_graph::NumberedGraph;
-use crate::session_part::SessionPart;
 use crate::trace_texts::TraceTexts;
 use crate::vertex_rows::{VertexRows, print_chain};
 use critical_path::{Chain, critical};
+use kept_books::laws::graph_is_shown;
 use mystery_io::Sink;
+use session_rules::SessionPart;
 use std::alloc::Global;
 use text_rows::laws::{calls_follow, part_calls_follow, parts_follow};
 use text_rows::{Field, PrintFault, RowBuffer, print_row};

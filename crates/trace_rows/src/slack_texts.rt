@@ -3,13 +3,14 @@ ghost use Rattle.session_rules.specs.Parts.{SlacksOf};
 ghost use Rattle.text_rows.specs.Printing.{PrintsText};
 ghost use Rattle.trace_rows.specs.inner.NumberedGraphs.{named_row, segment_row, slack_rows};
 
-use crate::laws::{graph_is_shown, names_are_shown};
+use crate::laws::names_are_shown;
 use crate::numbered_book::NumberedBook;
 use crate::numbered_graph::NumberedGraph;
-use crate::session_part::SessionPart;
 use crate::trace_texts::TraceTexts;
 use crate::vertex_rows::{VertexRows, print_first};
+use kept_books::laws::graph_is_shown;
 use mystery_io::Sink;
+use session_rules::SessionPart;
 use slack::{SlackTable, longest_and_slacks};
 use std::alloc::Global;
 use text_rows::laws::{calls_follow, part_calls_follow, parts_follow};

@@ -7,8 +7,8 @@ ghost use Rattle.text_rows.specs.Printing.{print_faults};
 ghost use Rattle.trace_rows.specs.inner.ShownTraces.{PrintsShown, traces_in};
 
 use crate::numbered_book::NumberedBook;
-use crate::session_part::SessionPart;
 use mystery_io::Sink;
+use session_rules::SessionPart;
 use std::alloc::Global;
 use text_rows::laws::{part_calls_follow, parts_follow};
 use text_rows::{PrintFault, RowBuffer};

@@ -1,7 +1,7 @@
 //! A law over the definitions alone: the function does nothing, and its contract is the law.
 ghost use Rattle.watch_bounds.specs.TextBounds.{WatchLinesAreToldByText};
 
-use crate::kept_trace::KeptTrace;
+use session_rules::KeptTrace;
 use trace_types::laws::{
     numbering_is_one_to_one, relations_are_symmetric, renamed_trace_refutes_alike,
 };

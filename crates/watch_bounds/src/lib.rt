@@ -2,5 +2,4 @@
 //! lines of the kept traces by text: a law over the definitions alone.
 #![tactic(auto)]
 
-mod kept_trace;
 pub mod laws;

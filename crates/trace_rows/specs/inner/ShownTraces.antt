@@ -5,14 +5,11 @@ use Rattle.segment_names.specs.Known.{Known}
 use Rattle.segment_names.specs.Limits.{IsKept}
 use Rattle.session_rules.specs.KeptTraces.{Kept}
 use Rattle.session_rules.specs.Parts.{Header, IsPart, Part}
-use Rattle.session_rules.specs.TraceTexts.{IsGraphOf, name_at}
+use Rattle.session_rules.specs.TraceTexts.{name_at}
 use Rattle.kept_books.specs.Shown.{AreShown, IsShown}
 use Rattle.text_rows.specs.TextsOfParts.{PrintsTexts}
 use Rattle.text_rows.specs.declared.print_fault.PrintFault.{PrintFault}
-use Rattle.trace_graph.specs.TraceGraphs.{IsTraceGraph}
-use Rattle.trace_types.specs.Parts.{by_number}
 use Rattle.trace_types.specs.declared.named_trace.NamedTrace.{NamedTrace}
-use Rattle.weighted_dag.specs.Graphs.{Graph, IsGraph}
 use Rattle.trace_rows.specs.inner.NumberedGraphs.{IsNumbered, NumberedGraph, vertex_name}
 
 -- a book of days and the catalogue of its names
@@ -30,14 +27,7 @@ pub record IsNumberedBook (b : NumberedBook) : Type 0 where
 abbrev pub traces_in : NumberedBook → List NamedTrace
 traces_in b = all_traces b.book.days
 
--- the graph of a trace by numbers is that of the kept trace
-abbrev pub GraphIsShown : Type 0
-GraphIsShown = (known : Known) (traces : List NamedTrace) (kept : List Kept) (named : NamedTrace)
-    (k : Kept) (order : List ℕ) (g : Graph) → IsKept known → AreShown known traces kept
-    → IsShown known named k → IsGraph g → IsTraceGraph by_number traces named order g
-    → IsGraphOf kept k order g
-
--- the names of its vertices are those of the kept trace
+-- the names of the vertices of a trace's graph are those of the kept trace
 abbrev pub NamesAreShown : Type 0
 NamesAreShown = (known : Known) (k : Kept) (n : NumberedGraph) (v : ℕ) → n.names ≡ known.names
     → IsNumbered n → IsShown known n.trace k → v < length n.order

@@ -1,10 +1,9 @@
 use std::marker::Model;
 use trace_types::Trace;
 
-/// A trace with the grace that held when it was added, in nanoseconds. No value is made: laws take
-/// the type, and see the kept traces of the definitions.
+/// A kept trace as clauses see it, for laws alone: no value of it is made.
 #[derive(Drop)]
-pub(crate) struct KeptTrace {
+pub struct KeptTrace {
     trace: Trace,
     grace: u64,
 }

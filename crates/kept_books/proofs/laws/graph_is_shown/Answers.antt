@@ -1,8 +1,8 @@
 use Rattle.std.specs.List.{enumerate_from}
 use Rattle.session_rules.specs.KeptTraces.{by_kept}
 use Rattle.trace_types.specs.Parts.{by_number}
-use Rattle.trace_rows.proofs.ShownLemmas.{all_renamed}
-use Rattle.trace_rows.proofs.laws.graph_is_shown.Goals as goal
+use Rattle.kept_books.proofs.GraphLemmas.{all_renamed}
+use Rattle.kept_books.proofs.laws.graph_is_shown.Goals as goal
 
 pub returns : goal.returns
 returns c = λ known traces kept named k order g fits shown one form graph. record {

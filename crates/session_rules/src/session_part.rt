@@ -3,7 +3,7 @@ use text_rows::PartTexts;
 
 /// A part of a session's text as clauses see it, for laws alone: no value of it is made.
 #[derive(Drop)]
-pub(crate) struct SessionPart {
+pub struct SessionPart {
     count: u64,
 }
 
