@@ -1,0 +1,3 @@
+pub mod NumberedTexts
+pub mod ShownPaths
+pub mod ShownReports
