@@ -1,0 +1,6 @@
+mod BoundLemmas
+mod NumberLemmas
+mod PrintLemmas
+mod ShownLemmas
+mod TextLemmas
+mod ZipLemmas

@@ -1,0 +1,70 @@
+-- The number of a name in a list of different names.
+use Rattle.std.proofs.Common.{◌≡◌, ◌≢◌, ℕ, ◌<◌, List, [], ◌∷◌, length, get_or, position, slice_get, Some, None, Bool, true, false, ◌&&◌, cond, nat_lt, ◌==◌, refl, sym, ap, ◌∙◌, subst, ⊎_elim, true≢false, arith, rules}
+use Rattle.std.specs.Cmp.{IsEquivalence}
+use Rattle.std.specs.Cmp.Rules.{comparing}
+use Rattle.std.specs.Cmp.Lexicographic.{bytes_decides}
+use Rattle.std.specs.List.{AllPairs, position_or_len}
+use Rattle.std.specs.Str.{bytes_eq}
+use Rattle.std.proofs.lemmas.Bool.{and_parts, cases_order, lt-ltb, eq-eqb, ne_eqb}
+use Rattle.std.proofs.lemmas.List.{get_or_default}
+use Rattle.std.proofs.lemmas.List.Sums.{fails_before_first}
+use Rattle.std.proofs.lemmas.List.Quantifiers.{position-Some}
+use Rattle.std.proofs.lemmas.Option.{get_or_from_slice_get, slice_get_within, slice_get_read}
+use Rattle.trace_types.specs.Segments.{SegmentName}
+use Rattle.segment_names.specs.Known.{same_name}
+
+text_laws : IsEquivalence bytes_eq
+text_laws = search (comparing, rules)
+
+text_means : (x y : List ℕ) → bytes_eq x y ≡ true → x ≡ y
+text_means x y h = (bytes_decides x y).0 h
+
+text_own : (x : List ℕ) → bytes_eq x x ≡ true
+text_own x = text_laws.refl x
+
+name_means : (x y : SegmentName) → same_name x y ≡ true → x ≡ y
+name_means x y h =
+    let p = and_parts (bytes_eq x.0 y.0) (bytes_eq x.1 y.1 && bytes_eq x.2 y.2) h in
+    let q = and_parts (bytes_eq x.1 y.1) (bytes_eq x.2 y.2) p.1 in
+    λ k. (text_means x.0 y.0 p.0 k, text_means x.1 y.1 q.0 k, text_means x.2 y.2 q.1 k)
+
+name_own : (x : SegmentName) → same_name x x ≡ true
+name_own x = rw (text_own x.0, text_own x.1, text_own x.2) refl
+
+none_passes : {X : Type 0} (p : X → Bool) (xs : List X) → position p xs ≡ None → (k : ℕ) (d : X) → k < length xs → p (get_or xs k d) ≡ false
+none_passes p xs none k d h = ⊎_elim
+    (λ (e : position_or_len p xs ≡ length xs). fails_before_first p xs k d (omega arith))
+    (⊎_elim
+    (λ (l : position_or_len p xs < length xs). let t : nat_lt (position_or_len p xs) (length xs) ≡ true = lt-ltb (position_or_len p xs) (length xs) l in
+    absurd (let s : Some (position_or_len p xs) ≡ None = sym (ap (λ (b : Bool). cond b (Some (position_or_len p xs)) None) t) ∙ none in cc))
+    (λ (l : length xs < position_or_len p xs). fails_before_first p xs k d (omega arith)))
+    (cases_order (position_or_len p xs) (length xs))
+
+-- a name that has no number is no name of the list
+pub no_number : (names : List SegmentName) (name other : SegmentName) (k : ℕ) → position (same_name name) names ≡ None → slice_get names k ≡ Some other → same_name name other ≡ false
+no_number names name other k none here = subst (λ n. same_name name n ≡ false) (get_or_from_slice_get names k other other here) (none_passes (same_name name) names none k other (slice_get_within names k other here))
+
+found_there : (names : List SegmentName) (name : SegmentName) (i : ℕ) → position (same_name name) names ≡ Some i → slice_get names i ≡ Some name
+found_there [] name i e = absurd (let s : None ≡ Some i = e in cc)
+found_there (y ∷ ys) name i e = let q = position-Some (same_name name) (y ∷ ys) i y e in
+    slice_get_read (y ∷ ys) (length (y ∷ ys)) i name refl q.0 (let t : get_or (y ∷ ys) i name ≡ get_or (y ∷ ys) i y = get_or_default (y ∷ ys) i name y q.0 in name_means name (get_or (y ∷ ys) i y) q.1 ∙ sym t)
+
+-- two numbers are one exactly where the names are
+numbers_alike : (names : List SegmentName) → AllPairs (λ a b. a ≢ b) names → (i j : ℕ) (x y : SegmentName) → slice_get names i ≡ Some x → slice_get names j ≡ Some y → (i == j) ≡ same_name x y
+numbers_alike names differ i j x y ei ej =
+    let gi : get_or names i x ≡ x = get_or_from_slice_get names i x x ei in
+    let gj : get_or names j x ≡ y = get_or_from_slice_get names j y x ej in
+    let li = slice_get_within names i x ei in
+    let lj = slice_get_within names j y ej in
+    by (same_name x y) refl gi gj li lj
+  where
+    by : (b : Bool) → same_name x y ≡ b → get_or names i x ≡ x → get_or names j x ≡ y → i < length names → j < length names → (i == j) ≡ same_name x y
+    by true e gi gj li lj = let s : get_or names i x ≡ get_or names j x = gi ∙ name_means x y e ∙ sym gj in ⊎_elim
+        (λ (h : i ≡ j). eq-eqb i j h ∙ sym e)
+        (⊎_elim (λ (h : i < j). absurd (differ i j x h lj s)) (λ (h : j < i). absurd (differ j i x h li (sym s))))
+        (cases_order i j)
+    by false e gi gj li lj = ne_eqb i j (λ h. true≢false (sym (name_own x) ∙ subst (λ (z : SegmentName). same_name x z ≡ false) (sym gj ∙ ap (λ (k : ℕ). get_or names k x) (sym h) ∙ gi) e)) ∙ sym e
+
+-- the number of a name is another's exactly where the names are the same
+pub number_tells : (names : List SegmentName) → AllPairs (λ a b. a ≢ b) names → (name other : SegmentName) (n k : ℕ) → position (same_name name) names ≡ Some n → slice_get names k ≡ Some other → (n == k) ≡ same_name name other
+number_tells names differ name other n k found here = numbers_alike names differ n k name other (found_there names name n found) here

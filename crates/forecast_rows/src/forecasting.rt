@@ -1,0 +1,101 @@
+ghost use Rattle.std.specs.Prelude.{◌^◌, ◌<◌, ◌≤◌, All, IfOk};
+ghost use Rattle.std.specs.Borrow.{Bor};
+ghost use Rattle.std.specs.List.{AllZip};
+ghost use Rattle.forecast_rows.specs.inner.NumberedForecasts.{IsForecastUnder, changes_of};
+ghost use Rattle.refute_tests.specs.Clearing.{HaveNamesBelow};
+ghost use Rattle.trace_types.specs.declared.named_trace.NamedTrace.{NamedTrace};
+ghost use Rattle.what_if.specs.ForecastLaws.{IsLess};
+
+use model_meet::Model;
+use rayon::prelude::*;
+use segment_names::Catalogue;
+use session_rules::NamedChange;
+use std::alloc::{AllocError, Global};
+use std::thread::Threads;
+use trace_graph::graph;
+use trace_types::NamedTrace;
+use what_if::laws::{changes_make_less, graph_has_segments, loses_no_more};
+use what_if::{Change, Forecast, predict};
+
+/// How few traces are worth a thread of their own.
+const LEAST_PIECE: usize = 16;
+
+/// States that each weight has 64 bits. It does nothing.
+fn weights_have_words(weights: &[u64])
+    ensures { All (λ w. w < 2 ^ 64) weights.now }
+{}
+
+/// Forecasts one trace, by its graph.
+fn forecast_trace(
+    alloc: Global,
+    trace: &NamedTrace,
+    model: &Model,
+    changes: &[Change],
+) -> Result<Forecast, AllocError>
+    requires below { HaveNamesBelow model.now.names trace.now }
+    requires less { All IsLess changes.now }
+    ensures { IfOk result (IsForecastUnder model.now.words changes.now trace.now) }
+{
+    graph_has_segments();
+    changes_make_less();
+    loses_no_more();
+    let ordered = graph(alloc, trace, model)?;
+    weights_have_words(ordered.dag.weights());
+    predict(alloc, trace, &ordered, changes)
+}
+
+/// Forecasts each trace, by all processors.
+fn forecast_each<R: Threads + Sync>(
+    rt: &R,
+    alloc: Global,
+    traces: &[&NamedTrace],
+    model: &Model,
+    changes: &[Change],
+) -> Result<Vec<Forecast>, AllocError>
+    requires below { All (λ (t : Bor NamedTrace). HaveNamesBelow model.now.names t.now) traces.now }
+    requires less { All IsLess changes.now }
+    ensures { IfOk result (λ forecasts. AllZip (λ (t : Bor NamedTrace) f.
+        IsForecastUnder model.now.words changes.now t.now f) traces.now forecasts.items) }
+{
+    let forecasts: Result<Vec<Forecast>, AllocError> = traces
+        .par_iter()
+        .with_min_len(LEAST_PIECE)
+        .map(
+            |trace: &&NamedTrace| -> Result<Forecast, AllocError>
+                requires below { HaveNamesBelow model.now.names trace.now.now }
+                requires less { All IsLess changes.now }
+                ensures { IfOk result
+                    (IsForecastUnder model.entry.now.words changes.entry.now trace.now.now) }
+            { forecast_trace(alloc, trace, model, changes) },
+        )
+        .collect(rt, alloc)?;
+    forecasts
+}
+
+/// Forecasts each trace with a change of the name that has a text in a catalogue; where there is no
+/// such name, nothing changes. The only error is that memory ran out.
+pub(crate) fn forecast_change<R: Threads + Sync>(
+    rt: &R,
+    alloc: Global,
+    traces: &[&NamedTrace],
+    model: &Model,
+    catalogue: &Catalogue,
+    change: &NamedChange,
+) -> Result<Vec<Forecast>, AllocError>
+    requires below { All (λ (t : Bor NamedTrace). HaveNamesBelow model.now.names t.now) traces.now }
+    requires some { 0 < change.now.den }
+    requires less { change.now.num ≤ change.now.den }
+    ensures { IfOk result (λ forecasts. AllZip (λ (t : Bor NamedTrace) f.
+        IsForecastUnder model.now.words (changes_of catalogue.now change.now) t.now f)
+        traces.now forecasts.items) }
+{
+    let Some(name) = catalogue.find(&change.name) else {
+        return forecast_each(rt, alloc, traces, model, &[]);
+    };
+    let change = Change {
+        name,
+        num: change.num,
+        den: change.den,
+    };
+    forecast_each(rt, alloc, traces, model, &[change])
+}
