@@ -4,12 +4,11 @@ use Rattle.std.specs.Prelude.{Result, Ok, Err}
 use Rattle.std.specs.Io.KnownBytes.{append_known}
 use Rattle.std.proofs.lemmas.List.{append-nil}
 use Rattle.batch_sheets.specs.declared.recording.DayLines.{DayLines}
-use Rattle.event_lines.specs.declared.command.Command.{Command}
 use Rattle.mystery_io.specs.Prefixes.{AppendsPrefix}
 use Rattle.session_rules.specs.Parts.{IsPart, Part}
-use Rattle.session_rules.specs.Sessions.{Adds, Commands, State}
+use Rattle.session_rules.specs.Sessions.{Adds, Does, State}
 use Rattle.session_rules.specs.declared.job.Job.{Job}
-use Rattle.session_rules.specs.declared.job.Job.TheVariants.{Add, Control}
+use Rattle.session_rules.specs.declared.job.Job.TheVariants.{Add}
 use Rattle.session_rules.specs.declared.limit.Limit.TheVariants.{Names, Tasks, Days}
 use Rattle.session_rules.specs.declared.refused.Refused.{Refused}
 use Rattle.text_rows.specs.PartsFollow.{FlushCutsParts, FlushEndsParts}
@@ -90,31 +89,31 @@ module _ (workers : ℕ) (events : List Event) (s : State) (session : SessionSta
   pub add_flush_cut : (cuts : FlushCutsText) (fault : PrintFault) (mid : Option (List ℕ)) (between : List ℕ) → Prints before mid held between (added_text rows lines) → AppendsPrefix mid now between → HasCommandCause (fault_of_print fault) workers (Add events) s before now
   add_flush_cut cuts fault mid between p f = cut_cause fault workers (Add events) s before now (cut (cuts before mid now between (added_text refused watched) (whole mid between p) f))
 
--- the parts of the command of a control line
-module _ {S : Type 0} (written : S → Option (List ℕ)) (faults : S → ℕ) (workers : ℕ) (command : Command) (s : State) (session : SessionState) where
-  cut_prefix : (parts : List Part) (next : State) (before now : Option (List ℕ)) → Commands command s parts next → PrintsPrefix IsPart parts before now [] → CutsShort workers (Control command) s before now
+-- the parts of a job other than an add
+module _ {S : Type 0} (written : S → Option (List ℕ)) (faults : S → ℕ) (workers : ℕ) (job : Job) (s : State) (session : SessionState) where
+  cut_prefix : (parts : List Part) (next : State) (before now : Option (List ℕ)) → Does workers job s parts next → PrintsPrefix IsPart parts before now [] → CutsShort workers job s before now
   cut_prefix parts next before now does p = record {
     first = p.first;
     left = p.rest;
     next = next;
-    does = subst (λ ps. Commands command s ps next) p.split does;
+    does = subst (λ ps. Does workers job s ps next) p.split does;
     text = p.text;
     told = p.told;
     prefix = p.prefix;
   }
 
-  pub control_carried : (ends : FlushEndsParts IsPart) (old mid : S) (now : Option (List ℕ)) (held between : List ℕ) → held ≡ [] → PrintsStep {T = Unit {0}} written faults (Ok tt) old mid command s session held between → now ≡ append_known (written mid) between → CarriesOut workers (Control command) s session (written old) now
-  control_carried ends old mid now held between empty step e =
+  pub job_carried : (ends : FlushEndsParts IsPart) (old mid : S) (now : Option (List ℕ)) (held between : List ℕ) → held ≡ [] → PrintsStep {T = Unit {0}} written faults (Ok tt) old mid workers job s session held between → now ≡ append_known (written mid) between → CarriesOut workers job s session (written old) now
+  job_carried ends old mid now held between empty step e =
       let printed = subst (λ h. PrintsParts IsPart step.parts (written old) (written mid) h between) empty step.printed.all in
       let w = ends step.parts (written old) (written mid) now between printed e in
       record { parts = step.parts; next = step.next; does = step.does; shows = step.shows; text = w.0; told = w.1; written = w.2 }
 
-  pub control_cut : (fault : PrintFault) (old new : S) (held holds : List ℕ) → held ≡ [] → PrintsStep {T = Unit {0}} written faults (Err fault) old new command s session held holds → HasCommandCause (fault_of_print fault) workers (Control command) s (written old) (written new)
-  control_cut fault old new held holds empty step =
-      cut_cause fault workers (Control command) s (written old) (written new) (cut_prefix step.parts step.next (written old) (written new) step.does (subst (PrintsPrefix IsPart step.parts (written old) (written new)) empty step.printed.prefix))
+  pub job_cut : (fault : PrintFault) (old new : S) (held holds : List ℕ) → held ≡ [] → PrintsStep {T = Unit {0}} written faults (Err fault) old new workers job s session held holds → HasCommandCause (fault_of_print fault) workers job s (written old) (written new)
+  job_cut fault old new held holds empty step =
+      cut_cause fault workers job s (written old) (written new) (cut_prefix step.parts step.next (written old) (written new) step.does (subst (PrintsPrefix IsPart step.parts (written old) (written new)) empty step.printed.prefix))
 
-  pub control_flush_cut : (cuts : FlushCutsParts IsPart) (fault : PrintFault) (old mid : S) (now : Option (List ℕ)) (held between : List ℕ) → held ≡ [] → PrintsStep {T = Unit {0}} written faults (Ok tt) old mid command s session held between → AppendsPrefix (written mid) now between
-      → HasCommandCause (fault_of_print fault) workers (Control command) s (written old) now
-  control_flush_cut cuts fault old mid now held between empty step p =
+  pub job_flush_cut : (cuts : FlushCutsParts IsPart) (fault : PrintFault) (old mid : S) (now : Option (List ℕ)) (held between : List ℕ) → held ≡ [] → PrintsStep {T = Unit {0}} written faults (Ok tt) old mid workers job s session held between → AppendsPrefix (written mid) now between
+      → HasCommandCause (fault_of_print fault) workers job s (written old) now
+  job_flush_cut cuts fault old mid now held between empty step p =
       let printed = subst (λ h. PrintsParts IsPart step.parts (written old) (written mid) h between) empty step.printed.all in
-      cut_cause fault workers (Control command) s (written old) now (cut_prefix step.parts step.next (written old) now step.does (cuts step.parts (written old) (written mid) now between printed p))
+      cut_cause fault workers job s (written old) now (cut_prefix step.parts step.next (written old) now step.does (cuts step.parts (written old) (written mid) now between printed p))

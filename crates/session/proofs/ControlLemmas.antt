@@ -1,16 +1,17 @@
--- What the commands of control lines do to the state that a session shows, and what they print.
+-- What jobs other than an add do to the state that a session shows, and what they print.
 use Rattle.std.proofs.Common.{◌≡◌, ℕ, ◌+◌, List, [], ◌∷◌, length, Option, inl, inr, refl, sym, ap, ◌∙◌, subst, arith}
 use Rattle.std.specs.Prelude.{Result, Ok, Err, codes}
 use Rattle.std.proofs.lemmas.List.{append-nil}
 use Rattle.day_partitions.specs.Books as books
 use Rattle.day_partitions.specs.Books.{IsBook, all_traces, traces_of, with_fewer}
-use Rattle.event_lines.specs.declared.command.Command.{Command}
 use Rattle.event_lines.specs.declared.command.Command.TheVariants as commands
 use Rattle.kept_books.specs.BookLaws.{DropShows, NewestShow}
 use Rattle.kept_books.specs.Shown.{AreShown, IsShown}
 use Rattle.session_rules.specs.KeptTraces.{Kept, newest, traces_on, without_day}
 use Rattle.session_rules.specs.Parts.{Dropped, IsPart, KeptNewest, Part, count_row}
-use Rattle.session_rules.specs.Sessions.{Commands, State, with_grace, with_kept, with_watch}
+use Rattle.session_rules.specs.Sessions.{Does, State, with_grace, with_kept, with_watch}
+use Rattle.session_rules.specs.declared.job.Job.{Job}
+use Rattle.session_rules.specs.declared.job.Job.TheVariants.{Control}
 use Rattle.text_rows.specs.PartsFollow.{CallPrintsOnePart, NoPartIsPrinted}
 use Rattle.text_rows.specs.Printing.{PrintsText}
 use Rattle.text_rows.specs.TextsOfParts.{PrintsPart, PrintsTexts}
@@ -24,7 +25,7 @@ use Rattle.session.proofs.SheetLemmas.{zip_length}
 module _ {S : Type 0} (written : S → Option (List ℕ)) (faults : S → ℕ) where
   pub drop_step : (drop : DropShows) (one : CallPrintsOnePart written faults IsPart (Unit {0})) (before after : SessionState) (day count : ℕ) (result : Result (Unit {0}) PrintFault) (old new : S) (held holds : List ℕ)
       → after ≡ session_with_book before (with_fewer before.book (books.without_day day before.book.days)) → count ≡ length (traces_of before.book.days day) → IsBook before.book → PrintsText written faults result old new held holds (count_row (codes "drop") day count)
-      → PrintsSteps written faults result old new (commands.Drop day) before after held holds
+      → PrintsSteps written faults result old new (Control (commands.Drop day)) before after held holds
   drop_step drop one before after day count result old new held holds is counted book printed s shown =
       let d = drop before.known before.book s.kept day book shown.traces in
       let next : State = with_kept s (without_day day s.kept) in
@@ -38,7 +39,7 @@ module _ {S : Type 0} (written : S → Option (List ℕ)) (faults : S → ℕ) w
 
   pub keep_step : (shows : NewestShow) (one : CallPrintsOnePart written faults IsPart (Unit {0})) (before after : SessionState) (days count : ℕ) (result : Result (Unit {0}) PrintFault) (old new : S) (held holds : List ℕ)
       → after ≡ session_with_book before (with_fewer before.book (books.newest days before.book.days)) → count + kept_count after ≡ kept_count before → IsBook before.book → PrintsText written faults result old new held holds (count_row (codes "keep") days count)
-      → PrintsSteps written faults result old new (commands.Keep days) before after held holds
+      → PrintsSteps written faults result old new (Control (commands.Keep days)) before after held holds
   keep_step newest_shows one before after days count result old new held holds is counted book printed s shown =
       let n = newest_shows before.known before.book s.kept days book shown.traces in
       let next : State = with_kept s (newest days s.kept) in
@@ -54,7 +55,7 @@ module _ {S : Type 0} (written : S → Option (List ℕ)) (faults : S → ℕ) w
       add_up : (count left all shown_left shown_all : ℕ) → count + left ≡ all → all ≡ shown_all → left ≡ shown_left → shown_left + count ≡ shown_all
       add_up count left all shown_left shown_all e f g = omega (arith, e, f, g)
 
-  pub watch_step : (none : NoPartIsPrinted IsPart) (before after : SessionState) (every : ℕ) (old : S) (held : List ℕ) → after ≡ session_with_watch before every → PrintsSteps {T = Unit {0}} written faults (Ok tt) old old (commands.Watch every) before after held held
+  pub watch_step : (none : NoPartIsPrinted IsPart) (before after : SessionState) (every : ℕ) (old : S) (held : List ℕ) → after ≡ session_with_watch before every → PrintsSteps {T = Unit {0}} written faults (Ok tt) old old (Control (commands.Watch every)) before after held held
   watch_step none before after every old held is s shown = record {
     parts = [];
     next = with_watch s every;
@@ -63,7 +64,7 @@ module _ {S : Type 0} (written : S → Option (List ℕ)) (faults : S → ℕ) w
     printed = record { all = none (written old) held; prefix = tt; counted = refl };
   }
 
-  pub grace_step : (none : NoPartIsPrinted IsPart) (before after : SessionState) (micros : ℕ) (old : S) (held : List ℕ) → after ≡ session_with_grace before micros → PrintsSteps {T = Unit {0}} written faults (Ok tt) old old (commands.Grace micros) before after held held
+  pub grace_step : (none : NoPartIsPrinted IsPart) (before after : SessionState) (micros : ℕ) (old : S) (held : List ℕ) → after ≡ session_with_grace before micros → PrintsSteps {T = Unit {0}} written faults (Ok tt) old old (Control (commands.Grace micros)) before after held held
   grace_step none before after micros old held is s shown = record {
     parts = [];
     next = with_grace s micros;
@@ -72,16 +73,17 @@ module _ {S : Type 0} (written : S → Option (List ℕ)) (faults : S → ℕ) w
     printed = record { all = none (written old) held; prefix = tt; counted = refl };
   }
 
-  -- a command that changes nothing and prints parts of the kept traces
-  pub view_step : (command : Command) (parts : List Kept → List Part) → ((s : State) → Commands command s (parts s.kept) s) → (before : SessionState) (result : Result (Unit {0}) PrintFault) (old new : S) (held holds : List ℕ)
-      → ((kept : List Kept) → AreShown before.known (all_traces before.book.days) kept → PrintsTexts written faults result old new IsPart (parts kept) held holds) → PrintsSteps written faults result old new command before before held holds
-  view_step command parts does before result old new held holds printed s shown = record {
-    parts = parts s.kept;
-    next = s;
-    does = does s;
-    shows = shown;
-    printed = printed s.kept shown.traces;
-  }
+  -- a job that changes nothing and prints parts of the kept traces
+  pub view_step : (job : Job) (parts : List Kept → List Part) → ((workers : ℕ) (s : State) → Does workers job s (parts s.kept) s) → (inside before : SessionState) → inside ≡ before → (result : Result (Unit {0}) PrintFault) (old new : S) (held holds : List ℕ)
+      → ((kept : List Kept) → AreShown inside.known (all_traces inside.book.days) kept → PrintsTexts written faults result old new IsPart (parts kept) held holds) → PrintsSteps written faults result old new job before before held holds
+  view_step job parts does inside before view result old new held holds printed =
+      subst (λ (b : SessionState). PrintsSteps written faults result old new job b b held holds) view (λ s shown. record {
+        parts = parts s.kept;
+        next = s;
+        does = does inside.workers s;
+        shows = shown;
+        printed = printed s.kept shown.traces;
+      })
 
   -- a call that prints one part prints the parts that are this one
   pub one_part : (part : Part) (result : Result (Unit {0}) PrintFault) (old new : S) (held holds : List ℕ) → PrintsPart written faults result old new (IsPart part) held holds → PrintsTexts written faults result old new IsPart (part ∷ []) held holds

@@ -10,7 +10,7 @@ use Rattle.mystery_io.specs.Prefixes.{AppendsPrefix}
 use Rattle.session_rules.specs.Parts.{Part, IsPart}
 use Rattle.session_rules.specs.Sessions.{Does, Passes, State}
 use Rattle.session_rules.specs.declared.job.Job.{Job}
-use Rattle.session_rules.specs.declared.job.Job.TheVariants.{Add, Control}
+use Rattle.session_rules.specs.declared.job.Job.TheVariants.{Add, Control, Summary, WhatIf, Tail}
 use Rattle.session_rules.specs.declared.limit.Limit.TheVariants.{Names, Tasks, Days}
 use Rattle.text_rows.specs.TextsOfParts.{AreTexts}
 use Rattle.text_rows.specs.declared.print_fault.PrintFault.{PrintFault}
@@ -20,8 +20,10 @@ use Rattle.trace_types.specs.EventLines.{LinesRise}
 use Rattle.trace_types.specs.Times.{AreTimely}
 use Rattle.session.specs.SessionStates.{SessionState, Shows, most_micros}
 use Rattle.session.specs.declared.command_fault.CommandFault.{CommandFault}
-use Rattle.session.specs.declared.command_fault.CommandFault.TheVariants.{Memory, Write, TooManyDays}
-use Rattle.session.specs.declared.command_fault.CommandFault.TheVariants.{TooManyNames, TooManyTasks}
+use Rattle.session.specs.declared.command_fault.CommandFault.TheVariants.{Memory, Write}
+use Rattle.session.specs.declared.command_fault.CommandFault.TheVariants.{TooManyDays}
+use Rattle.session.specs.declared.command_fault.CommandFault.TheVariants.{TooManyNames}
+use Rattle.session.specs.declared.command_fault.CommandFault.TheVariants.{TooManyTasks}
 
 -- how many traces a session keeps
 abbrev pub kept_count : SessionState → ℕ
@@ -31,9 +33,11 @@ kept_count session = length (all_traces session.book.days)
 abbrev pub requests_in : Job → ℕ
 requests_in (Add events) = length (requests_of events)
 requests_in (Control command) = 0
+requests_in Summary = 0
+requests_in (WhatIf change) = 0
+requests_in Tail = 0
 
--- a session carries out the command: an add is a job of its own, and no session is asked for a
--- report yet
+-- a session carries out the command: an add is a job of its own
 abbrev pub IsReadyCommand : asked.Command → Type 0
 IsReadyCommand commands.Add = ⊥
 IsReadyCommand (commands.Drop day) = ⊤
@@ -43,13 +47,17 @@ IsReadyCommand (commands.Grace micros) = micros ≤ most_micros
 IsReadyCommand commands.Model = ⊤
 IsReadyCommand commands.Paths = ⊤
 IsReadyCommand commands.Slack = ⊤
-IsReadyCommand commands.Report = ⊥
+IsReadyCommand commands.Report = ⊤
 IsReadyCommand commands.Graph = ⊤
 
--- a session carries out the job: the lines of its events rise, and their times are within the limit
+-- a session carries out the job: the lines of the events that it adds rise, and their times are
+-- within the limit; a change that it forecasts takes no time or some, at most as much as now
 abbrev pub IsReady : Job → Type 0
 IsReady (Add events) = LinesRise events × AreTimely events × (length events < 2 ^ 32)
 IsReady (Control command) = IsReadyCommand command
+IsReady Summary = ⊤
+IsReady (WhatIf change) = (0 < change.den) × (change.num ≤ change.den)
+IsReady Tail = ⊤
 
 -- a job was carried out from this state: the session shows the state after it, and a text of its
 -- parts was written

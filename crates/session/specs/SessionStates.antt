@@ -25,7 +25,8 @@ pub record IsSession (s : SessionState) : Type 0 where
   pub names : s.book.names ≡ length s.known.names
   pub within : s.grace ≤ most_micros
 
--- the session has the state: the same names, watch number and grace, and in its book the kept traces
+-- the session has the state: the same names, watch number and grace, and in its book the kept
+-- traces
 pub record Shows (session : SessionState) (s : State) : Type 0 where
   pub known : session.known ≡ s.known
   pub watch : session.watch ≡ s.watch

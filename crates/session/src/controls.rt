@@ -3,6 +3,7 @@ ghost use Rattle.day_partitions.specs.Books as books;
 ghost use Rattle.day_partitions.specs.Books.{IsBook, traces_of, with_fewer};
 ghost use Rattle.event_lines.specs.declared.command.Command.TheVariants as commands;
 ghost use Rattle.session_rules.specs.Parts.{count_row};
+ghost use Rattle.session_rules.specs.declared.job.Job.TheVariants as jobs;
 ghost use Rattle.session.specs.Carrying.{kept_count};
 ghost use Rattle.session.specs.SessionStates.{most_micros};
 ghost use Rattle.session.specs.inner.Changes.{session_with_book, session_with_grace};
@@ -11,9 +12,9 @@ ghost use Rattle.session.specs.inner.Steps.{PrintsSteps};
 ghost use Rattle.text_rows.specs.Printing.{PrintsText, print_faults};
 
 use crate::Session;
-use crate::session_part::SessionPart;
 use kept_books::laws::{drop_shows, newest_show};
 use mystery_io::Sink;
+use session_rules::SessionPart;
 use text_rows::laws::part_calls_follow;
 use text_rows::{Field, PrintFault, RowBuffer, print_row};
 
@@ -85,7 +86,7 @@ impl Session {
         buffer: &mut RowBuffer,
     ) -> Result<(), PrintFault>
         ensures stepped { PrintsSteps S.written S.faults result sink.old sink.new
-            (commands.Drop day) self.old self.new buffer.old buffer.new }
+            (jobs.Control (commands.Drop day)) self.old self.new buffer.old buffer.new }
         ensures workers { self.new.workers ≡ self.old.workers }
         ensures kept { kept_count self.new ≤ kept_count self.old }
         ensures counted { S.faults sink.new ≡ print_faults result (S.faults sink.old) }
@@ -104,7 +105,7 @@ impl Session {
         buffer: &mut RowBuffer,
     ) -> Result<(), PrintFault>
         ensures stepped { PrintsSteps S.written S.faults result sink.old sink.new
-            (commands.Keep days) self.old self.new buffer.old buffer.new }
+            (jobs.Control (commands.Keep days)) self.old self.new buffer.old buffer.new }
         ensures workers { self.new.workers ≡ self.old.workers }
         ensures kept { kept_count self.new ≤ kept_count self.old }
         ensures counted { S.faults sink.new ≡ print_faults result (S.faults sink.old) }

@@ -14,7 +14,8 @@ fn take_line(
     batch: &mut Vec<Event>,
     line: Line,
 ) -> Result<(), AllocError>
-    ensures { OnOk result ((rest : List Line) → jobs.old.items ++ jobs_from batch.old.items (line ∷ rest)
+    ensures { OnOk result ((rest : List Line)
+        → jobs.old.items ++ jobs_from batch.old.items (line ∷ rest)
         ≡ jobs.new.items ++ jobs_from batch.new.items rest) }
 {
     match line {
@@ -33,8 +34,8 @@ fn take_line(
     Ok(())
 }
 
-/// Makes the jobs of the lines of an input: each `add` takes the events since the one before it. The
-/// only error is that memory ran out.
+/// Makes the jobs of the lines of an input: each `add` takes the events since the one before it.
+/// The only error is that memory ran out.
 pub fn jobs(alloc: Global, lines: Vec<Line>) -> Result<Vec<Job>, AllocError>
     ensures { IfOk result (λ jobs. jobs.items ≡ jobs_of lines.items) }
 {

@@ -1,7 +1,8 @@
 //! A session: the jobs of the lines of an input, the state that a session starts in, and
 //! `Session::command`, which carries out one job and writes its text. An add cuts a batch of events
 //! into traces, names them, records them by many workers and adds their days to the book, all or
-//! none; the other commands drop days, set a number or print what the kept traces leave.
+//! none; the other jobs drop days, set a number or print what the kept traces leave: their model,
+//! their paths, slacks and graphs, reports on them, and forecasts.
 #![tactic(auto)]
 
 mod add_fault;
@@ -12,10 +13,9 @@ mod command_fault;
 mod commands;
 mod controls;
 mod job_list;
+mod job_printing;
 pub mod laws;
-mod session_part;
 mod sessions;
-mod views;
 
 pub use batch_records::record_batch;
 pub use command_fault::CommandFault;

@@ -1,14 +1,15 @@
-ghost use Rattle.std.specs.Prelude.{IsTrue};
-ghost use Rattle.session.specs.Carrying.{IsReadyCommand};
+ghost use Rattle.std.specs.Prelude.{◌≡◌, IsTrue};
+ghost use Rattle.session.specs.Carrying.{IsReady, IsReadyCommand, requests_in};
 ghost use Rattle.trace_types.specs.Times.{AreTimely};
 
 use crate::{CommandFault, Job, Session};
 use event_lines::{Command, lines_rise};
 use mystery_io::{MemSink, OpenGate, Sink};
+use session_rules::NamedChange;
 use std::alloc::{AllocError, Global};
 use std::test::Fail;
 use std::thread::Threads;
-use trace_types::{Event, EventList, Text};
+use trace_types::{Event, EventList, NameText, Text};
 
 /// A day in nanoseconds.
 const DAY: u64 = 86_400_000_000_000;
@@ -62,6 +63,22 @@ fn add<R: Threads + Sync, S: Sink>(
     session.command(rt, Job::Add { events }, out, &OpenGate)
 }
 
+/// Carries out a job that adds nothing, or answers `Memory` where there are many traces.
+fn carry_out<R: Threads + Sync, S: Sink>(
+    rt: &R,
+    session: Session,
+    job: Job,
+    out: &mut S,
+) -> Result<Session, CommandFault>
+    requires ready { IsReady job }
+    requires none { requests_in job ≡ 0 }
+{
+    if session.trace_count() > 1000 {
+        return Err(CommandFault::Memory);
+    }
+    session.command(rt, job, out, &OpenGate)
+}
+
 /// Carries out the command of a control line, or answers `Memory` where there are many traces.
 fn control<R: Threads + Sync, S: Sink>(
     rt: &R,
@@ -71,10 +88,7 @@ fn control<R: Threads + Sync, S: Sink>(
 ) -> Result<Session, CommandFault>
     requires { IsReadyCommand command }
 {
-    if session.trace_count() > 1000 {
-        return Err(CommandFault::Memory);
-    }
-    session.command(rt, Job::Control { command }, out, &OpenGate)
+    carry_out(rt, session, Job::Control { command }, out)
 }
 
 /// Makes the events of two traces on the days 1 and 2, and of a third that has an event twice.
@@ -125,6 +139,45 @@ fn a_session_adds_drops_keeps_and_prints(rt: HostRuntime) -> Result<(), Fail> {
           vertex\t0\ta\ts\te\t10000\n\
           keep\t0\t1\n\
           model\ttraces=0\tdays=0\tsegments=0\ttasks=0\thb=0\tmx=0\tpipe=0\n"
+            .as_slice()
+    );
+    Ok(())
+}
+
+#[test]
+fn a_session_reports_and_forecasts(rt: HostRuntime) -> Result<(), Fail> {
+    let alloc = rt.alloc();
+    let mut out = MemSink::new(alloc, 100, Vec::new(alloc), 1000)?;
+    let mut session = Session::new(alloc, 1)?;
+    session = add(&rt, session, batch(alloc)?, &mut out)?;
+    let name = NameText {
+        task: Text::new(alloc, "a")?,
+        start: Text::new(alloc, "s")?,
+        end: Text::new(alloc, "e")?,
+    };
+    let change = NamedChange {
+        name,
+        num: 1,
+        den: 4,
+    };
+    session = control(&rt, session, Command::Report, &mut out)?;
+    session = carry_out(&rt, session, Job::Summary, &mut out)?;
+    session = carry_out(&rt, session, Job::Tail, &mut out)?;
+    let _session = carry_out(&rt, session, Job::WhatIf { change }, &mut out)?;
+    assert_eq!(rt;
+        out.bytes(),
+        b"refused\tr3\trepeated event\t6\n\
+          report\ttraces=2\tcritical=20000\n\
+          latency\t2\t20000\t10000\t10000\n\
+          segment\ta\ts\te\t2\t20000\t10000\t10000\t2\t20000\n\
+          model\ttraces=2\tdays=2\tsegments=1\ttasks=1\thb=0\tmx=0\tpipe=0\n\
+          report\ttraces=2\tcritical=20000\n\
+          latency\t2\t20000\t10000\t10000\n\
+          tail\ttraces=2\tslow=1\tfloor=10000\n\
+          segment\ta\ts\te\t1\t10000\t1\t10000\n\
+          whatif\ttraces=2\tbefore=20000\tafter=5000\n\
+          forecast\tr1\t1\t10000\t2500\n\
+          forecast\tr2\t2\t10000\t2500\n"
             .as_slice()
     );
     Ok(())

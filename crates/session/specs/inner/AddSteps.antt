@@ -31,7 +31,8 @@ pub record AreBooked (old : SessionState) (valid : List Trace) (new : SessionSta
     (watched : List DayLines) : Type 0 where
   pub book : IsBook old.book
   pub sheets : List DatedSheet
-  pub recorded : AreSheets old.known old.workers old.watch (graced_by old.grace valid) sheets watched
+  pub recorded : AreSheets old.known old.workers old.watch (graced_by old.grace valid) sheets
+      watched
   pub room : HasRoomFor old.book sheets
   pub is : new ≡ session_with_book old (with_all old.book sheets)
 
@@ -40,7 +41,8 @@ pub record PassDays (old : SessionState) (valid : List Trace) (days : ℕ) : Typ
   pub book : IsBook old.book
   pub sheets : List DatedSheet
   pub watched : List DayLines
-  pub recorded : AreSheets old.known old.workers old.watch (graced_by old.grace valid) sheets watched
+  pub recorded : AreSheets old.known old.workers old.watch (graced_by old.grace valid) sheets
+      watched
   pub many : most_days < days
   pub count : days ≡ length old.book.days + new_days old.book.days sheets
 

@@ -1,0 +1,95 @@
+ghost use Rattle.std.specs.Prelude.{◌≡◌, ◌≤◌};
+ghost use Rattle.session_rules.specs.declared.job.Job.TheVariants as jobs;
+ghost use Rattle.session.specs.Carrying.{IsReady, IsReadyCommand, kept_count};
+ghost use Rattle.session.specs.inner.Steps.{AddsNothing, PrintsSteps};
+ghost use Rattle.text_rows.specs.Printing.{print_faults};
+
+use crate::{Job, Session};
+use event_lines::Command;
+use forecast_rows::print_forecasts;
+use kept_books::laws::names_are_listed;
+use model_rows::print_model;
+use mystery_io::Sink;
+use report_rows::{print_report, print_summary, print_tail};
+use session_rules::SessionPart;
+use std::thread::Threads;
+use text_rows::laws::parts_follow;
+use text_rows::{PrintFault, RowBuffer};
+use trace_rows::{print_graphs, print_paths, print_slacks};
+
+impl Session {
+    /// Carries out the command of a control line, and prints its text.
+    fn print_command<R: Threads + Sync, S: Sink>(
+        &mut self,
+        rt: &R,
+        command: Command,
+        sink: &mut S,
+        buffer: &mut RowBuffer,
+    ) -> Result<(), PrintFault>
+        requires { IsReadyCommand command }
+        ensures stepped { PrintsSteps S.written S.faults result sink.old sink.new
+            (jobs.Control command) self.old self.new buffer.old buffer.new }
+        ensures workers { self.new.workers ≡ self.old.workers }
+        ensures kept { kept_count self.new ≤ kept_count self.old }
+        ensures counted { S.faults sink.new ≡ print_faults result (S.faults sink.old) }
+    {
+        parts_follow::<SessionPart>();
+        names_are_listed();
+        match command {
+            Command::Add => unreachable!(),
+            Command::Drop { day } => self.drop_day(day, sink, buffer),
+            Command::Keep { days } => self.keep_newest(days, sink, buffer),
+            Command::Watch { every } => {
+                self.set_watch(every);
+                Ok(())
+            }
+            Command::Grace { micros } => {
+                self.set_grace(micros);
+                Ok(())
+            }
+            Command::Model => print_model(self.alloc, &self.book, &self.catalogue, sink, buffer),
+            Command::Paths => print_paths(self.alloc, &self.book, &self.catalogue, sink, buffer),
+            Command::Slack => print_slacks(self.alloc, &self.book, &self.catalogue, sink, buffer),
+            Command::Report => {
+                print_report(rt, self.alloc, &self.book, &self.catalogue, sink, buffer)
+            }
+            Command::Graph => print_graphs(self.alloc, &self.book, &self.catalogue, sink, buffer),
+        }
+    }
+
+    /// Carries out a job other than an add, and prints its text.
+    pub(crate) fn print_job<R: Threads + Sync, S: Sink>(
+        &mut self,
+        rt: &R,
+        job: Job,
+        sink: &mut S,
+        buffer: &mut RowBuffer,
+    ) -> Result<(), PrintFault>
+        requires ready { IsReady job }
+        requires printed { AddsNothing job }
+        ensures stepped { PrintsSteps S.written S.faults result sink.old sink.new job self.old
+            self.new buffer.old buffer.new }
+        ensures workers { self.new.workers ≡ self.old.workers }
+        ensures kept { kept_count self.new ≤ kept_count self.old }
+        ensures counted { S.faults sink.new ≡ print_faults result (S.faults sink.old) }
+    {
+        names_are_listed();
+        match job {
+            Job::Add { .. } => unreachable!(),
+            Job::Control { command } => self.print_command(rt, command, sink, buffer),
+            Job::Summary => {
+                print_summary(rt, self.alloc, &self.book, &self.catalogue, sink, buffer)
+            }
+            Job::WhatIf { change } => print_forecasts(
+                rt,
+                self.alloc,
+                &self.book,
+                &self.catalogue,
+                &change,
+                sink,
+                buffer,
+            ),
+            Job::Tail => print_tail(rt, self.alloc, &self.book, &self.catalogue, sink, buffer),
+        }
+    }
+}
