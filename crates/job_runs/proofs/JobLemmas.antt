@@ -14,16 +14,20 @@ use Rattle.segment_names.specs.Limits.{Fits, IsPassed, PassesLimit}
 use Rattle.segment_names.specs.declared.name_fault.NameFault.{NameFault}
 use Rattle.segment_names.specs.declared.name_fault.NameFault.TheVariants as faults
 use Rattle.session_rules.specs.Batches.{AreJudged, IsJudged, refused_of, valid_of}
-use Rattle.session_rules.specs.KeptTraces.{day_of}
+use Rattle.session_rules.specs.KeptTraces.{Kept, by_kept, day_of}
 use Rattle.session_rules.specs.Parts.{Part, Refusals, KeptNewest}
-use Rattle.session_rules.specs.Sessions.{Adds, Does, Passes, PassesLimitOf, State, graced, state_after, watch_parts}
+use Rattle.session_rules.specs.ReportTexts.{AreNamesOf}
+use Rattle.session_rules.specs.Sessions.{Adds, Does, Passes, PassesLimitOf, State, graced, report_parts, state_after, tail_parts, watch_parts}
 use Rattle.session_rules.specs.declared.job.Job.{Job}
-use Rattle.session_rules.specs.declared.job.Job.TheVariants.{Add, Control}
+use Rattle.session_rules.specs.declared.job.Job.TheVariants.{Add, Control, Summary, WhatIf, Tail}
 use Rattle.session_rules.specs.declared.limit.Limit.{Limit}
 use Rattle.session_rules.specs.declared.limit.Limit.TheVariants.{Names, Tasks, Days}
 use Rattle.session_rules.specs.declared.refused.Refused.{Refused}
 use Rattle.trace_types.specs.Batch.{PlainTrace, traces_of}
 use Rattle.trace_types.specs.Listing.{ListsExactly}
+use Rattle.trace_types.specs.NameOrder.{name_cmp}
+use Rattle.trace_types.specs.Parts.{segments_of}
+use Rattle.trace_types.specs.Segments.{SegmentName, name_of}
 use Rattle.trace_types.specs.declared.event.Event.{Event}
 use Rattle.trace_types.specs.declared.trace.Trace.{Trace}
 
@@ -94,6 +98,15 @@ OneRisingList X = (cmp : X → X → Ordering) → IsTotalOrder cmp → (xs ys :
 pub one_listed : {X : Type 0} → OneRisingList X → (cmp : X → X → Ordering) (P : X → Type 0) (xs ys : List X) → IsTotalOrder cmp → ListsExactly cmp P xs → ListsExactly cmp P ys → xs ≡ ys
 one_listed listed cmp P xs ys total h k = listed cmp total xs ys h.rising k.rising (λ x. ((λ c. (k.exactly x).1 ((h.exactly x).0 c)), (λ c. (h.exactly x).1 ((k.exactly x).0 c))))
 
+-- each element stands with one other
+pub zip_one : {X Y : Type 0} (R : X → Y → Type 0) → ((x : X) (y z : Y) → R x y → R x z → y ≡ z) → (xs : List X) (ys zs : List Y) → AllZip R xs ys → AllZip R xs zs → ys ≡ zs
+zip_one R one [] [] [] h k = refl
+zip_one R one [] (y ∷ ys) zs h k = absurd h
+zip_one R one [] [] (z ∷ zs) h k = absurd k
+zip_one R one (x ∷ xs) [] zs h k = absurd h
+zip_one R one (x ∷ xs) (y ∷ ys) [] h k = absurd k
+zip_one {X} {Y} R one (x ∷ xs) (y ∷ ys) (z ∷ zs) h k = ap (λ (e : Y). e ∷ ys) (one x y z h.0 k.0) ∙ ap (λ (es : List Y). z ∷ es) (zip_one R one xs ys zs h.1 k.1)
+
 -- ---- jobs
 
 module _ (verdict : OneVerdict) where
@@ -103,17 +116,9 @@ module _ (verdict : OneVerdict) where
   one_verdict raw (Ok t) (Err f) h k = absurd (verdict.not_both raw.request raw.events t f h k)
   one_verdict raw (Err f) (Ok t) h k = absurd (verdict.not_both raw.request raw.events t f k h)
 
-  verdicts_one : (raws : List PlainTrace) (vs ws : List (Result Trace TraceFault)) → AllZip IsJudged raws vs → AllZip IsJudged raws ws → vs ≡ ws
-  verdicts_one [] [] [] h k = refl
-  verdicts_one [] (v ∷ vs) ws h k = absurd h
-  verdicts_one [] [] (w ∷ ws) h k = absurd k
-  verdicts_one (r ∷ rs) [] ws h k = absurd h
-  verdicts_one (r ∷ rs) (v ∷ vs) [] h k = absurd k
-  verdicts_one (r ∷ rs) (v ∷ vs) (w ∷ ws) h k = ap (λ (x : Result Trace TraceFault). x ∷ vs) (one_verdict r v w h.0 k.0) ∙ ap (λ (xs : List (Result Trace TraceFault)). w ∷ xs) (verdicts_one rs vs ws h.1 k.1)
-
   judged_one : (raws : List PlainTrace) (valid others : List Trace) (refused also : List Refused) → AreJudged raws valid refused → AreJudged raws others also → (valid ≡ others) × (refused ≡ also)
   judged_one raws valid others refused also h k =
-      let same : h.verdicts ≡ k.verdicts = verdicts_one raws h.verdicts k.verdicts h.each k.each in
+      let same : h.verdicts ≡ k.verdicts = zip_one IsJudged one_verdict raws h.verdicts k.verdicts h.each k.each in
       (h.valid_are ∙ ap valid_of same ∙ sym k.valid_are, h.refused_are ∙ ap (refused_of raws) same ∙ sym k.refused_are)
 
   -- a job that is carried out passes no limit
@@ -122,6 +127,9 @@ module _ (verdict : OneVerdict) where
       let same : h.valid ≡ k.0 = (judged_one (traces_of events) h.valid k.0 h.refused k.1 h.judged k.2).0 in
       h.fits limit (subst (λ (v : List Trace). PassesLimitOf s v limit) (sym same) k.3)
   no_limit w (Control command) s next parts limit h k = absurd k
+  no_limit w Summary s next parts limit h k = absurd k
+  no_limit w (WhatIf change) s next parts limit h k = absurd k
+  no_limit w Tail s next parts limit h k = absurd k
 
   -- a job passes one limit
   pub one_limit : (job : Job) (s : State) (l m : Limit) → Passes job s l → Passes job s m → l ≡ m
@@ -129,8 +137,11 @@ module _ (verdict : OneVerdict) where
       let same : h.0 ≡ k.0 = (judged_one (traces_of events) h.0 k.0 h.1 k.1 h.2 k.2).0 in
       limits_one s h.0 l m h.3 (subst (λ (v : List Trace). PassesLimitOf s v m) (sym same) k.3)
   one_limit (Control command) s l m h k = absurd h
+  one_limit Summary s l m h k = absurd h
+  one_limit (WhatIf change) s l m h k = absurd h
+  one_limit Tail s l m h k = absurd h
 
-  module _ (listed : OneRisingList ℕ) where
+  module _ (listed : OneRisingList ℕ) (names : OneRisingList SegmentName) (order : IsTotalOrder name_cmp) where
     adds_one : (w : ℕ) (events : List Event) (s next other : State) (parts others : List Part) → Adds w events s parts next → Adds w events s others other → (parts ≡ others) × (next ≡ other)
     adds_one w events s next other parts others h k = (
       h.printed ∙ ap (λ (r : List Refused). Refusals r ∷ watch_parts s.watch w (graced s h.valid) h.days) same.1
@@ -145,6 +156,9 @@ module _ (verdict : OneVerdict) where
         days : h.days ≡ k.days
         days = one_listed listed nat_cmp (Contains (map day_of (graced s k.valid))) h.days k.days nat_cmp_total (subst (λ (v : List Trace). ListsExactly nat_cmp (Contains (map day_of (graced s v))) h.days) same.0 h.days_are) k.days_are
 
+    names_one : (kept : List Kept) (xs ys : List SegmentName) → AreNamesOf kept xs → AreNamesOf kept ys → xs ≡ ys
+    names_one kept xs ys h k = one_listed names name_cmp (Contains (map name_of (segments_of by_kept kept))) xs ys order h k
+
     -- a job that is carried out does one thing
     pub does_one : (w : ℕ) (job : Job) (s next other : State) (parts others : List Part) → Does w job s parts next → Does w job s others other → (parts ≡ others) × (next ≡ other)
     does_one w (Add events) s next other parts others h k = adds_one w events s next other parts others h k
@@ -158,5 +172,8 @@ module _ (verdict : OneVerdict) where
     does_one w (Control commands.Model) s next other parts others h k = (h.1 ∙ sym k.1, h.0 ∙ sym k.0)
     does_one w (Control commands.Paths) s next other parts others h k = (h.1 ∙ sym k.1, h.0 ∙ sym k.0)
     does_one w (Control commands.Slack) s next other parts others h k = (h.1 ∙ sym k.1, h.0 ∙ sym k.0)
-    does_one w (Control commands.Report) s next other parts others h k = absurd h
+    does_one w (Control commands.Report) s next other parts others h k = (h.1.2 ∙ ap (report_parts s.kept) (names_one s.kept h.1.0 k.1.0 h.1.1 k.1.1) ∙ sym k.1.2, h.0 ∙ sym k.0)
     does_one w (Control commands.Graph) s next other parts others h k = (h.1 ∙ sym k.1, h.0 ∙ sym k.0)
+    does_one w Summary s next other parts others h k = (h.1 ∙ sym k.1, h.0 ∙ sym k.0)
+    does_one w (WhatIf change) s next other parts others h k = (h.1 ∙ sym k.1, h.0 ∙ sym k.0)
+    does_one w Tail s next other parts others h k = (h.1.2 ∙ ap (tail_parts s.kept) (names_one s.kept h.1.0 k.1.0 h.1.1 k.1.1) ∙ sym k.1.2, h.0 ∙ sym k.0)

@@ -1,7 +1,8 @@
-mod BuiltLemmas
 mod EndingLemmas
+mod ForecastTextLemmas
 mod JobLemmas
 mod PartLemmas
 mod ReadyLemmas
+mod ReportTextLemmas
 mod RunLemmas
 mod TraceTextLemmas

@@ -5,8 +5,9 @@ use Rattle.std.specs.Cmp.Lexicographic.{slice_cmp}
 use Rattle.std.specs.Ordering.{nat_cmp}
 use Rattle.model_meet.specs.Pipes.{IsPipeline}
 use Rattle.session_rules.specs.KeptTraces.{Kept, by_kept, day_of}
-use Rattle.session_rules.specs.ModelTexts.{AreFigures, Figures, IsModelText, model_text}
-use Rattle.session_rules.specs.Parts.{AreWatchRows, Part, IsPart, Refusals, Watched, Dropped, KeptNewest, ModelOf, Header, PathOf, SlacksOf, GraphOf}
+use Rattle.session_rules.specs.ModelTexts.{AreFigures, Figures, IsModelHead, IsModelText, header_row, model_text}
+use Rattle.session_rules.specs.Parts.{AreWatchRows, Part, IsPart, Refusals, Watched, Dropped, KeptNewest, ModelOf, Header, PathOf, SlacksOf, GraphOf, ModelHead, ReportHead, LatenciesOf, SegmentOf, TailHead, TailOf, ForecastHead, ForecastOf}
+use Rattle.slow_tail.specs.SlowLaws.{PathsAreOne}
 use Rattle.text_rows.specs.TextsOfParts.{AreTexts}
 use Rattle.trace_graph.specs.TraceGraphs.{HasOneGraph}
 use Rattle.trace_types.specs.Listing.{CountsDistinct}
@@ -16,6 +17,8 @@ use Rattle.trace_types.specs.Relations.{HappensBefore, ExcludesUnordered}
 use Rattle.trace_types.specs.Segments.{SegmentName, name_of, task_of}
 use Rattle.job_runs.specs.WatchLaws.{AreAlikeByPart, AreSameRows, IsAlike}
 use Rattle.job_runs.proofs.JobLemmas.{OneRisingList, one_listed}
+use Rattle.job_runs.proofs.ForecastTextLemmas.{forecast_head_one, forecast_row_one}
+use Rattle.job_runs.proofs.ReportTextLemmas.{latencies_one, report_head_one, segment_one, tail_head_one, tail_one}
 use Rattle.job_runs.proofs.TraceTextLemmas.{graph_one, path_one, slacks_one}
 
 -- a list has one number of different elements
@@ -33,6 +36,7 @@ pub record OneTelling : Type 0 where
   pub name_order : IsTotalOrder (pair_cmp name_cmp)
   pub task_order : IsTotalOrder (pair_cmp (slice_cmp nat_cmp))
   pub graphs : HasOneGraph by_kept
+  pub paths : PathsAreOne by_kept
 
 watch_one : (every workers day : ℕ) (traces : List Kept) (t u : List ℕ) → AreWatchRows every workers day traces t → AreWatchRows every workers day traces u → AreSameRows day t u
 watch_one every workers day traces t u h k = record { lines = h.lines; others = k.lines; text_is = h.text; other_is = k.text; marks = h.are.marks ∙ sym k.are.marks }
@@ -68,6 +72,9 @@ module _ (told : OneTelling) where
   model_one : (kept : List Kept) (t u : List ℕ) → IsModelText kept t → IsModelText kept u → t ≡ u
   model_one kept t u h k = h.text ∙ ap (model_text (length kept)) (figures_one kept h.figures k.figures h.told k.told) ∙ sym k.text
 
+  model_head_one : (kept : List Kept) (t u : List ℕ) → IsModelHead kept t → IsModelHead kept u → t ≡ u
+  model_head_one kept t u h k = h.text ∙ ap (header_row (length kept)) (figures_one kept h.figures k.figures h.told k.told) ∙ sym k.text
+
   pub part_one : (part : Part) (t u : List ℕ) → IsPart part t → IsPart part u → IsAlike part t u
   part_one (Refusals refused) t u h k = h ∙ sym k
   part_one (Watched every workers day traces) t u h k = watch_one every workers day traces t u h k
@@ -78,6 +85,14 @@ module _ (told : OneTelling) where
   part_one (PathOf kept trace) t u h k = path_one told.graphs kept trace t u h k
   part_one (SlacksOf kept trace) t u h k = slacks_one told.graphs kept trace t u h k
   part_one (GraphOf kept trace) t u h k = graph_one told.graphs told.numbers kept trace t u h k
+  part_one (ModelHead kept) t u h k = model_head_one kept t u h k
+  part_one (ReportHead kept) t u h k = report_head_one told.paths kept t u h k
+  part_one (LatenciesOf kept) t u h k = latencies_one kept t u h k
+  part_one (SegmentOf kept name) t u h k = segment_one told.paths kept name t u h k
+  part_one (TailHead kept) t u h k = tail_head_one kept t u h k
+  part_one (TailOf kept name) t u h k = tail_one told.paths kept name t u h k
+  part_one (ForecastHead change kept) t u h k = forecast_head_one told.graphs change kept t u h k
+  part_one (ForecastOf change kept trace) t u h k = forecast_row_one told.graphs change kept trace t u h k
 
   pub parts_one : (parts : List Part) (t u : List ℕ) → AreTexts IsPart parts t → AreTexts IsPart parts u → AreAlikeByPart parts t u
   parts_one [] t u h k = (h, k)

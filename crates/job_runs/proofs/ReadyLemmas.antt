@@ -5,9 +5,9 @@ use Rattle.std.specs.List.Sorted.{IsStrictlyIncreasing}
 use Rattle.std.specs.Str.{bytes_eq}
 use Rattle.std.proofs.lemmas.Bool.{cases_Bool, cond-true, cond-false}
 use Rattle.std.proofs.lemmas.List.{length-append, length-map, map-append}
-use Rattle.std.proofs.lemmas.List.Elements.{All-cons, All-head, All-nil, All-push, All-tail}
+use Rattle.std.proofs.lemmas.List.Elements.{All-append, All-cons, All-head, All-nil, All-push, All-tail}
 use Rattle.std.proofs.lemmas.List.Kept.{AllPairs-from_increasing}
-use Rattle.std.proofs.lemmas.List.Sums.{sum_by-cons}
+use Rattle.std.proofs.lemmas.List.Sums.{sum_by-append, sum_by-cons}
 use Rattle.event_lines.specs.GoodLines.{IsLimited, IsTimely, NumbersRise, line_number}
 use Rattle.event_lines.specs.declared.command.Command.{Command}
 use Rattle.event_lines.specs.declared.command.Command.TheVariants as commands
@@ -15,12 +15,13 @@ use Rattle.event_lines.specs.declared.line.Line.{Line}
 use Rattle.event_lines.specs.declared.line.Line.TheVariants as lines
 use Rattle.session.specs.Carrying.{IsReady, IsReadyCommand, requests_in}
 use Rattle.session_rules.specs.Jobs.{batch_after, job_of, jobs_from, jobs_of}
+use Rattle.session_rules.specs.declared.job.Job.{Job}
 use Rattle.session_rules.specs.declared.job.Job.TheVariants.{Add}
 use Rattle.trace_types.specs.Batch.{requests_of}
 use Rattle.trace_types.specs.Firsts.{firsts_of}
 use Rattle.trace_types.specs.Times.{AreTimely, latest_time}
 use Rattle.trace_types.specs.declared.event.Event.{Event}
-use Rattle.job_runs.specs.ReadyLaws.{IsBuilt, IsFurther}
+use Rattle.job_runs.specs.ReadyLaws.{IsFurther}
 use Rattle.job_runs.specs.Running.{AreReady}
 
 -- ---- requests
@@ -132,22 +133,21 @@ job_ready batch ls line (commands.Grace micros) b (inr h) = h
 job_ready batch ls line commands.Model b h = tt
 job_ready batch ls line commands.Paths b h = tt
 job_ready batch ls line commands.Slack b h = tt
-job_ready batch ls line commands.Report b (inl e) = absurd (cc e)
-job_ready batch ls line commands.Report b (inr h) = absurd h
+job_ready batch ls line commands.Report b h = tt
 job_ready batch ls line commands.Graph b h = tt
 
--- a built command within its limit is an add or one that a session carries out
-command_ready : (line : ℕ) (command : Command) → IsBuilt (lines.Control line command) → IsLimited (lines.Control line command) → (command ≡ commands.Add) ⊎ IsReadyCommand command
-command_ready line commands.Add built limited = inl refl
-command_ready line (commands.Drop day) built limited = inr tt
-command_ready line (commands.Keep days) built limited = inr tt
-command_ready line (commands.Watch every) built limited = inr tt
-command_ready line (commands.Grace micros) built limited = inr limited
-command_ready line commands.Model built limited = inr tt
-command_ready line commands.Paths built limited = inr tt
-command_ready line commands.Slack built limited = inr tt
-command_ready line commands.Report built limited = absurd (cc built)
-command_ready line commands.Graph built limited = inr tt
+-- a command within its limit is an add or one that a session carries out
+command_ready : (line : ℕ) (command : Command) → IsLimited (lines.Control line command) → (command ≡ commands.Add) ⊎ IsReadyCommand command
+command_ready line commands.Add limited = inl refl
+command_ready line (commands.Drop day) limited = inr tt
+command_ready line (commands.Keep days) limited = inr tt
+command_ready line (commands.Watch every) limited = inr tt
+command_ready line (commands.Grace micros) limited = inr limited
+command_ready line commands.Model limited = inr tt
+command_ready line commands.Paths limited = inr tt
+command_ready line commands.Slack limited = inr tt
+command_ready line commands.Report limited = inr tt
+command_ready line commands.Graph limited = inr tt
 
 -- the events that a command leaves are a batch before the lines after it
 batch_left : (batch : List Event) (line : ℕ) (command : Command) (ls : List Line) → IsBatch batch (lines.Control line command ∷ ls) → IsBatch (batch_after batch command) ls
@@ -205,19 +205,21 @@ further_ready batch (lines.Control line command ∷ more) b h =
     by commands.Report = b
     by commands.Graph = b
 
-all_ready : (batch : List Event) (ls more : List Line) → IsBatch batch ls → All IsTimely ls → All IsLimited ls → All IsBuilt ls → All IsFurther more → All IsReady (jobs_from batch (ls ++ more))
-all_ready batch [] more b timely limited built h = further_ready batch more b h
-all_ready batch (lines.Event event ∷ ls) more b timely limited built h =
+all_ready : (batch : List Event) (ls more : List Line) → IsBatch batch ls → All IsTimely ls → All IsLimited ls → All IsFurther more → All IsReady (jobs_from batch (ls ++ more))
+all_ready batch [] more b timely limited h = further_ready batch more b h
+all_ready batch (lines.Event event ∷ ls) more b timely limited h =
     all_ready (batch ++ event ∷ []) ls more (batch_more batch event ls (All-head IsTimely (lines.Event event) ls timely) b)
-    (All-tail IsTimely (lines.Event event) ls timely) (All-tail IsLimited (lines.Event event) ls limited) (All-tail IsBuilt (lines.Event event) ls built) h
-all_ready batch (lines.Control line command ∷ ls) more b timely limited built h =
+    (All-tail IsTimely (lines.Event event) ls timely) (All-tail IsLimited (lines.Event event) ls limited) h
+all_ready batch (lines.Control line command ∷ ls) more b timely limited h =
     let c : Line = lines.Control line command in
     All-cons IsReady (job_of batch command) (jobs_from (batch_after batch command) (ls ++ more))
-    (job_ready batch (c ∷ ls) line command b (command_ready line command (All-head IsBuilt c ls built) (All-head IsLimited c ls limited)))
-    (all_ready (batch_after batch command) ls more (batch_left batch line command ls b) (All-tail IsTimely c ls timely) (All-tail IsLimited c ls limited) (All-tail IsBuilt c ls built) h)
+    (job_ready batch (c ∷ ls) line command b (command_ready line command (All-head IsLimited c ls limited)))
+    (all_ready (batch_after batch command) ls more (batch_left batch line command ls b) (All-tail IsTimely c ls timely) (All-tail IsLimited c ls limited) h)
 
-pub jobs_ready : (ls more : List Line) → NumbersRise ls → All IsTimely ls → All IsLimited ls → All IsBuilt ls → length ls < 2 ^ 32 → All IsFurther more → AreReady (jobs_of (ls ++ more))
-jobs_ready ls more rise timely limited built few h = record {
-  each = all_ready [] ls more (record { up = up_from (map line_number ls) (AllPairs-from_increasing (map line_number ls) rise); timely = All-nil (λ (e : Event). e.time ≤ latest_time); few = omega (arith, few) }) timely limited built h;
-  few = omega (arith, few, sum_all [] ls more h);
+pub jobs_ready : (ls more : List Line) (last : List Job) → NumbersRise ls → All IsTimely ls → All IsLimited ls → length ls < 2 ^ 32 → All IsFurther more → All IsReady last → sum_by requests_in last ≡ 0 → AreReady (jobs_of (ls ++ more) ++ last)
+jobs_ready ls more last rise timely limited few h ready none = record {
+  each = All-append IsReady (jobs_of (ls ++ more)) last
+      (all_ready [] ls more (record { up = up_from (map line_number ls) (AllPairs-from_increasing (map line_number ls) rise); timely = All-nil (λ (e : Event). e.time ≤ latest_time); few = omega (arith, few) }) timely limited h)
+      ready;
+  few = omega (arith, few, sum_all [] ls more h, none, sum_by-append requests_in (jobs_of (ls ++ more)) last);
 }

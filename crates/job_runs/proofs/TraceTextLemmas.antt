@@ -45,7 +45,7 @@ chain_one g c d h first k other = elim (ordered c d) [
   | inr (inr after) ↦ absurd (first d k after)
 ]
 
-length_one : (g : Graph) (n m : ℕ) → IsLongestLength g n → IsLongestLength g m → n ≡ m
+pub length_one : (g : Graph) (n m : ℕ) → IsLongestLength g n → IsLongestLength g m → n ≡ m
 length_one g n m h k = omega (arith, h.1.none_longer k.0 k.1.chain, k.1.none_longer h.0 h.1.chain, h.2, k.2)
 
 slack_one : (g : Graph) (v n m : ℕ) → IsSlack g v n → IsSlack g v m → n ≡ m
@@ -84,7 +84,7 @@ abbrev slack_row : Kept → List ℕ → Graph → List ℕ → ℕ → List ℕ
 slack_row k order graph slacks v = row_of (codes "segment" ∷ (name_at k order v).0 ∷ (name_at k order v).1 ∷ (name_at k order v).2 ∷ decimal (weight_of graph v) ∷ decimal (slice_index slacks v) ∷ [])
 
 module _ (graphs : HasOneGraph by_kept) where
-  of_one_graph : (kept : List Kept) (k : Kept) (order other : List ℕ) (g h : Graph) → IsGraphOf kept k order g → IsGraphOf kept k other h → (order ≡ other) × (g ≡ h)
+  pub of_one_graph : (kept : List Kept) (k : Kept) (order other : List ℕ) (g h : Graph) → IsGraphOf kept k order g → IsGraphOf kept k other h → (order ≡ other) × (g ≡ h)
   of_one_graph kept k order other g h one two = graphs kept k order other g h one.keeps two.keeps one.of_trace two.of_trace
 
   pub path_one : (kept : List Kept) (k : Kept) (t u : List ℕ) → IsPathText kept k t → IsPathText kept k u → t ≡ u

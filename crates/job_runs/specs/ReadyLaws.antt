@@ -1,38 +1,27 @@
 -- Which lines make jobs that sessions carry out: statements that laws prove.
-use Rattle.std.specs.Prelude.{◌≡◌, ◌⊎◌, ℕ, ◌^◌, ◌<◌, ◌≤◌, ◌++◌, List, All, length, sum_by, true}
-use Rattle.std.specs.Prelude.{Ok, ⊤}
-use Rattle.event_lines.specs.Commands.{is_built}
+use Rattle.std.specs.Prelude.{◌≡◌, ◌⊎◌, ◌^◌, ◌<◌, ◌≤◌, ◌++◌, List, All, length, sum_by}
 use Rattle.event_lines.specs.GoodLines.{IsLimited, IsTimely, NumbersRise}
-use Rattle.event_lines.specs.InputLines.{lines_said}
 use Rattle.event_lines.specs.declared.command.Command.TheVariants.{Add}
 use Rattle.event_lines.specs.declared.line.Line.{Line}
 use Rattle.event_lines.specs.declared.line.Line.TheVariants as lines
-use Rattle.session.specs.Carrying.{IsReadyCommand, requests_in}
+use Rattle.session.specs.Carrying.{IsReady, IsReadyCommand, requests_in}
 use Rattle.session_rules.specs.Jobs.{jobs_of}
+use Rattle.session_rules.specs.declared.job.Job.{Job}
 use Rattle.trace_types.specs.Batch.{requests_of}
 use Rattle.trace_types.specs.declared.event.Event.{Event}
 use Rattle.job_runs.specs.Running.{AreReady}
-
--- an event, or a command that is carried out: no report
-abbrev pub IsBuilt : Line → Type 0
-IsBuilt (lines.Event event) = ⊤
-IsBuilt (lines.Control line command) = is_built command ≡ true
 
 -- a command with which an input may go on: an add, or one that a session carries out
 abbrev pub IsFurther : Line → Type 0
 IsFurther (lines.Event event) = ⊥
 IsFurther (lines.Control line command) = (command ≡ Add) ⊎ IsReadyCommand command
 
--- the lines of an input without a bad one are built
-abbrev pub GoodLinesAreBuilt : Type 0
-GoodLinesAreBuilt = (bytes : List ℕ) (lines : List Line) → lines_said bytes ≡ Ok lines
-    → All IsBuilt lines
-
--- the lines of an input, and further commands, make jobs that sessions carry out
+-- the lines of an input, further commands, and jobs without requests make jobs that sessions carry
+-- out
 abbrev pub JobsAreReady : Type 0
-JobsAreReady = (lines more : List Line) → NumbersRise lines → All IsTimely lines
-    → All IsLimited lines → All IsBuilt lines → length lines < 2 ^ 32 → All IsFurther more
-    → AreReady (jobs_of (lines ++ more))
+JobsAreReady = (lines more : List Line) (last : List Job) → NumbersRise lines → All IsTimely lines
+    → All IsLimited lines → length lines < 2 ^ 32 → All IsFurther more → All IsReady last
+    → sum_by requests_in last ≡ 0 → AreReady (jobs_of (lines ++ more) ++ last)
 
 -- a batch has no more requests than events
 abbrev pub BatchHasFewRequests : Type 0

@@ -3,7 +3,9 @@ use Rattle.std.specs.Prelude.{◌≡◌, ℕ, List, [], ◌∷◌, ◌++◌, map
 use Rattle.std.specs.List.{flat_map}
 use Rattle.session_rules.specs.Parts.{Part, IsPart, watch_row}
 use Rattle.session_rules.specs.Parts.{Refusals, Watched, Dropped, KeptNewest, ModelOf, Header}
-use Rattle.session_rules.specs.Parts.{PathOf, SlacksOf, GraphOf}
+use Rattle.session_rules.specs.Parts.{PathOf, SlacksOf, GraphOf, ModelHead, ReportHead}
+use Rattle.session_rules.specs.Parts.{LatenciesOf, SegmentOf, TailHead, TailOf, ForecastHead}
+use Rattle.session_rules.specs.Parts.{ForecastOf}
 use Rattle.text_rows.specs.TextsOfParts.{AreTexts}
 use Rattle.trace_pass.specs.declared.watch_lines.WatchLine.{WatchLine}
 use Rattle.job_runs.specs.EndingLaws.{AreAlike}
@@ -32,6 +34,14 @@ IsAlike (Header word count) text other = text ≡ other
 IsAlike (PathOf kept k) text other = text ≡ other
 IsAlike (SlacksOf kept k) text other = text ≡ other
 IsAlike (GraphOf kept k) text other = text ≡ other
+IsAlike (ModelHead kept) text other = text ≡ other
+IsAlike (ReportHead kept) text other = text ≡ other
+IsAlike (LatenciesOf kept) text other = text ≡ other
+IsAlike (SegmentOf kept name) text other = text ≡ other
+IsAlike (TailHead kept) text other = text ≡ other
+IsAlike (TailOf kept name) text other = text ≡ other
+IsAlike (ForecastHead change kept) text other = text ≡ other
+IsAlike (ForecastOf change kept k) text other = text ≡ other
 
 -- two texts are alike part by part
 abbrev pub AreAlikeByPart : List Part → List ℕ → List ℕ → Type 0

@@ -2,23 +2,19 @@
 ghost use Rattle.job_runs.specs.EndingLaws.{JobDoesOneThing, JobPassesNoLimit, JobPassesOneLimit};
 ghost use Rattle.job_runs.specs.EndingLaws.{JobsStopAtOneLimit, TextsToLimitAreAlike};
 ghost use Rattle.job_runs.specs.EndingLaws.{WholeStopsAtNoLimit, WholeTextsAreAlike};
-ghost use Rattle.job_runs.specs.ReadyLaws.{BatchHasFewRequests, GoodLinesAreBuilt, JobsAreReady};
-ghost use Rattle.job_runs.specs.ReadyLaws.{JobsHaveFewRequests};
+ghost use Rattle.job_runs.specs.ReadyLaws.{BatchHasFewRequests, JobsAreReady, JobsHaveFewRequests};
 ghost use Rattle.job_runs.specs.WatchLaws.{AlikeTextsDifferInNumbers, OnlyWatchNumbersDiffer};
 ghost use Rattle.job_runs.specs.WatchLaws.{PartHasOneText};
 
-use crate::kept_trace::KeptTrace;
 use segment_cut::laws::a_trace_has_one_verdict;
+use session_rules::KeptTrace;
+use slow_tail::laws::paths_are_one;
 use trace_graph::laws::a_trace_has_one_graph;
 use trace_types::laws::{a_list_is_told_in_one_way, names_are_totally_ordered};
 use trace_types::{NameText, Segment, Text};
 
-/// The lines of an input without a bad one have no report among them.
-pub fn good_lines_are_built()
-    ensures { GoodLinesAreBuilt }
-{}
-
-/// Such lines, and further commands, make jobs that sessions carry out.
+/// The lines of an input without a bad one, further commands, and jobs that follow them make jobs
+/// that sessions carry out.
 pub fn jobs_are_ready()
     ensures { JobsAreReady }
 {}
@@ -37,6 +33,8 @@ pub fn a_job_does_one_thing()
 {
     a_trace_has_one_verdict();
     a_list_is_told_in_one_way::<u32>();
+    a_list_is_told_in_one_way::<NameText>();
+    names_are_totally_ordered::<NameText>();
 }
 
 /// Jobs are carried out to their end or stop at one limit, and two texts of the one or the other
@@ -65,4 +63,5 @@ pub fn only_watch_numbers_differ()
     names_are_totally_ordered::<NameText>();
     names_are_totally_ordered::<Text>();
     a_trace_has_one_graph::<KeptTrace, Segment, NameText, Text, Text>();
+    paths_are_one::<KeptTrace, Segment, NameText, Text, Text>();
 }

@@ -2,7 +2,6 @@
 //! written of their text.
 #![tactic(auto)]
 
-mod kept_trace;
 pub mod laws;
 mod running;
 
