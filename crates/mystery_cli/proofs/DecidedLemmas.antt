@@ -1,13 +1,13 @@
 -- Arguments and an input decide how a run ends that meets no fault and finds memory.
 use Rattle.std.proofs.Common.{◌≡◌, ◌⊎◌, ℕ, List, Option, Some, None, arith, refl, sym, ◌∙◌, ap, subst, inl, inr}
-use Rattle.std.specs.Prelude.{Result, Ok, Err}
+use Rattle.std.specs.Prelude.{IfSome, Result, Ok, Err}
 use Rattle.session_rules.specs.declared.limit.Limit.{Limit}
 use Rattle.mystery_cli.specs.declared.outcome.Outcome.{Outcome}
 use Rattle.mystery_cli.specs.declared.outcome.Outcome.TheVariants.{Done, Memory, Arguments, BadLine, File, Write, Size, Over}
-use Rattle.mystery_cli.specs.CommandLines.{Call, call_of}
+use Rattle.mystery_cli.specs.CommandLines.{Call, call_of, files_of}
 use Rattle.mystery_cli.specs.Endings.{CallEnds, Ends, EndsAt, IsDecided, Writes}
 use Rattle.mystery_cli.specs.Messages.{status_of}
-use Rattle.mystery_cli.specs.Runs.{OfInput}
+use Rattle.mystery_cli.specs.Runs.{OfInput, told_input}
 use Rattle.mystery_cli.specs.Texts.{IsTextOf, IsTextUpTo}
 use Rattle.mystery_cli.specs.Works.{BadInput, Work, Jobs, Steps, work_said}
 use Rattle.job_runs.specs.EndingLaws.{AreAlike, JobsStopAtOneLimit, TextsToLimitAreAlike, WholeStopsAtNoLimit, WholeTextsAreAlike}
@@ -136,10 +136,14 @@ module _ (one : HaveOneEnding) where
   decided_as words input (File i) p n t u s d h k = inr (inr (inl s))
   decided_as words input Write p n t u s d h k = inr (inr (inr s))
 
+  decided_of : (told : Option (List ℕ)) (words : List (List ℕ)) (old new : Option (List ℕ)) (o : Outcome) (n : ℕ) → n ≡ status_of o → IfSome told (λ input. (text : List ℕ) × Ends words input o text × Writes o old new text)
+      → IfSome told (λ input. (p : Outcome) (u : List ℕ) → IsDecided p → Ends words input p u → (n ≡ status_of p) ⊎ (n ≡ 1) ⊎ (n ≡ 4) ⊎ (n ≡ 5))
+  decided_of None words old new o n s h = tt
+  decided_of (Some input) words old new o n s h = λ p u d k. decided_as words input o p n h.0 u s d h.1 k
+
   pub decided_by : (contents : Option (List ℕ → List ℕ)) (words : List (List ℕ)) (old new : Option (List ℕ)) (o : Outcome) (n : ℕ) → n ≡ status_of o → OfInput contents words (λ input. (text : List ℕ) × Ends words input o text × Writes o old new text)
       → OfInput contents words (λ input. (p : Outcome) (u : List ℕ) → IsDecided p → Ends words input p u → (n ≡ status_of p) ⊎ (n ≡ 1) ⊎ (n ≡ 4) ⊎ (n ≡ 5))
-  decided_by None words old new o n s h = tt
-  decided_by (Some c) words old new o n s h = λ p u d k. decided_as words _ o p n h.0 u s d h.1 k
+  decided_by contents words old new o n s h = decided_of (told_input contents (files_of words)) words old new o n s h
 
 -- two texts of one ending are one, or alike
 module _ (whole : WholeTextsAreAlike) (limited : TextsToLimitAreAlike) where

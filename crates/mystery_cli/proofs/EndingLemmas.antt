@@ -1,11 +1,13 @@
 -- How the outcome of an input that was read is that of the run.
-use Rattle.std.proofs.Common.{◌≡◌, ◌⊎◌, ℕ, zero, suc, ◌+◌, ◌∷◌, ◌<◌, ◌≤◌, List, [], length, take, true, Option, Some, None, arith, refl, sym, subst, inl, inr}
-use Rattle.std.specs.Prelude.{IfSome, Result, Ok, Err}
+use Rattle.std.proofs.Common.{◌≡◌, ◌⊎◌, ℕ, zero, suc, ◌+◌, ◌∷◌, ◌<◌, ◌≤◌, List, [], length, take, true, false, Option, Some, None, ap, arith, refl, sym, ◌∙◌, subst, inl, inr}
+use Rattle.std.specs.Prelude.{◌==◌, IfSome, Result, Ok, Err}
 use Rattle.std.specs.Io.KnownBytes.{IsAtEnd}
-use Rattle.std.proofs.lemmas.List.{length-append}
+use Rattle.std.proofs.lemmas.Bool.{eqb-true}
+use Rattle.std.proofs.lemmas.List.{append-nil, length-append, nil_from_length}
 use Rattle.mystery_io.specs.Prefixes.{AppendsPrefix}
+use Rattle.mystery_io.specs.Counts.{CountsCalls}
 use Rattle.mystery_io.specs.Input.{input_limit, input_of, ended}
-use Rattle.mystery_io.specs.ReadFaults.{OpensFirst, FailedAt, PassedAt}
+use Rattle.mystery_io.specs.ReadFaults.{OpensFirst, FailedAt, PassedAt, append_names}
 use Rattle.job_runs.specs.Running.{WritesWhole}
 use Rattle.session_rules.specs.Sessions.{first_state}
 use Rattle.session_rules.specs.declared.job.Job.{Job}
@@ -14,7 +16,7 @@ use Rattle.mystery_cli.specs.declared.outcome.Outcome.TheVariants.{Done, Memory,
 use Rattle.mystery_cli.specs.CommandLines.{Call, call_of, is_in_grammar, files_of, files_of_action}
 use Rattle.mystery_cli.specs.Endings.{CallEnds, Ends, EndsAt, Writes}
 use Rattle.mystery_cli.specs.ReplayTexts.{replay_text}
-use Rattle.mystery_cli.specs.Runs.{Seen, OfInput, ReadsAll, EndsAs, Reads, Explains}
+use Rattle.mystery_cli.specs.Runs.{Seen, OfInput, ReadsAll, EndsAs, Reads, Explains, told_input}
 use Rattle.mystery_cli.specs.Works.{BadInput, Work, Jobs, Steps, work_said}
 use Rattle.mystery_cli.specs.inner.InputEnds.{InputEnds, SaidEnds}
 use Rattle.mystery_cli.proofs.ReplayLemmas.{unbegun}
@@ -34,18 +36,41 @@ pub whole_ends : (workers : ℕ) (jobs : List Job) (old new : Option (List ℕ))
 whole_ends workers jobs old new h = (h.1, (h.0, h.2), h.3)
 
 -- what holds of every input holds of the one that is told
+some_any : (o : Option (List ℕ)) (P : List ℕ → Type 0) → ((input : List ℕ) → P input) → IfSome o P
+some_any None P f = tt
+some_any (Some x) P f = f x
+
+some_map : (o : Option (List ℕ)) (P Q : List ℕ → Type 0) → ((input : List ℕ) → P input → Q input) → IfSome o P → IfSome o Q
+some_map None P Q f h = tt
+some_map (Some x) P Q f h = f x h
+
 any_input : (contents : Option (List ℕ → List ℕ)) (words : List (List ℕ)) (P : List ℕ → Type 0) → ((input : List ℕ) → P input) → OfInput contents words P
-any_input None words P f = tt
-any_input (Some c) words P f = f (input_of c (files_of words))
+any_input contents words P f = some_any (told_input contents (files_of words)) P f
 
 of_input : (contents : Option (List ℕ → List ℕ)) (words : List (List ℕ)) (P Q : List ℕ → Type 0) → ((input : List ℕ) → P input → Q input) → OfInput contents words P → OfInput contents words Q
-of_input None words P Q f h = tt
-of_input (Some c) words P Q f h = f (input_of c (files_of words)) h
+of_input contents words P Q f h = some_map (told_input contents (files_of words)) P Q f h
 
--- what was read of the files is the input of the arguments
-pub read_input : (contents : Option (List ℕ → List ℕ)) (words files : List (List ℕ)) (bytes : List ℕ) → files_of words ≡ files → IfSome contents (λ c. bytes ≡ input_of c files) → OfInput contents words (λ input. bytes ≡ input)
-read_input None words files bytes e h = tt
-read_input (Some c) words files bytes e h = rw e h
+-- there are names, or none
+pub some_names : (names : List (List ℕ)) → (length names == 0) ≡ false → 0 < length names
+some_names [] e =
+    let both : true ≡ false = e in
+    cc
+some_names (x ∷ xs) e = omega arith
+
+pub without_names : (names : List (List ℕ)) → (length names == 0) ≡ true → names ≡ []
+without_names names e = nil_from_length names (eqb-true (length names) 0 e)
+
+-- what was read of the files is the input of the arguments; that of no file is empty
+read_told : (contents : Option (List ℕ → List ℕ)) (names : List (List ℕ)) (bytes : List ℕ) → 0 < length names → IfSome contents (λ c. bytes ≡ input_of c names) → IfSome (told_input contents names) (λ input. bytes ≡ input)
+read_told contents [] bytes some h = absurd (omega (arith, some))
+read_told None (name ∷ names) bytes some h = tt
+read_told (Some c) (name ∷ names) bytes some h = h
+
+pub read_input : (contents : Option (List ℕ → List ℕ)) (words files : List (List ℕ)) (bytes : List ℕ) → files_of words ≡ files → 0 < length files → IfSome contents (λ c. bytes ≡ input_of c files) → OfInput contents words (λ input. bytes ≡ input)
+read_input contents words files bytes e some h = subst (λ names. IfSome (told_input contents names) (λ input. bytes ≡ input)) (sym e) (read_told contents files bytes some h)
+
+pub empty_input : (contents : Option (List ℕ → List ℕ)) (words : List (List ℕ)) → files_of words ≡ [] → OfInput contents words (λ input. [] ≡ input)
+empty_input contents words e = subst (λ names. IfSome (told_input contents names) (λ input. [] ≡ input)) (sym e) refl
 
 -- the input of some files is no longer than that of all
 prefix_length : (c : List ℕ → List ℕ) (names : List (List ℕ)) (i : ℕ) → length (input_of c (take i names)) ≤ length (input_of c names)
@@ -54,9 +79,13 @@ prefix_length c [] (suc i) = omega arith
 prefix_length c (x ∷ xs) zero = omega arith
 prefix_length c (x ∷ xs) (suc i) = omega (arith, prefix_length c xs i, length-append (ended (c x)) (input_of c (take i xs)), length-append (ended (c x)) (input_of c xs))
 
-too_big : (contents : Option (List ℕ → List ℕ)) (words : List (List ℕ)) (i : ℕ) → IfSome contents (λ c. input_limit < length (input_of c (take i (files_of words)))) → OfInput contents words (λ input. input_limit < length input)
-too_big None words i h = tt
-too_big (Some c) words i h = omega (arith, h, prefix_length c (files_of words) i)
+told_big : (contents : Option (List ℕ → List ℕ)) (names : List (List ℕ)) (i : ℕ) → i + 1 ≤ length names → IfSome contents (λ c. input_limit < length (input_of c (take (i + 1) names))) → IfSome (told_input contents names) (λ input. input_limit < length input)
+told_big contents [] i within h = absurd (omega (arith, within))
+told_big None (name ∷ names) i within h = tt
+told_big (Some c) (name ∷ names) i within h = omega (arith, h, prefix_length c (name ∷ names) (i + 1))
+
+too_big : (contents : Option (List ℕ → List ℕ)) (words : List (List ℕ)) (i : ℕ) → i + 1 ≤ length (files_of words) → IfSome contents (λ c. input_limit < length (input_of c (take (i + 1) (files_of words)))) → OfInput contents words (λ input. input_limit < length input)
+too_big contents words i within h = told_big contents (files_of words) i within h
 
 -- the call of the arguments is known
 module _ (s : Seen) (call : Call) (known : Some call ≡ call_of s.words) where
@@ -90,7 +119,7 @@ module _ (s : Seen) (call : Call) (known : Some call ≡ call_of s.words) where
       record {
         reads = (in_grammar, there);
         ends = of_input s.files.contents s.words (λ input. input_limit < length input) (λ input. (text : List ℕ) × Ends s.words input Size text × Writes Size s.written_before s.written_now text)
-            (λ input lt. ([], ends_at input Size [] (lt, refl), same)) (too_big s.files.contents s.words (there.0 + 1) there.1.passes);
+            (λ input lt. ([], ends_at input Size [] (lt, refl), same)) (too_big s.files.contents s.words there.0 there.1.opened.within there.1.passes);
       }
 
 -- how the input of a call ends, by what it said
@@ -139,9 +168,24 @@ explains_read s call known input o le told all h =
           (λ i same. (h.0, ends_at s call known i o h.0 (subst (λ j. CallEnds call j o h.0) same here), h.2)) told;
     }
 
+-- no name is appended to those that were opened
+no_names : (known : Option (List (List ℕ))) → known ≡ append_names known []
+no_names None = refl
+no_names (Some past) = ap Some (sym (append-nil past))
+
 -- what was read of the files of a call
-pub reads_all : (s : Seen) (call : Call) (known : Some call ≡ call_of s.words) → OpensFirst s.files (files_of_action call.action) (length (files_of_action call.action)) → IsAtEnd s.files.left → ReadsAll s
-reads_all s call known opened at_end = record { called = in_grammar s call known; opened = rw (files_named s call known) opened; at_end = at_end }
+pub reads_all : (s : Seen) (call : Call) (known : Some call ≡ call_of s.words) → OpensFirst s.files (files_of_action call.action) (length (files_of_action call.action)) → (0 < length (files_of_action call.action) → IsAtEnd s.files.left) → ReadsAll s
+reads_all s call known opened at_end = record { called = in_grammar s call known; opened = rw (files_named s call known) opened; at_end = rw (files_named s call known) at_end }
+
+-- a call without files opens none
+pub reads_none : (s : Seen) (call : Call) (known : Some call ≡ call_of s.words) → files_of_action call.action ≡ [] → CountsCalls 0 s.files.opens_before s.files.opens_now → s.files.names_now ≡ s.files.names_before → ReadsAll s
+reads_none s call known none counted named =
+    let e = files_named s call known ∙ none in
+    record {
+      called = in_grammar s call known;
+      opened = rw e (record { within = omega arith; counted = counted; named = named ∙ no_names s.files.names_before });
+      at_end = λ some. absurd (omega (arith, rw e at some));
+    }
 
 -- whatever the outcome, the first files were opened, so many
 pub opens_of : (o : Outcome) (s : Seen) → Reads o s → (count : ℕ) × OpensFirst s.files (files_of s.words) count

@@ -1,5 +1,6 @@
 pub mod DecidedLemmas
 pub mod EndingLemmas
 pub mod HexLemmas
+pub mod LastJobLemmas
 pub mod ReplayLemmas
 pub mod StatusLemmas

@@ -1,5 +1,6 @@
 -- The grammar of the arguments: `[--workers N] COMMAND`, where COMMAND is `session FILE...`, a view
--- as `model FILE...`, or `replay FILE`.
+-- as `model FILE...`, `whatif TASK START END NUM DEN FILE...`, `tail FILE...`,
+-- `drill NUMBER TRACES` or `replay FILE`.
 use Rattle.std.specs.Prelude.{ℕ, ◌^◌, ◌==◌, List, [], ◌∷◌, length, codes, not, nat_lt, Bool}
 use Rattle.std.specs.Prelude.{if◌then◌else◌, Option, Some, None, is_some, option_map}
 use Rattle.std.specs.Prelude.{option_and_then}
@@ -9,15 +10,21 @@ use Rattle.std.specs.Str.{bytes_eq}
 use Rattle.mystery_cli.specs.declared.command_line.CommandLine.{CommandLine}
 use Rattle.mystery_cli.specs.declared.action.Action as asked
 use Rattle.mystery_cli.specs.declared.action.Action.TheVariants as actions
+use Rattle.mystery_cli.specs.declared.change_words.ChangeWords.{ChangeWords}
 use Rattle.mystery_cli.specs.declared.view.View.{View}
-use Rattle.mystery_cli.specs.declared.view.View.TheVariants.{Model, Paths, Slack, Graph}
+use Rattle.mystery_cli.specs.declared.view.View.TheVariants.{Model, Paths, Slack, Report, Graph}
 use Rattle.mystery_cli.specs.Numbers.{number_between}
+use Rattle.session_rules.specs.declared.named_change.NamedChange.{NamedChange}
 
--- what is asked for: the control lines of these files, these and then a view, or the replay of a
--- file of steps
+-- what is asked for: the control lines of these files; these and then a view, a forecast, or the
+-- report on the slowest traces; a summary of so many traces that are drawn from a number; or the
+-- replay of a file of steps
 pub data Action : Type 0 where
   session : List (List ℕ) → Action
   view : View → List (List ℕ) → Action
+  what_if : NamedChange → List (List ℕ) → Action
+  tail : List (List ℕ) → Action
+  drill : ℕ → ℕ → Action
   replay : List ℕ → Action
 
 -- what the arguments ask for: how many workers, and what is to be done
@@ -25,19 +32,19 @@ pub record Call : Type 0 where
   pub workers : ℕ
   pub action : Action
 
--- a file is any argument that is not empty
-abbrev pub is_file : List ℕ → Bool
-is_file word = not (length word == 0)
+-- a file is any argument that is not empty, and so is a text of a name
+abbrev pub is_filled : List ℕ → Bool
+is_filled word = not (length word == 0)
 
 -- one file or more
 abbrev pub some_files : List (List ℕ) → Option (List (List ℕ))
 some_files [] = None
-some_files (file ∷ files) = if list_all is_file (file ∷ files) then Some (file ∷ files) else None
+some_files (file ∷ files) = if list_all is_filled (file ∷ files) then Some (file ∷ files) else None
 
 -- exactly one file
 abbrev pub one_file : List (List ℕ) → Option (List ℕ)
 one_file [] = None
-one_file (file ∷ []) = if is_file file then Some file else None
+one_file (file ∷ []) = if is_filled file then Some file else None
 one_file (file ∷ other ∷ files) = None
 
 -- the view with this name
@@ -46,18 +53,50 @@ named_view name =
     if bytes_eq name (codes "model") then Some Model else (
     if bytes_eq name (codes "paths") then Some Paths else (
     if bytes_eq name (codes "slack") then Some Slack else (
-    if bytes_eq name (codes "graph") then Some Graph else None)))
+    if bytes_eq name (codes "report") then Some Report else (
+    if bytes_eq name (codes "graph") then Some Graph else None))))
 
 -- a view of the files that these arguments name
 abbrev pub view_of_words : List (List ℕ) → View → Option Action
 view_of_words words v = option_map (view v) (some_files words)
 
+-- the segments of a name take `num / den` of their time: the name's three texts, and the numbers,
+-- of which `den` is from 1 to 1,000,000 and `num` from 0 to `den`
+abbrev pub change_of_words : List ℕ → List ℕ → List ℕ → List ℕ → List ℕ → Option NamedChange
+change_of_words task start end num den =
+    if list_all is_filled (task ∷ start ∷ end ∷ [])
+    then option_and_then (λ d.
+    option_map (λ n. record { name = (task, start, end); num = n; den = d })
+    (number_between 0 d num)) (number_between 1 1000000 den)
+    else None
+
+-- a forecast of the files that these arguments name, by the change that five before them name
+abbrev pub what_if_of_words : List (List ℕ) → Option Action
+what_if_of_words (task ∷ start ∷ end ∷ num ∷ den ∷ files) =
+    option_and_then (λ change. option_map (what_if change) (some_files files))
+    (change_of_words task start end num den)
+what_if_of_words words = None
+
+-- a drill: a number from 0 to 2,147,483,647, and from 1 to 20,000 traces
+abbrev pub drill_of_words : List (List ℕ) → Option Action
+drill_of_words (number ∷ traces ∷ []) =
+    option_and_then (λ n. option_map (drill n) (number_between 1 20000 traces))
+    (number_between 0 2147483647 number)
+drill_of_words words = None
+
+-- what the command with this name asks for that has files alone after it
+abbrev pub action_over : List ℕ → List (List ℕ) → Option Action
+action_over name words =
+    if bytes_eq name (codes "session") then option_map session (some_files words) else (
+    if bytes_eq name (codes "tail") then option_map tail (some_files words) else (
+    if bytes_eq name (codes "replay") then option_map replay (one_file words) else
+    option_and_then (view_of_words words) (named_view name)))
+
 -- what the command with this name and these arguments after it asks for
 abbrev pub named_action : List ℕ → List (List ℕ) → Option Action
 named_action name words =
-    if bytes_eq name (codes "session") then option_map session (some_files words) else (
-    if bytes_eq name (codes "replay") then option_map replay (one_file words) else
-    option_and_then (view_of_words words) (named_view name))
+    if bytes_eq name (codes "whatif") then what_if_of_words words else (
+    if bytes_eq name (codes "drill") then drill_of_words words else action_over name words)
 
 -- what these arguments ask for: a command and its arguments
 abbrev pub action_of_words : List (List ℕ) → Option Action
@@ -86,20 +125,30 @@ call_of words = if nat_lt (length words) (2 ^ 32) then call_of_words words else 
 abbrev pub is_in_grammar : List (List ℕ) → Bool
 is_in_grammar words = is_some (call_of words)
 
--- the files that are read for it, in order
+-- the files that are read for it, in order; none for a drill
 abbrev pub files_of_action : Action → List (List ℕ)
 files_of_action (session files) = files
 files_of_action (view v files) = files
+files_of_action (what_if change files) = files
+files_of_action (tail files) = files
+files_of_action (drill number traces) = []
 files_of_action (replay file) = file ∷ []
 
--- the file arguments, none where the arguments are outside the grammar
+-- the file arguments, none where the arguments are outside the grammar or ask for a drill
 abbrev pub files_of : List (List ℕ) → List (List ℕ)
 files_of words = option_map_or (λ (call : Call). files_of_action call.action) (call_of words) []
+
+-- a parsed change, seen as the change that it is
+abbrev pub change_of : ChangeWords → NamedChange
+change_of c = record { name = (c.task.now, c.start.now, c.end.now); num = c.num; den = c.den }
 
 -- a parsed action, seen as the action that it is
 abbrev pub action_of : asked.Action → Action
 action_of (actions.Session files) = session files.now
 action_of (actions.View v files) = view v files.now
+action_of (actions.WhatIf change files) = what_if (change_of change) files.now
+action_of (actions.Tail files) = tail files.now
+action_of (actions.Drill number traces) = drill number traces
 action_of (actions.Replay file) = replay file.now
 
 -- a parsed command line, seen as the call that it is

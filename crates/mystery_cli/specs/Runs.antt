@@ -1,5 +1,6 @@
 -- What a run tells by its status and by what it wrote.
-use Rattle.std.specs.Prelude.{ℕ, ◌≡◌, List, length, true, false, Option, IfSome}
+use Rattle.std.specs.Prelude.{ℕ, ◌≡◌, ◌<◌, List, [], ◌∷◌, length, true, false}
+use Rattle.std.specs.Prelude.{Option, Some, IfSome, option_map}
 use Rattle.std.specs.Io.KnownBytes.{IsAtEnd}
 use Rattle.mystery_io.specs.Input.{input_of}
 use Rattle.mystery_io.specs.ReadFaults.{FilesSeen, OpensFirst, FailedAt, PassedAt}
@@ -27,9 +28,14 @@ run_seen words files written old new = record {
   written_now = written new;
 }
 
--- P holds of the input, where the contents of the files are told
+-- the input of files with these names, where their contents are told; that of no file is empty
+abbrev pub told_input : Option (List ℕ → List ℕ) → List (List ℕ) → Option (List ℕ)
+told_input contents [] = Some []
+told_input contents (name ∷ names) = option_map (λ c. input_of c (name ∷ names)) contents
+
+-- P holds of the input, where it is told
 abbrev pub OfInput : Option (List ℕ → List ℕ) → List (List ℕ) → (List ℕ → Type 0) → Type 0
-OfInput contents words P = IfSome contents (λ c. P (input_of c (files_of words)))
+OfInput contents words P = IfSome (told_input contents (files_of words)) P
 
 -- the run may end so over its input, with a text of which that was written which should be
 abbrev pub EndsAs : Outcome → Seen → Type 0
@@ -39,11 +45,11 @@ EndsAs outcome seen =
     × Writes outcome seen.written_before seen.written_now text)
 
 -- the arguments are in the grammar, and each of their files was opened, one after another, and
--- nothing is left of the last
+-- where they name a file, nothing is left of the last
 pub record ReadsAll (seen : Seen) : Type 0 where
   pub called : is_in_grammar seen.words ≡ true
   pub opened : OpensFirst seen.files (files_of seen.words) (length (files_of seen.words))
-  pub at_end : IsAtEnd seen.files.left
+  pub at_end : 0 < length (files_of seen.words) → IsAtEnd seen.files.left
 
 -- which of the files that the arguments name were opened by a run that ends so, and how far they
 -- were read

@@ -1,6 +1,6 @@
 -- What private contracts alone cite.
-pub mod FurtherLines
 pub mod InputEnds
+pub mod LastJobs
 pub mod Leaving
 pub mod OutcomeFaults
 pub mod Replaying

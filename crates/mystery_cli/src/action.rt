@@ -1,19 +1,43 @@
 ghost use Rattle.std.specs.Prelude.{◌≡◌};
 ghost use Rattle.mystery_cli.specs.CommandLines.{action_of, files_of_action};
 
+use crate::change_words::ChangeWords;
 use crate::view::View;
 use std::slice;
 use trace_types::Text;
 
-/// What the arguments ask for. At least one file is named.
+/// What the arguments ask for. At least one file is named, but for a drill.
 #[derive(Clone, Copy, Debug)]
 pub(crate) enum Action<'w> {
     /// Carry out the control lines of these files.
-    Session { files: &'w [Text] },
+    Session {
+        files: &'w [Text],
+    },
     /// Carry out the control lines of these files, and then print this view.
-    View { view: View, files: &'w [Text] },
+    View {
+        view: View,
+        files: &'w [Text],
+    },
+    /// Carry out the control lines of these files, and then print how long the critical paths would
+    /// be under this change.
+    WhatIf {
+        change: ChangeWords<'w>,
+        files: &'w [Text],
+    },
+    /// Carry out the control lines of these files, and then print the report on the slowest traces.
+    Tail {
+        files: &'w [Text],
+    },
+    /// Make the events of so many traces by draws from this number, add them, and print their
+    /// summary.
+    Drill {
+        number: u32,
+        traces: u32,
+    },
     /// Replay this file of steps.
-    Replay { file: &'w Text },
+    Replay {
+        file: &'w Text,
+    },
 }
 
 impl<'w> Action<'w> {
@@ -24,6 +48,9 @@ impl<'w> Action<'w> {
         match self {
             Action::Session { files } => files,
             Action::View { files, .. } => files,
+            Action::WhatIf { files, .. } => files,
+            Action::Tail { files } => files,
+            Action::Drill { .. } => &[],
             Action::Replay { file } => slice::from_ref(file),
         }
     }

@@ -1,13 +1,15 @@
 ghost use Rattle.std.specs.Prelude.{◌≡◌, ◌<◌, ◌≤◌, ◌^◌, length, option_map, IfSome};
 ghost use Rattle.std.specs.List.{list_all};
-ghost use Rattle.mystery_cli.specs.Numbers.{number_between};
-ghost use Rattle.mystery_cli.specs.CommandLines.{action_of, action_of_words, call_of};
-ghost use Rattle.mystery_cli.specs.CommandLines.{call_of_line, call_of_words, files_of_action};
-ghost use Rattle.mystery_cli.specs.CommandLines.{is_file, named_action};
+ghost use Rattle.mystery_cli.specs.CommandLines.{action_of, action_of_words, action_over};
+ghost use Rattle.mystery_cli.specs.CommandLines.{call_of, call_of_line, call_of_words};
+ghost use Rattle.mystery_cli.specs.CommandLines.{drill_of_words, files_of_action, is_filled};
+ghost use Rattle.mystery_cli.specs.CommandLines.{named_action, what_if_of_words};
+ghost use Rattle.mystery_cli.specs.inner.LastJobs.{IsInRange};
 
 use crate::action::Action;
+use crate::change_words::ChangeWords;
+use crate::numbers::number_between;
 use crate::view::View;
-use step_core::plain_number;
 use trace_types::Text;
 
 /// The default number of workers.
@@ -15,6 +17,12 @@ const WORKERS: u32 = 4;
 
 /// The greatest number of workers that may be asked for.
 const MAX_WORKERS: u32 = 64;
+
+/// The greatest number that draws start from.
+const MAX_NUMBER: u32 = 2_147_483_647;
+
+/// The most traces of a drill.
+const MAX_TRACES: u32 = 20_000;
 
 /// What the arguments ask for.
 #[derive(Clone, Copy, Debug)]
@@ -25,23 +33,67 @@ pub(crate) struct CommandLine<'w> {
     pub(crate) action: Action<'w>,
 }
 
-/// Reads the number of workers, from 1 to 64.
-fn parse_workers(word: &str) -> Option<u32>
-    ensures read { result ≡ number_between 1 64 word.now }
-    ensures some { IfSome result (λ n. 0 < n) }
-    ensures most { IfSome result (λ n. n ≤ 64) }
+/// Tells whether all arguments may be files.
+fn are_files(words: &[Text]) -> bool
+    ensures { result ≡ list_all is_filled words.now }
 {
-    match plain_number(word.as_bytes()) {
-        Some(number) if 1 <= number && number <= MAX_WORKERS => Some(number),
+    words.iter().all(|word| !word.as_str().is_empty())
+}
+
+/// Finds the forecast that the arguments `TASK START END NUM DEN FILE...` ask for.
+fn find_forecast(words: &[Text]) -> Option<Action<'_>>
+    ensures asked { option_map action_of result ≡ what_if_of_words words.now }
+    ensures few { IfSome result (λ a.
+        length (files_of_action (action_of a)) ≤ length words.now) }
+    ensures numbers { IfSome result (λ a. IsInRange (action_of a)) }
+{
+    match words {
+        [task, start, end, num, den, ..] => {
+            let change = ChangeWords::parse(task, start, end, num.as_str(), den.as_str())?;
+            let files = &words[5..];
+            if files.is_empty() || !are_files(files) {
+                return None;
+            }
+            Some(Action::WhatIf { change, files })
+        }
         _ => None,
     }
 }
 
-/// Tells whether all arguments may be files.
-fn are_files(words: &[Text]) -> bool
-    ensures { result ≡ list_all is_file words.now }
+/// Finds the drill that the arguments `NUMBER TRACES` ask for.
+fn find_drill(words: &[Text]) -> Option<Action<'static>>
+    ensures asked { option_map action_of result ≡ drill_of_words words.now }
+    ensures few { IfSome result (λ a.
+        length (files_of_action (action_of a)) ≤ length words.now) }
+    ensures numbers { IfSome result (λ a. IsInRange (action_of a)) }
 {
-    words.iter().all(|word| !word.as_str().is_empty())
+    match words {
+        [number, traces] => {
+            let number = number_between(0, MAX_NUMBER, number.as_str())?;
+            let traces = number_between(1, MAX_TRACES, traces.as_str())?;
+            Some(Action::Drill { number, traces })
+        }
+        _ => None,
+    }
+}
+
+/// Finds what a command with this name over these files asks for.
+fn find_over_files<'w>(name: &str, files: &'w [Text]) -> Option<Action<'w>>
+    ensures asked { option_map action_of result ≡ action_over name.now files.now }
+    ensures few { IfSome result (λ a.
+        length (files_of_action (action_of a)) ≤ length files.now) }
+    ensures numbers { IfSome result (λ a. IsInRange (action_of a)) }
+{
+    match files {
+        [file] if name == "replay" && !file.as_str().is_empty() => Some(Action::Replay { file }),
+        [_, ..] if name == "session" && are_files(files) => Some(Action::Session { files }),
+        [_, ..] if name == "tail" && are_files(files) => Some(Action::Tail { files }),
+        [_, ..] if are_files(files) => {
+            let view = View::parse(name)?;
+            Some(Action::View { view, files })
+        }
+        _ => None,
+    }
 }
 
 /// Finds what the command with this name and the arguments after it asks for.
@@ -49,16 +101,12 @@ fn find_named<'w>(name: &str, words: &'w [Text]) -> Option<Action<'w>>
     ensures asked { option_map action_of result ≡ named_action name.now words.now }
     ensures few { IfSome result (λ a.
         length (files_of_action (action_of a)) ≤ length words.now) }
-    ensures some { IfSome result (λ a. 0 < length (files_of_action (action_of a))) }
+    ensures numbers { IfSome result (λ a. IsInRange (action_of a)) }
 {
-    match words {
-        [file] if name == "replay" && !file.as_str().is_empty() => Some(Action::Replay { file }),
-        [_, ..] if name == "session" && are_files(words) => Some(Action::Session { files: words }),
-        [_, ..] if are_files(words) => {
-            let view = View::parse(name)?;
-            Some(Action::View { view, files: words })
-        }
-        _ => None,
+    match name {
+        "whatif" => find_forecast(words),
+        "drill" => find_drill(words),
+        _ => find_over_files(name, words),
     }
 }
 
@@ -67,7 +115,7 @@ fn find_action(words: &[Text]) -> Option<Action<'_>>
     ensures asked { option_map action_of result ≡ action_of_words words.now }
     ensures few { IfSome result (λ a.
         length (files_of_action (action_of a)) ≤ length words.now) }
-    ensures some { IfSome result (λ a. 0 < length (files_of_action (action_of a))) }
+    ensures numbers { IfSome result (λ a. IsInRange (action_of a)) }
 {
     match words {
         [name, ..] => find_named(name.as_str(), &words[1..]),
@@ -77,15 +125,15 @@ fn find_action(words: &[Text]) -> Option<Action<'_>>
 
 impl<'w> CommandLine<'w> {
     /// Reads the arguments `[--workers N] COMMAND`, where COMMAND is `session FILE...`, a view as
-    /// `model FILE...`, or `replay FILE`; `None` if they are outside the grammar.
+    /// `model FILE...`, `whatif TASK START END NUM DEN FILE...`, `tail FILE...`,
+    /// `drill NUMBER TRACES` or `replay FILE`; `None` if they are outside the grammar.
     pub(crate) fn parse(words: &'w [Text]) -> Option<CommandLine<'w>>
         ensures call { option_map call_of_line result ≡ call_of words.now }
         ensures workers { IfSome result (λ line. 0 < line.workers) }
         ensures most { IfSome result (λ line. line.workers ≤ 64) }
         ensures few { IfSome result (λ line.
             length (files_of_action (action_of line.action)) < 2 ^ 32) }
-        ensures some { IfSome result (λ line.
-            0 < length (files_of_action (action_of line.action))) }
+        ensures numbers { IfSome result (λ line. IsInRange (action_of line.action)) }
     {
         if u32::try_from(words.len()).is_err() {
             return None;
@@ -100,12 +148,11 @@ impl<'w> CommandLine<'w> {
         ensures most { IfSome result (λ line. line.workers ≤ 64) }
         ensures few { IfSome result (λ line.
             length (files_of_action (action_of line.action)) ≤ length words.now) }
-        ensures some { IfSome result (λ line.
-            0 < length (files_of_action (action_of line.action))) }
+        ensures numbers { IfSome result (λ line. IsInRange (action_of line.action)) }
     {
         match words {
             [first, number, ..] if first.as_str() == "--workers" => {
-                let workers = parse_workers(number.as_str())?;
+                let workers = number_between(1, MAX_WORKERS, number.as_str())?;
                 let action = find_action(&words[2..])?;
                 Some(CommandLine { workers, action })
             }

@@ -1,59 +1,60 @@
-ghost use Rattle.std.specs.Prelude.{◌≡◌, ◌≤◌, ◌++◌, Ok, length, IfErr, IfOk, OnOk};
+ghost use Rattle.std.specs.Prelude.{◌≡◌, ◌≤◌, ◌++◌, ◌∷◌, [], Ok, length, IfErr, IfOk, IfSome};
+ghost use Rattle.std.specs.Prelude.{OnOk};
+ghost use Rattle.event_lines.specs.declared.command.Command.TheVariants.{Add};
+ghost use Rattle.event_lines.specs.declared.line.Line.TheVariants.{Control};
 ghost use Rattle.event_lines.specs.InputLines.{IsLineError, lines_said};
 ghost use Rattle.job_runs.specs.Running.{AreReady};
 ghost use Rattle.mystery_io.specs.Input.{input_limit};
-ghost use Rattle.mystery_cli.specs.Works.{Jobs, jobs_said};
-ghost use Rattle.mystery_cli.specs.inner.FurtherLines.{further_lines};
+ghost use Rattle.mystery_cli.specs.Works.{Jobs, jobs_said, jobs_with};
+ghost use Rattle.mystery_cli.specs.inner.LastJobs.{IsLastJob};
 
-use crate::view::View;
 use event_lines::{Command, Line, LineError, read_lines};
-use job_runs::laws::{good_lines_are_built, jobs_are_ready};
+use job_runs::laws::jobs_are_ready;
 use session::{Job, jobs};
 use std::alloc::{AllocError, Global};
 
-/// Appends the control lines that stand for a view.
-fn push_view(lines: &mut Vec<Line>, view: View) -> Result<(), AllocError>
-    ensures { OnOk result (lines.new.items ≡ lines.old.items ++ further_lines (Some view)) }
+/// Appends a control line that adds the events since the last add.
+fn push_add(lines: &mut Vec<Line>) -> Result<(), AllocError>
+    ensures { OnOk result (lines.new.items ≡ lines.old.items ++ Control 0 Add ∷ []) }
 {
     lines.push(Line::Control {
         line: 0,
         command: Command::Add,
     })?;
-    lines.push(Line::Control {
-        line: 0,
-        command: view.command(),
-    })?;
     Ok(())
 }
 
-/// Appends the control lines that stand for a view, if there is one.
-fn push_further(lines: &mut Vec<Line>, view: Option<View>) -> Result<(), AllocError>
-    ensures { OnOk result (lines.new.items ≡ lines.old.items ++ further_lines view) }
+/// Makes the jobs of lines. Where there is a last job, the events since the last add are added
+/// before it.
+fn make_jobs(alloc: Global, mut lines: Vec<Line>, last: Option<Job>) -> Result<Vec<Job>, AllocError>
+    ensures { IfOk result (λ jobs. jobs_with last lines.items ≡ Jobs jobs.items) }
 {
-    match view {
-        Some(view) => push_view(lines, view),
-        None => Ok(()),
-    }
+    let Some(job) = last else {
+        return jobs(alloc, lines);
+    };
+    push_add(&mut lines)?;
+    let mut made = jobs(alloc, lines)?;
+    made.push(job)?;
+    Ok(made)
 }
 
-/// Reads the jobs of the lines of an input, and of the control lines that stand for a view.
+/// Reads the jobs of the lines of an input, and the last job, which no control line asks for.
 ///
 /// The errors are an allocation failure and the first bad line of the input.
 pub(crate) fn read_jobs(
     alloc: Global,
     input: Vec<u8>,
-    view: Option<View>,
+    last: Option<Job>,
 ) -> Result<Vec<Job>, LineError>
-    requires { length input.items ≤ input_limit }
+    requires fits { length input.items ≤ input_limit }
+    requires last { IfSome last IsLastJob }
     ensures said { IfOk result
-        (λ jobs. jobs_said (further_lines view) input.items ≡ Ok (Jobs jobs.items)) }
+        (λ jobs. jobs_said last input.items ≡ Ok (Jobs jobs.items)) }
     ensures ready { IfOk result (λ jobs. AreReady jobs.items) }
     ensures bad { IfErr result (IsLineError (lines_said input.items)) }
 {
-    good_lines_are_built();
     jobs_are_ready();
-    let mut lines = read_lines(alloc, &input)?;
+    let lines = read_lines(alloc, &input)?;
     drop(input);
-    push_further(&mut lines, view)?;
-    Ok(jobs(alloc, lines)?)
+    Ok(make_jobs(alloc, lines, last)?)
 }

@@ -3,10 +3,14 @@
 #![tactic(auto)]
 
 mod action;
+mod change_words;
 mod command_line;
+mod drill;
+mod forecast;
 mod hex;
 mod job_reading;
 pub mod laws;
+mod numbers;
 mod outcome;
 mod program;
 mod reason;

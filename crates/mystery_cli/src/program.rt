@@ -1,4 +1,5 @@
-ghost use Rattle.std.specs.Prelude.{◌≡◌, ◌≤◌, ◌<◌, ◌==◌, ◌⊎◌, List, ℕ, length, not, if◌then◌else◌};
+ghost use Rattle.std.specs.Prelude.{◌≡◌, ◌≤◌, ◌<◌, ◌==◌, ◌⊎◌, List, [], ℕ, length, not};
+ghost use Rattle.std.specs.Prelude.{if◌then◌else◌};
 ghost use Rattle.mystery_io.specs.Counts.{counted_up};
 ghost use Rattle.mystery_io.specs.Input.{input_limit};
 ghost use Rattle.mystery_io.specs.Prefixes.{Sends};
@@ -7,22 +8,26 @@ ghost use Rattle.session_rules.specs.declared.limit.Limit.{Limit};
 ghost use Rattle.mystery_cli.specs.declared.outcome.Outcome.{Outcome};
 ghost use Rattle.mystery_cli.specs.declared.outcome.Outcome.TheVariants.{BadLine, File, Over};
 ghost use Rattle.mystery_cli.specs.declared.reason.Reason.{Reason};
-ghost use Rattle.mystery_cli.specs.CommandLines.{call_of_line, is_in_grammar, files_of};
+ghost use Rattle.mystery_cli.specs.CommandLines.{action_of, call_of_line, is_in_grammar, files_of};
 ghost use Rattle.mystery_cli.specs.Endings.{Ends, IsDecided};
 ghost use Rattle.mystery_cli.specs.Messages.{status_of, message_of};
 ghost use Rattle.mystery_cli.specs.Runs.{run_seen, EndsAs, Explains, OfInput, ReadsAll};
 ghost use Rattle.mystery_cli.specs.Works.{work_said};
 ghost use Rattle.mystery_cli.specs.inner.InputEnds.{InputEnds};
+ghost use Rattle.mystery_cli.specs.inner.LastJobs.{IsInRange};
 ghost use Rattle.mystery_cli.specs.inner.Leaving.{LeavesFiles, LeavesSink};
 ghost use Rattle.mystery_cli.specs.inner.OutcomeFaults.{outcome_faults, outcome_read_faults};
 
 use crate::Outcome;
 use crate::action::Action;
 use crate::command_line::CommandLine;
+use crate::drill::run_drill;
+use crate::forecast::run_forecast;
 use crate::laws::an_input_has_one_ending;
 use crate::replay::replay_input;
 use crate::session_run::run_session;
 use mystery_io::{Files, Gate, ReadFault, Sink, read_all, send_text};
+use session::Job;
 use std::alloc::Global;
 use std::thread::Threads;
 use trace_types::Text;
@@ -38,6 +43,7 @@ fn perform_over<R: Threads + Sync, S: Sink, G: Gate + Sync>(
 ) -> Outcome
     requires some { 0 < line.workers }
     requires most { line.workers ≤ 64 }
+    requires numbers { IsInRange (action_of line.action) }
     requires fits { length input.items ≤ input_limit }
     ensures ends { let call = call_of_line line.entry in
         InputEnds call.workers (work_said call.action input.items) result
@@ -48,7 +54,19 @@ fn perform_over<R: Threads + Sync, S: Sink, G: Gate + Sync>(
     let workers = line.workers;
     match line.action {
         Action::Session { .. } => run_session(rt, alloc, workers, None, input, out, gate),
-        Action::View { view, .. } => run_session(rt, alloc, workers, Some(view), input, out, gate),
+        Action::View { view, .. } => {
+            let last = Job::Control {
+                command: view.command(),
+            };
+            run_session(rt, alloc, workers, Some(last), input, out, gate)
+        }
+        Action::WhatIf { change, .. } => {
+            run_forecast(rt, alloc, workers, change, input, out, gate)
+        }
+        Action::Tail { .. } => run_session(rt, alloc, workers, Some(Job::Tail), input, out, gate),
+        Action::Drill { number, traces } => {
+            run_drill(rt, alloc, workers, number, traces, out, gate)
+        }
         Action::Replay { .. } => replay_input(alloc, &input, out),
     }
 }
@@ -66,6 +84,7 @@ fn perform<R: Threads + Sync, F: Files, S: Sink, G: Gate + Sync>(
         (files_seen F.contents F.left F.is_open F.names F.opens files.old files.new)
         S.written out.old out.new) }
     ensures files { LeavesFiles result files.old files.new }
+    ensures unread { files_of words.now ≡ [] → files.new ≡ files.old }
     ensures sink { LeavesSink result out.old out.new }
     ensures contents { F.contents files.new ≡ F.contents files.old }
     ensures tallied { F.faults files.new ≡ outcome_read_faults result (F.faults files.old) }
@@ -74,7 +93,11 @@ fn perform<R: Threads + Sync, F: Files, S: Sink, G: Gate + Sync>(
     let Some(line) = CommandLine::parse(words) else {
         return Outcome::Arguments;
     };
-    match read_all(alloc, files, line.action.files()) {
+    let names = line.action.files();
+    if names.is_empty() {
+        return perform_over(rt, alloc, line, Vec::new(alloc), out, gate);
+    }
+    match read_all(alloc, files, names) {
         Err(ReadFault::Memory) => Outcome::Memory,
         Err(ReadFault::File { index }) => Outcome::File { index },
         Err(ReadFault::TooBig) => Outcome::Size,
@@ -82,9 +105,9 @@ fn perform<R: Threads + Sync, F: Files, S: Sink, G: Gate + Sync>(
     }
 }
 
-/// Runs the program: reads the files that the arguments `words` name, writes the text to `out`,
-/// and if it ends in another way a message to `err`. The result is the exit status. Workers of an
-/// add may wait for the gate.
+/// Runs the program: reads the files that the arguments `words` name, if any, writes the text to
+/// `out`, and if it ends in another way a message to `err`. The result is the exit status. Workers
+/// of an add may wait for the gate.
 ///
 /// 0: done. 1: out of memory. 2: the arguments are outside the grammar. 3: a line is bad. 4: a file
 /// could not be read. 5: `out` could not be written. 6: the input is too big, or an add passes a
@@ -156,6 +179,7 @@ pub fn run<R: Threads + Sync, F: Files, S: Sink, E: Sink, G: Gate + Sync>(
 
     // What stays as it was.
     ensures untouched { result ≡ 2 → files.new ≡ files.old }
+    ensures unread { files_of words.now ≡ [] → files.new ≡ files.old }
     ensures nothing { (result ≡ 2) ⊎ (result ≡ 3) ⊎ (result ≡ 4) → out.new ≡ out.old }
     ensures silent { result ≡ 0 → err.new ≡ err.old }
     ensures contents { F.contents files.new ≡ F.contents files.old }

@@ -1,14 +1,13 @@
-ghost use Rattle.std.specs.Prelude.{◌≡◌, ◌≤◌, ◌<◌, length};
+ghost use Rattle.std.specs.Prelude.{◌≡◌, ◌≤◌, ◌<◌, length, IfSome};
 ghost use Rattle.job_runs.specs.Running.{AreReady};
 ghost use Rattle.mystery_io.specs.Input.{input_limit};
 ghost use Rattle.mystery_cli.specs.Works.{Jobs, jobs_said};
-ghost use Rattle.mystery_cli.specs.inner.FurtherLines.{further_lines};
 ghost use Rattle.mystery_cli.specs.inner.InputEnds.{InputEnds};
+ghost use Rattle.mystery_cli.specs.inner.LastJobs.{IsLastJob};
 ghost use Rattle.mystery_cli.specs.inner.Leaving.{LeavesSink};
 ghost use Rattle.mystery_cli.specs.inner.OutcomeFaults.{outcome_faults};
 
 use crate::job_reading::read_jobs;
-use crate::view::View;
 use crate::{Outcome, Reason};
 use event_lines::LineError;
 use job_runs::run_jobs;
@@ -40,26 +39,27 @@ fn carry_out<R: Threads + Sync, S: Sink, G: Gate + Sync>(
     }
 }
 
-/// Carries out the jobs of the lines of an input, and of the control lines that stand for a view,
+/// Carries out the jobs of the lines of an input, and the last job, which no control line asks for,
 /// and prints their text.
 pub(crate) fn run_session<R: Threads + Sync, S: Sink, G: Gate + Sync>(
     rt: &R,
     alloc: Global,
     workers: u32,
-    view: Option<View>,
+    last: Option<Job>,
     input: Vec<u8>,
     out: &mut S,
     gate: &G,
 ) -> Outcome
     requires some { 0 < workers }
     requires most { workers ≤ 64 }
+    requires last { IfSome last IsLastJob }
     requires fits { length input.items ≤ input_limit }
-    ensures ends { InputEnds workers (jobs_said (further_lines view) input.items) result
+    ensures ends { InputEnds workers (jobs_said last input.items) result
         (S.written out.old) (S.written out.new) }
     ensures leaves { LeavesSink result out.old out.new }
     ensures counted { S.faults out.new ≡ outcome_faults result (S.faults out.old) }
 {
-    match read_jobs(alloc, input, view) {
+    match read_jobs(alloc, input, last) {
         Ok(jobs) => carry_out(rt, alloc, workers, jobs, out, gate),
         Err(LineError::Memory) => Outcome::Memory,
         Err(LineError::Bad { line, why }) => Outcome::BadLine {

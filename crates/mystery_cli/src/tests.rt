@@ -1,9 +1,12 @@
 mod bad_lines;
+mod drills;
 mod faults;
+mod forecasts;
 mod limits;
 mod page_load;
 mod real;
 mod replays;
+mod reports;
 mod rows;
 mod sessions;
 mod views;

@@ -13,6 +13,8 @@ pub(crate) enum View {
     Paths,
     /// The slack of their segments.
     Slack,
+    /// The report on their latencies and segments.
+    Report,
     /// Their graphs.
     Graph,
 }
@@ -26,6 +28,7 @@ impl View {
             "model" => Some(View::Model),
             "paths" => Some(View::Paths),
             "slack" => Some(View::Slack),
+            "report" => Some(View::Report),
             "graph" => Some(View::Graph),
             _ => None,
         }
@@ -39,6 +42,7 @@ impl View {
             View::Model => Command::Model,
             View::Paths => Command::Paths,
             View::Slack => Command::Slack,
+            View::Report => Command::Report,
             View::Graph => Command::Graph,
         }
     }

@@ -33,7 +33,6 @@ out of range|{"do":"drop","day":-1}
 out of range|{"do":"keep","days":1000001}
 out of range|{"do":"watch","every":1000001}
 out of range|{"do":"grace","micros":1000001}
-not built|{"do":"report"}
 "#;
 
 /// Compares what two commands tell of a bad line.
@@ -66,7 +65,7 @@ fn each_single_bad_line_is_told(rt: HostRuntime) -> Result<(), Fail> {
             expect_bad_line(&rt, rt.alloc(), line, reason)?;
         }
     }
-    assert_eq!(rt; rows, 27);
+    assert_eq!(rt; rows, 26);
     Ok(())
 }
 
@@ -102,7 +101,7 @@ fn the_first_bad_line_is_told(rt: HostRuntime) -> Result<(), Fail> {
         (
             b"{\"do\":\"add\"}",
             b"{\"do\":\"report\"}\n[]",
-            b"line 2: not built\n",
+            b"line 3: not a JSON object\n",
         ),
     ];
     for (f, g, err) in table {

@@ -28,7 +28,7 @@ fn blank_input_has_the_empty_model(rt: HostRuntime) -> Result<(), Fail> {
     Ok(())
 }
 
-const OUTSIDE_THE_GRAMMAR: [&[&str]; 24] = [
+const OUTSIDE_THE_GRAMMAR: [&[&str]; 46] = [
     &[],
     &[""],
     &["model"],
@@ -48,7 +48,29 @@ const OUTSIDE_THE_GRAMMAR: [&[&str]; 24] = [
     &["--workers", "4", "--workers", "4", "model", "f"],
     &["--help"],
     &["drop", "f"],
+    &["report"],
+    &["tail"],
+    &["tail", "f", ""],
+    &["whatif"],
+    &["whatif", "f"],
+    &["whatif", "b", "s", "e", "1", "2"],
+    &["whatif", "b", "s", "e", "1", "2", ""],
+    &["whatif", "b", "s", "e", "2", "1", "f"],
+    &["whatif", "b", "s", "e", "1", "0", "f"],
+    &["whatif", "b", "s", "e", "0", "0", "f"],
+    &["whatif", "b", "s", "e", "01", "2", "f"],
+    &["whatif", "b", "s", "e", "1", "1000001", "f"],
+    &["whatif", "", "s", "e", "1", "2", "f"],
+    &["whatif", "b", "", "e", "1", "2", "f"],
+    &["whatif", "b", "s", "", "1", "2", "f"],
+    &["drill"],
+    &["drill", "1"],
     &["drill", "1", "0"],
+    &["drill", "01", "1"],
+    &["drill", "1", "20001"],
+    &["drill", "2147483648", "1"],
+    &["drill", "1", "1", "f"],
+    &["drill", "f"],
     &["replay"],
     &["replay", ""],
     &["replay", "f", "g"],

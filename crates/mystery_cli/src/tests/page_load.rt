@@ -88,6 +88,30 @@ const PAGE_LOAD_PATHS: &[u8] = b"paths\ttraces=2\npath\treq 4711\t19800\t8410000
         step\tdownload\tfirst byte@html\tlast byte\t21500000\n\
         step\tbrowser render\tpaint start\tpaint end\t3000000\n";
 
+const PAGE_LOAD_REPORT: &[u8] = b"report\ttraces=2\tcritical=83700000\n\
+        latency\t2\t151100000\t67000000\t84100000\n\
+        segment\tads call\tcall start\tcall end\t2\t27300000\t12200000\t15100000\t1\t15100000\n\
+        segment\tads ranking\trank start\trank end\t2\t26900000\t12000000\t14900000\t0\t0\n\
+        segment\tbrowser render\tpaint start\tpaint end\t2\t8000000\t3000000\t5000000\t2\t8000000\n\
+        segment\tbrowser request\ttap\trequest sent\t2\t2100000\t900000\t1200000\t2\t2100000\n\
+        segment\tdownload\tfirst byte@html\tlast byte\t\
+        2\t37100000\t15600000\t21500000\t2\t37100000\n\
+        segment\tpage body\twrite body\tbody flushed\t2\t4500000\t2000000\t2500000\t0\t0\n\
+        segment\tpage head\twrite head@html\thead flushed\t2\t2500000\t1000000\t1500000\t0\t0\n\
+        segment\tuser query\tquery start\tquery end\t2\t27000000\t7000000\t20000000\t1\t20000000\n\
+        segment\tweb accept\trequest received\tparsed\t2\t1400000\t600000\t800000\t2\t1400000\n";
+
+const PAGE_LOAD_TAIL: &[u8] = b"tail\ttraces=2\tslow=1\tfloor=84100000\n\
+        segment\tads call\tcall start\tcall end\t1\t15100000\t0\t0\n\
+        segment\tads ranking\trank start\trank end\t0\t0\t0\t0\n\
+        segment\tbrowser render\tpaint start\tpaint end\t1\t5000000\t1\t3000000\n\
+        segment\tbrowser request\ttap\trequest sent\t1\t1200000\t1\t900000\n\
+        segment\tdownload\tfirst byte@html\tlast byte\t1\t15600000\t1\t21500000\n\
+        segment\tpage body\twrite body\tbody flushed\t0\t0\t0\t0\n\
+        segment\tpage head\twrite head@html\thead flushed\t0\t0\t0\t0\n\
+        segment\tuser query\tquery start\tquery end\t0\t0\t1\t20000000\n\
+        segment\tweb accept\trequest received\tparsed\t1\t800000\t1\t600000\n";
+
 #[test]
 fn the_page_load_prints_the_same_with_any_number_of_workers(rt: HostRuntime) -> Result<(), Fail> {
     for workers in ["1", "4", "64"] {
@@ -98,6 +122,8 @@ fn the_page_load_prints_the_same_with_any_number_of_workers(rt: HostRuntime) -> 
             &[
                 ("model", &[&[Table(PAGE_LOAD)]], PAGE_LOAD_MODEL),
                 ("paths", &[&[Table(PAGE_LOAD)]], PAGE_LOAD_PATHS),
+                ("report", &[&[Table(PAGE_LOAD)]], PAGE_LOAD_REPORT),
+                ("tail", &[&[Table(PAGE_LOAD)]], PAGE_LOAD_TAIL),
             ],
         )?;
     }

@@ -121,3 +121,15 @@ pub(crate) const INSIDE: [Row<'static>; 4] = [
     Row::Event("r1", "b", "s", "1"),
     Row::Event("r1", "b", "e", "5"),
 ];
+
+/// The second and the third segment overlap.
+pub(crate) const BRANCHES: [Row<'static>; 8] = [
+    Row::Event("r1", "a", "s", "0"),
+    Row::Event("r1", "a", "e", "5"),
+    Row::Event("r1", "b", "s", "5"),
+    Row::Event("r1", "b", "e", "15"),
+    Row::Event("r1", "c", "s", "5"),
+    Row::Event("r1", "c", "e", "9"),
+    Row::Event("r1", "d", "s", "15"),
+    Row::Event("r1", "d", "e", "18"),
+];

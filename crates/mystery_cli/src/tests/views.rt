@@ -1,4 +1,4 @@
-use super::rows::{INSIDE, OPPOSITE, OVERLAP, Row, TOUCHING};
+use super::rows::{BRANCHES, INSIDE, OPPOSITE, OVERLAP, Row, TOUCHING};
 use super::{Printed, expect_texts};
 use Row::{Event, Line};
 use std::test::Fail;
@@ -34,17 +34,6 @@ const OTHER_ORDER: [Row<'static>; 6] = [
     Event("r2", "u", "y@e", "30"),
     Event("r2", "u", "y@d", "40"),
     Event("r2", "u", "w", "50"),
-];
-
-const BRANCHES: [Row<'static>; 8] = [
-    Event("r1", "a", "s", "0"),
-    Event("r1", "a", "e", "5"),
-    Event("r1", "b", "s", "5"),
-    Event("r1", "b", "e", "15"),
-    Event("r1", "c", "s", "5"),
-    Event("r1", "c", "e", "9"),
-    Event("r1", "d", "s", "15"),
-    Event("r1", "d", "e", "18"),
 ];
 
 const EQUAL_BRANCHES: [Row<'static>; 8] = [

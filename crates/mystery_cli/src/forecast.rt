@@ -1,0 +1,52 @@
+ghost use Rattle.std.specs.Prelude.{◌≡◌, ◌≤◌, ◌<◌, Some, length};
+ghost use Rattle.mystery_io.specs.Input.{input_limit};
+ghost use Rattle.session_rules.specs.declared.job.Job.TheVariants.{WhatIf};
+ghost use Rattle.mystery_cli.specs.CommandLines.{change_of};
+ghost use Rattle.mystery_cli.specs.Works.{jobs_said};
+ghost use Rattle.mystery_cli.specs.inner.InputEnds.{InputEnds};
+ghost use Rattle.mystery_cli.specs.inner.Leaving.{LeavesSink};
+ghost use Rattle.mystery_cli.specs.inner.OutcomeFaults.{outcome_faults};
+
+use crate::Outcome;
+use crate::change_words::ChangeWords;
+use crate::session_run::run_session;
+use mystery_io::{Gate, Sink};
+use session::Job;
+use std::alloc::Global;
+use std::thread::Threads;
+
+/// Carries out the jobs of the lines of an input, adds the events since the last add, and prints
+/// how long the critical paths would be under the change.
+pub(crate) fn run_forecast<R: Threads + Sync, S: Sink, G: Gate + Sync>(
+    rt: &R,
+    alloc: Global,
+    workers: u32,
+    change: ChangeWords<'_>,
+    input: Vec<u8>,
+    out: &mut S,
+    gate: &G,
+) -> Outcome
+    requires some { 0 < workers }
+    requires most { workers ≤ 64 }
+    requires positive { 0 < change.den }
+    requires less { change.num ≤ change.den }
+    requires fits { length input.items ≤ input_limit }
+    ensures ends { let last = WhatIf (change_of change.entry) in
+        InputEnds workers (jobs_said (Some last) input.items) result
+        (S.written out.old) (S.written out.new) }
+    ensures leaves { LeavesSink result out.old out.new }
+    ensures counted { S.faults out.new ≡ outcome_faults result (S.faults out.old) }
+{
+    match change.copy(alloc) {
+        Ok(change) => run_session(
+            rt,
+            alloc,
+            workers,
+            Some(Job::WhatIf { change }),
+            input,
+            out,
+            gate,
+        ),
+        Err(_) => Outcome::Memory,
+    }
+}
