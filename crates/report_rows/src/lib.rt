@@ -1,5 +1,5 @@
-//! The printed report on the traces of a book of days, and the one on the slowest of them. Names are
-//! numbers of a catalogue, and printed by its texts.
+//! The printed report on the traces of a book of days, and the one on the slowest of them. Names
+//! are numbers of a catalogue, and printed by its texts.
 #![tactic(auto)]
 
 mod laws;
@@ -9,8 +9,6 @@ mod report_texts;
 mod summary_printing;
 mod tail_printing;
 mod tail_texts;
-#[cfg(test)]
-mod tests;
 
 pub use report_printing::print_report;
 pub use summary_printing::print_summary;

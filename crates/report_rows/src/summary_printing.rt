@@ -20,8 +20,8 @@ use std::thread::Threads;
 use text_rows::laws::{part_calls_follow, parts_follow};
 use text_rows::{PrintFault, RowBuffer};
 
-/// Prints the first row of the model of the traces of a book and the first two rows of the report on
-/// them, as `print_report` prints a report.
+/// Prints the first row of the model of the traces of a book and the first two rows of the report
+/// on them, as `print_report` prints a report.
 pub fn print_summary<R: Threads + Sync, S: Sink>(
     rt: &R,
     alloc: Global,
