@@ -1,4 +1,5 @@
 pub mod NameLemmas
+pub mod MaskLemmas
 pub mod StepLemmas
 pub mod ExactLemmas
 pub mod TestLemmas

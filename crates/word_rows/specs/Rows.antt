@@ -59,3 +59,8 @@ same_row = pointwise same_entry
 abbrev pub AddsBit : List Entry → ℕ → ℕ → List Entry → Type 0
 AddsBit old word bit new = (i b : ℕ)
     → clears new i b ≡ (clears old i b || ((word == i) && (bit == b)))
+
+-- the new entries clear the bits of this mask, of this word, besides those of the old, and no other
+abbrev pub AddsMask : List Entry → ℕ → ℕ → List Entry → Type 0
+AddsMask old word mask new = (i b : ℕ)
+    → clears new i b ≡ (clears old i b || ((word == i) && (bit_at mask b == 1)))

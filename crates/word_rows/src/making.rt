@@ -24,7 +24,7 @@ impl Model for RowMaker {
 
 impl RowMaker {
     ghost use Rattle.std.specs.Prelude.{◌≡◌, ◌+◌, ◌<◌, [], ◌∷◌, OnOk, OnErr, IfOk, IsTrue};
-    ghost use Rattle.word_rows.specs.Rows.{AddsBit, below};
+    ghost use Rattle.word_rows.specs.Rows.{AddsBit, AddsMask, below};
 
     /// Begins with the row that clears nothing.
     pub fn new(alloc: Global) -> RowMaker
@@ -39,6 +39,7 @@ impl RowMaker {
 
     /// Clears this bit of this word too, no later word having been begun. The only error is that
     /// memory ran out.
+    #[tactic(auto, using(crate::proofs::MakerLemmas::one_bit_adds))]
     pub fn clear(&mut self, word: u32, bit: u32) -> Result<(), AllocError>
         requires no_later { IsTrue (below (word + 1) self.old) }
         requires bit { bit < 64 }
@@ -46,9 +47,23 @@ impl RowMaker {
         ensures no_later { OnOk result (IsTrue (below (word + 1) self.new)) }
         ensures err { OnErr result (self.new ≡ self.old) }
     {
+        self.clear_mask(word, 1 << bit)
+    }
+
+    /// Clears these bits of this word too; no later word may have been begun. The only error is that
+    /// memory ran out.
+    pub fn clear_mask(&mut self, word: u32, mask: u64) -> Result<(), AllocError>
+        requires { IsTrue (below (word + 1) self.old) }
+        ensures clears { OnOk result (AddsMask self.old word mask self.new) }
+        ensures no_later { OnOk result (IsTrue (below (word + 1) self.new)) }
+        ensures err { OnErr result (self.new ≡ self.old) }
+    {
+        if mask == 0 {
+            return Ok(());
+        }
         if self.mask == 0 || self.word == word {
             self.word = word;
-            self.mask |= 1 << bit;
+            self.mask |= mask;
             return Ok(());
         }
         self.finished.push(Entry {
@@ -56,7 +71,7 @@ impl RowMaker {
             mask: self.mask,
         })?;
         self.word = word;
-        self.mask = 1 << bit;
+        self.mask = mask;
         Ok(())
     }
 

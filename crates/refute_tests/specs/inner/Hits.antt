@@ -1,5 +1,6 @@
 -- The bits that the segments of a trace, sorted by name, clear pair by pair.
-use Rattle.std.specs.Prelude.{ℕ, zero, suc, ◌+◌, ◌/◌, ◌<◌, Bool, false, ◌&&◌, ◌||◌, List, take, slice_get, unwrap_or, AllPairs}
+use Rattle.std.specs.Prelude.{ℕ, zero, suc, ◌+◌, ◌/◌, ◌<◌, Bool, true, false, ◌&&◌, ◌||◌}
+use Rattle.std.specs.Prelude.{List, take, slice_get, unwrap_or, AllPairs}
 use Rattle.std.specs.List.{list_any}
 use Rattle.std.specs.Option.{option_map}
 use Rattle.hypothesis_index.specs.Places.{pairs_below, pair_number}
@@ -16,6 +17,14 @@ abbrev pub hits : ℕ → NamedSegment → NamedSegment → ℕ → ℕ → Bool
 hits grace s t i b =
     (((early grace s t && is_at (Before s.name t.name) i b) || (early grace t s && is_at (Before t.name s.name) i b))
     || ((early grace s t && early grace t s) && is_at (Exclusive s.name t.name) i b)) || is_at (Apart s.name t.name) i b
+
+-- the four bits of a pair, from the lowest: the lesser is not before the greater, nor the greater
+-- before the lesser, the two are not exclusive, and not apart
+abbrev pub kinds_of : Bool → Bool → ℕ
+kinds_of true true = 15
+kinds_of true false = 9
+kinds_of false true = 10
+kinds_of false false = 8
 
 -- the word of the pair i < j
 abbrev pub word_of : ℕ → ℕ → ℕ

@@ -1,0 +1,123 @@
+-- The four bits of a pair of names, as one mask.
+use Rattle.std.proofs.Common.{◌≡◌, ℕ, zero, suc, ◌+◌, ◌-◌, ◌*◌, ◌/◌, ◌%◌, ◌^◌, ◌<◌, ◌≤◌, Bool, true, false, ◌&&◌, ◌||◌, ◌==◌, nat_lt, refl, sym, ap, ◌∙◌, ⊎_elim, arith}
+use Rattle.std.proofs.Math.Nat.{mod-eq_of_lt, mul-le-mul_left}
+use Rattle.std.proofs.Math.Pow.{pow_mono}
+use Rattle.std.proofs.lemmas.Bool.{cases_eq, cases_lt, cond-true, cond-false, eq-eqb, ne_eqb, lt-ltb, le-ltb}
+use Rattle.std.proofs.lemmas.Nat.{pow_pos}
+use Rattle.std.proofs.lemmas.Nat.Bits.{bit_at_above, bit_at_cat_low, bit_at_cat_high, bit_at-zero}
+use Rattle.std.specs.Int.{bit_at}
+use Rattle.hypothesis_index.specs.Places.{place_of, place_in, pair_number}
+use Rattle.hypothesis_index.specs.declared.bit_place.BitPlace.{BitPlace}
+use Rattle.hypothesis_index.specs.declared.relation.Relation.TheVariants.{Before}
+use Rattle.refute_tests.specs.Clearing.{early, is_at}
+use Rattle.refute_tests.specs.inner.Hits.{hits, kinds_of, word_of}
+use Rattle.trace_types.specs.declared.named_segment.NamedSegment.{NamedSegment}
+
+kinds_small : (f g : Bool) → kinds_of f g < 16
+kinds_small true true = omega arith
+kinds_small true false = omega arith
+kinds_small false true = omega arith
+kinds_small false false = omega arith
+
+-- the bits of these kinds, where the first kind has the bit q
+abbrev four : Bool → Bool → ℕ → ℕ → Bool
+four f g q b = (((f && (q + 0 == b)) || (g && (q + 1 == b))) || ((f && g) && (q + 2 == b))) || (q + 3 == b)
+
+nothing : (f g : Bool) → ((((f && false) || (g && false)) || ((f && g) && false)) || false) ≡ false
+nothing true true = refl
+nothing true false = refl
+nothing false true = refl
+nothing false false = refl
+
+-- none of the four bits is this one
+apart : (f g : Bool) (q b : ℕ) → ((k : ℕ) → k < 4 → q + k ≡ b → ⊥) → four f g q b ≡ false
+apart f g q b n =
+    let p0 = ne_eqb (q + 0) b (n 0 (omega arith)) in let p1 = ne_eqb (q + 1) b (n 1 (omega arith)) in
+    let p2 = ne_eqb (q + 2) b (n 2 (omega arith)) in let p3 = ne_eqb (q + 3) b (n 3 (omega arith)) in
+    (λ j. (((f && p0 j) || (g && p1 j)) || ((f && g) && p2 j)) || p3 j) ∙ nothing f g
+
+shift : (q k l : ℕ) → (q + k == q + l) ≡ (k == l)
+shift q k l = ⊎_elim
+    (λ (e : k ≡ l). eq-eqb (q + k) (q + l) (ap (λ (n : ℕ). q + n) e) ∙ sym (eq-eqb k l e))
+    (λ (e : k ≡ l → ⊥). ne_eqb (q + k) (q + l) (λ h. e (omega arith)) ∙ sym (ne_eqb k l e))
+    (cases_eq k l)
+
+-- the four kinds from bit 0
+abbrev at_zero : Bool → Bool → ℕ → Bool
+at_zero f g k = (((f && (0 == k)) || (g && (1 == k))) || ((f && g) && (2 == k))) || (3 == k)
+
+kind_bit : (f g : Bool) (k : ℕ) → (bit_at (kinds_of f g) k == 1) ≡ at_zero f g k
+kind_bit true true zero = refl
+kind_bit true false zero = refl
+kind_bit false true zero = refl
+kind_bit false false zero = refl
+kind_bit true true (suc zero) = refl
+kind_bit true false (suc zero) = refl
+kind_bit false true (suc zero) = refl
+kind_bit false false (suc zero) = refl
+kind_bit true true (suc (suc zero)) = refl
+kind_bit true false (suc (suc zero)) = refl
+kind_bit false true (suc (suc zero)) = refl
+kind_bit false false (suc (suc zero)) = refl
+kind_bit true true (suc (suc (suc zero))) = refl
+kind_bit true false (suc (suc (suc zero))) = refl
+kind_bit false true (suc (suc (suc zero))) = refl
+kind_bit false false (suc (suc (suc zero))) = refl
+kind_bit f g (suc (suc (suc (suc k)))) = let n : ℕ = suc (suc (suc (suc k))) in
+    ne_eqb (bit_at (kinds_of f g) n) 1 (λ h. let z = bit_at_above (kinds_of f g) 4 n (kinds_small f g) (omega arith) in omega arith)
+    ∙ sym (
+    let p0 = ne_eqb 0 n (λ h. omega arith) in let p1 = ne_eqb 1 n (λ h. omega arith) in let p2 = ne_eqb 2 n (λ h. omega arith) in let p3 = ne_eqb 3 n (λ h. omega arith) in
+    (λ j. (((f && p0 j) || (g && p1 j)) || ((f && g) && p2 j)) || p3 j) ∙ nothing f g)
+
+in_word : (k x : ℕ) → k < 16 → x ≤ 2 ^ 60 → k * x < 2 ^ 64
+in_word k x h l = let m : k ≤ 15 = omega arith in omega (arith, mul-le-mul_left x m)
+
+-- the kinds stand from bit q on
+four_bits : (f g : Bool) (q b : ℕ) → q ≤ 60 → (bit_at (kinds_of f g * 2 ^ q % 2 ^ 64) b == 1) ≡ four f g q b
+four_bits f g q b room =
+    let whole : kinds_of f g * 2 ^ q % 2 ^ 64 ≡ kinds_of f g * 2 ^ q + 0 = mod-eq_of_lt (in_word (kinds_of f g) (2 ^ q) (kinds_small f g) (pow_mono room)) ∙ omega arith in
+    ap (λ (n : ℕ). bit_at n b == 1) whole ∙ ⊎_elim
+    (λ (low : b < q). ap (λ (n : ℕ). n == 1) (bit_at_cat_low (kinds_of f g) q 0 b low ∙ bit_at-zero b) ∙ sym (apart f g q b (λ k l h. omega arith)))
+    (λ (high : q ≤ b). let at : b ≡ q + (b - q) = omega arith in let k : ℕ = b - q in
+    ap (λ (n : ℕ). n == 1) (bit_at_cat_high (kinds_of f g) q 0 b (pow_pos q) high) ∙ kind_bit f g k
+    ∙ sym (ap (four f g q) at ∙ (λ j. (((f && shift q 0 k j) || (g && shift q 1 k j)) || ((f && g) && shift q 2 k j)) || shift q 3 k j)))
+    (cases_lt b q)
+
+both : (w f g a b c d : Bool) → (w && ((((f && a) || (g && b)) || ((f && g) && c)) || d)) ≡ ((((f && (w && a)) || (g && (w && b))) || ((f && g) && (w && c))) || (w && d))
+both true f g a b c d = refl
+both false f g a b c d = sym (nothing f g)
+
+-- ---- the places of a pair of names
+module _ (low high : ℕ) (rises : low < high) where
+  abbrev first_bit : ℕ
+  first_bit = 4 * (pair_number low high % 16)
+
+  pub upward : place_of (Before low high) ≡ place_in 126 low high 0
+  upward = cond-true (nat_lt low high) (place_in 126 low high 0) (place_in 126 high low 1) (lt-ltb low high rises)
+
+  downward : place_of (Before high low) ≡ place_in 126 low high 1
+  downward = cond-false (nat_lt high low) (place_in 126 high low 0) (place_in 126 low high 1) (le-ltb high low (omega arith))
+
+  mask_bits : (f g : Bool) (i b : ℕ) → ((word_of low high == i) && (bit_at (kinds_of f g * 2 ^ (first_bit + 0) % 2 ^ 64) b == 1))
+      ≡ ((((f && is_at (Before low high) i b) || (g && is_at (Before high low) i b)) || ((f && g) && ((word_of low high == i) && (first_bit + 2 == b)))) || ((word_of low high == i) && (first_bit + 3 == b)))
+  mask_bits f g i b =
+      let w : Bool = word_of low high == i in
+      let plain : first_bit + 0 ≡ first_bit = omega arith in
+      let room : first_bit ≤ 60 = omega arith in
+      ap (λ (q : ℕ). w && (bit_at (kinds_of f g * 2 ^ q % 2 ^ 64) b == 1)) plain
+      ∙ ap (λ (y : Bool). w && y) (four_bits f g first_bit b room)
+      ∙ both w f g (first_bit + 0 == b) (first_bit + 1 == b) (first_bit + 2 == b) (first_bit + 3 == b)
+      ∙ (λ j. (((f && at (sym upward j)) || (g && at (sym downward j))) || ((f && g) && (w && (first_bit + 2 == b)))) || (w && (first_bit + 3 == b)))
+    where
+      at : BitPlace → Bool
+      at p = (p.word == i) && (p.bit == b)
+
+-- the mask of a pair, at its place, has the bits that the pair refutes
+pub pair_mask : (grace : ℕ) (s t : NamedSegment) → s.name < t.name → (place : BitPlace) → place ≡ place_of (Before s.name t.name) → (i b : ℕ)
+    → ((place.word == i) && (bit_at (kinds_of (early grace s t) (early grace t s) * 2 ^ place.bit % 2 ^ 64) b == 1)) ≡ hits grace s t i b
+pair_mask grace s t rises place is i b =
+    ap (λ (p : BitPlace). (p.word == i) && (bit_at (kinds_of (early grace s t) (early grace t s) * 2 ^ p.bit % 2 ^ 64) b == 1)) (is ∙ upward s.name t.name rises)
+    ∙ mask_bits s.name t.name rises (early grace s t) (early grace t s) i b
+
+pub pair_word : (low high : ℕ) → low < high → (place : BitPlace) → place ≡ place_of (Before low high) → place.word ≡ word_of low high
+pair_word low high rises place is = ap (λ (p : BitPlace). p.word) (is ∙ upward low high rises)
