@@ -1,5 +1,4 @@
 pub mod SurvivorLemmas
-pub mod ElementLemmas
 pub mod StayLemmas
 pub mod GroupLemmas
 pub mod MeetingLemmas

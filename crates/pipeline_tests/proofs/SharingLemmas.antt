@@ -1,7 +1,6 @@
 -- What the meetings of two tasks say of the two, and what the row then clears.
 use Rattle.std.proofs.Common.{◌≡◌, ℕ, zero, ◌<◌, Bool, true, false, not, ◌&&◌, ◌||◌, ◌==◌, nat_lt, T, List, [], ◌∷◌, length, slice_get, Some, refl, sym, ap, ◌∙◌, subst, ⊎_elim, inl, inr, arith}
 use Rattle.std.proofs.lemmas.Bool.{and_parts, and_from, or_cases, or_left, or_right, eqb-true, eq-eqb, lt-ltb, ltb-true, false≢true, not_from_false, ne_eqb}
-use Rattle.std.proofs.lemmas.List.Folds.{Any-from_list_any, list_any_at}
 use Rattle.std.proofs.lemmas.Option.{slice_get_within}
 use Rattle.std.specs.Int.Signed.{lt_z_yes}
 use Rattle.std.specs.List.{Contains, list_any}
@@ -10,12 +9,12 @@ use Rattle.hypothesis_index.specs.Refuting.{IsPlaceOfSome, RefutesTasks}
 use Rattle.hypothesis_index.specs.declared.relation.Relation.{Relation}
 use Rattle.hypothesis_index.specs.declared.relation.Relation.TheVariants.{Before, Exclusive, Apart, Pipe, Unshared}
 use Rattle.pipeline_tests.specs.declared.groups.TaskStays.{TaskStays}
-use Rattle.pipeline_tests.specs.declared.meetings.Meeting.{Meeting}
 use Rattle.pipeline_tests.specs.declared.stays.Stay.{Stay}
 use Rattle.pipeline_tests.specs.inner.Groups.{IsGroup}
-use Rattle.pipeline_tests.specs.inner.Meetings.{AreMeetings, takes_early, turned}
-use Rattle.pipeline_tests.specs.inner.Pairs.{IsBetween, turns, pair_hits}
-use Rattle.pipeline_tests.specs.inner.Stays.{IsStay}
+use Rattle.pipeline_tests.specs.inner.Meetings.{AreMeetings, Meeting, takes_early, turned, turns}
+use Rattle.pipeline_tests.specs.inner.Pairs.{IsBetween, pair_hits}
+use Rattle.pipeline_tests.specs.inner.Stays.{IsStay, ElementsDiffer}
+use Rattle.pipeline_tests.proofs.MeetingLemmas.{some_meeting, by_meeting}
 use Rattle.refute_tests.specs.Clearing.{AddsExactly, early, is_at}
 use Rattle.trace_types.specs.Parts.{by_number}
 use Rattle.trace_types.specs.Pipelines.{HandlesAt, StartsAt, EndsAt, TakesUnfinished, TakesOutOfOrder, RefutesUnshared}
@@ -36,12 +35,6 @@ is_true false h = absurd h
 
 early_from : (t : NamedTrace) (s u : NamedSegment) → StartsEarly by_number t u s → early t.grace s u ≡ true
 early_from t s u h = is_true (early t.grace s u) h.lt
-
-some_meeting : (p : Meeting → Bool) (met : List Meeting) → list_any p met ≡ true → (m : Meeting) × Contains met m × (p m ≡ true)
-some_meeting p met h = let a = Any-from_list_any p met h in (a.1, (a.0, a.2, a.3), a.4)
-
-by_meeting : (p : Meeting → Bool) (met : List Meeting) (m : Meeting) → Contains met m → p m ≡ true → list_any p met ≡ true
-by_meeting p met m c h = list_any_at p met c.0 m c.1 (subst (λ (n : Meeting). p n ≡ true) (sym c.2) h)
 
 -- ---- where a stay begins and ends
 
@@ -71,6 +64,16 @@ ends_as trace t e s i h = subst (λ (u : ℕ). EndsAt by_number trace u e s.end 
   where
     own : EndsAt by_number trace s.task s.element s.end s.last
     own = record { handles = i.stay.handles; last = λ j r g. i.stay.last j r (slice_get_within trace.segments j r g.segment) g }
+
+-- no two stays of a task are of one element
+pub elements_differ : (trace : NamedTrace) (g : TaskStays) → IsGroup trace g → ElementsDiffer g.stays.now
+elements_differ trace g i s t c d e =
+    let a : IsIn trace g.task s = record { stay = i.stays s c; task = i.own s c } in
+    let b : IsIn trace g.task t = record { stay = i.stays t d; task = i.own t d } in
+    let p = one_start trace g.task t.element s.begin t.begin s.first t.first (starts_as trace g.task t.element s a e) (starts_as trace g.task t.element t b refl) in
+    let q = one_end trace g.task t.element s.end t.end s.last t.last (ends_as trace g.task t.element s a e) (ends_as trace g.task t.element t b refl) in
+    let same : s.task ≡ t.task = a.task ∙ sym b.task in
+    λ j. record { task = same j; element = e j; begin = p.0 j; first = p.1 j; end = q.0 j; last = q.1 j }
 
 -- ---- the meetings of two tasks, from the one's side
 
@@ -187,7 +190,7 @@ at_means r i b h = let p = and_parts ((place_of r).word == i) ((place_of r).bit 
 at_from : (r s : Relation) (i b : ℕ) → r ≡ s → place_of r ≡ record { word = i; bit = b } → is_at s i b ≡ true
 at_from r s i b e g = let h : place_of s ≡ record { word = i; bit = b } = ap place_of (sym e) ∙ g in and_from _ _ (eq-eqb (place_of s).word i (λ k. (h k).word)) (eq-eqb (place_of s).bit b (λ k. (h k).bit))
 
-module _ (trace : NamedTrace) (low high : TaskStays) (g : IsGroup trace low) (h : IsGroup trace high) (rises : low.task < high.task) (met : List Meeting) (m : AreMeetings low.stays.items high.stays.items met) where
+module _ (trace : NamedTrace) (low high : TaskStays) (g : IsGroup trace low) (h : IsGroup trace high) (rises : low.task < high.task) (met : List Meeting) (m : AreMeetings low.stays.now high.stays.now met) where
   abbrev Both : Relation → Type 0
   Both r = IsBetween low.task high.task r × RefutesTasks r trace
 

@@ -1,12 +1,13 @@
 -- One more segment: a stay goes on, a stay begins, or nothing changes.
-use Rattle.std.proofs.Common.{◌≡◌, ℕ, ◌+◌, ◌-◌, ◌<◌, ◌≤◌, List, [], ◌∷◌, ◌++◌, length, get_or, slice_get, slice_set, replicate, Option, Some, None, refl, sym, ap, ◌∙◌, subst, ⊎_elim, ◌⊎◌, inl, inr, arith, length-append, length-set, get_or-set_same, get_or-set_other}
+use Rattle.std.proofs.Common.{◌≡◌, ℕ, ◌+◌, ◌-◌, ◌<◌, ◌≤◌, List, [], ◌∷◌, ◌++◌, length, get_or, slice_get, slice_set, Option, Some, None, refl, sym, ap, ◌∙◌, subst, ⊎_elim, ◌⊎◌, inl, inr, arith, length-append, length-set, get_or-set_same, get_or-set_other}
 use Rattle.std.proofs.lemmas.Bool.{cases_eq, cases_lt, cases_order}
-use Rattle.std.proofs.lemmas.List.{get_or_default, get_or_append_left, get_or-append_right, get_or-replicate, length-replicate}
+use Rattle.std.proofs.lemmas.List.{get_or_default, get_or_append_left, get_or-append_right}
 use Rattle.std.proofs.lemmas.List.Elements.{Contains-append_left, Contains-push}
+use Rattle.std.proofs.lemmas.List.Quantifiers.{all_pairs_push}
 use Rattle.std.proofs.lemmas.Option.{slice_get_within, get_or_from_slice_get}
 use Rattle.std.specs.List.{Contains}
 use Rattle.pipeline_tests.specs.declared.stays.Stay.{Stay}
-use Rattle.pipeline_tests.specs.inner.Stays.{IsStay, StaysDiffer, AreStays, IsLatest, AreLatest, IsKnown, IsNew}
+use Rattle.pipeline_tests.specs.inner.Stays.{IsStay, StaysDiffer, AreStays, IsKnown, IsNew}
 use Rattle.trace_types.specs.NamedSegments.{number_of_task, number_of_element}
 use Rattle.trace_types.specs.Parts.{by_number}
 use Rattle.trace_types.specs.Pipelines.{HandlesAt}
@@ -44,12 +45,7 @@ no_stays trace = record {
   sound = λ k d l. absurd (omega arith);
   complete = λ j t e r l h. absurd (omega arith);
   differ = λ k m d l o p q. absurd (omega arith);
-}
-
-pub none_latest : (trace : NamedTrace) (n : ℕ) → AreLatest trace 0 [] (replicate n None)
-none_latest trace n = record {
-  known = λ e i d l h. absurd (not_both (get_or (replicate n None) e d) i h (get_or-replicate n e None d (subst (λ (m : ℕ). e < m) (length-replicate n None) l)));
-  unknown = λ e d l h j t r b g. absurd (omega arith);
+  rise = λ i j d l h. absurd (omega arith);
 }
 
 -- ---- a segment without element
@@ -69,36 +65,50 @@ module _ (trace : NamedTrace) (n : ℕ) (z : NamedSegment) (at : slice_get trace
     sound = λ k d l. let s = get_or stays k d in stay_keep trace n s (a.sound k d l) (λ r h. none_here s.task s.element r h);
     complete = λ j t e r l h. a.complete j t e r (earlier j t e r l h) h;
     differ = a.differ;
-  }
-
-  pub latest_same : (stays : List Stay) (latest : List (Option ℕ)) → AreLatest trace n stays latest → AreLatest trace (n + 1) stays latest
-  latest_same stays latest a = record {
-    known = λ e i d l h. let k = a.known e i d l h in record { within = k.within; element = k.element; last = λ d j t r b g. k.last d j t r (earlier j t e r b g) g };
-    unknown = λ e d l h j t r b g. a.unknown e d l h j t r (earlier j t e r b g) g;
+    rise = a.rise;
   }
 
 -- ---- a segment in which its task handles e
 
-module _ (trace : NamedTrace) (n e : ℕ) (z : NamedSegment) (here : HandlesAt by_number trace z.task e n z) (stays : List Stay) (a : AreStays trace n stays) (latest : List (Option ℕ)) (lat : AreLatest trace n stays latest) (inside : e < length latest) where
-  -- the element's latest stay is of another task: so is every earlier one
-  pub not_earlier : (i : ℕ) (d : Stay) (o : Option ℕ) → get_or latest e o ≡ Some i → ((get_or stays i d).task ≡ z.task → ⊥) → IsNew trace n z.task e
-  not_earlier i d o known other j r below h =
-      let l = lat.known e i o inside known in
-      let y : Stay = get_or stays i d in
-      let s : IsStay trace n y = a.sound i d l.within in
-      let ends : HandlesAt by_number trace y.task y.element y.end y.last = s.handles in
-      let least : j ≤ y.end = l.last d j z.task r below h in
-      ⊎_elim
-      (λ (same : j ≡ y.end). let p = parts_at trace j y.end z.task y.task e y.element r y.last h ends same in other (sym p.0))
-      (⊎_elim
-      (λ (less : j < y.end).
-      let one : get_or trace.segments j z ≡ r = get_or_from_slice_get trace.segments j r z h.segment in
-      let two : get_or trace.segments y.end z ≡ y.last = get_or_from_slice_get trace.segments y.end y.last z ends.segment in
+module _ (trace : NamedTrace) (n e : ℕ) (z : NamedSegment) (here : HandlesAt by_number trace z.task e n z) (stays : List Stay) (a : AreStays trace n stays) where
+  -- a stay begins before this segment
+  begins_before : (m : ℕ) (d : Stay) → m < length stays → (get_or stays m d).begin < n
+  begins_before m d l = let y : Stay = get_or stays m d in let s : IsStay trace n y = a.sound m d l in let least = s.starts.first y.end y.last s.handles in let most = s.within in omega arith
+
+  -- a stay before one of another task is of another task
+  other_before : (i k : ℕ) (d : Stay) → i < k → k < length stays → ((get_or stays k d).task ≡ z.task → ⊥) → (get_or stays i d).task ≡ z.task → ⊥
+  other_before i k d less l other same =
+      let x : Stay = get_or stays i d in
+      let y : Stay = get_or stays k d in
+      let begins : x.begin < y.begin = a.rise i k d less l in
+      let s : IsStay trace n x = a.sound i d (omega arith) in
+      let r : IsStay trace n y = a.sound k d l in
+      let p : HandlesAt by_number trace x.task x.element x.begin x.first = s.starts.handles in
+      let q : HandlesAt by_number trace y.task y.element y.begin y.first = r.starts.handles in
+      let one : get_or trace.segments x.begin z ≡ x.first = get_or_from_slice_get trace.segments x.begin x.first z p.segment in
+      let two : get_or trace.segments y.begin z ≡ y.first = get_or_from_slice_get trace.segments y.begin y.first z q.segment in
       let three : get_or trace.segments n z ≡ z = get_or_from_slice_get trace.segments n z z here.segment in
-      let between = trace.together j y.end n z less s.within (slice_get_within trace.segments n z here.segment) (ap number_of_task one ∙ h.task ∙ sym (ap number_of_task three)) in
-      other (sym ends.task ∙ sym (ap number_of_task two) ∙ between ∙ ap number_of_task three))
-      (λ (more : y.end < j). absurd (omega arith)))
-      (cases_order j y.end)
+      let between = trace.together x.begin y.begin n z begins (begins_before k d l) (slice_get_within trace.segments n z here.segment)
+      (ap number_of_task one ∙ p.task ∙ same ∙ sym (ap number_of_task three)) in
+      other (sym q.task ∙ sym (ap number_of_task two) ∙ between ∙ ap number_of_task three)
+
+  -- a stay of another task, and none of the element behind it: the element is new to the task
+  pub none_behind : (k : ℕ) → k < length stays → ((d : Stay) → (get_or stays k d).task ≡ z.task → ⊥)
+      → ((m : ℕ) (d : Stay) → k < m → m < length stays → (get_or stays m d).element ≡ e → ⊥) → IsNew trace n z.task e
+  none_behind k l other rest j r below h =
+      let c = a.complete j z.task e r below h in
+      let s : Stay = c.0 in
+      let o = c.1 in
+      ⊎_elim
+      (λ (q : o.0 ≡ k). other s (ap (λ (i : ℕ). (get_or stays i s).task) (sym q) ∙ ap (λ (x : Stay). x.task) o.2 ∙ c.2))
+      (⊎_elim
+      (λ (q : o.0 < k). other_before o.0 k s q l (other s) (ap (λ (x : Stay). x.task) o.2 ∙ c.2))
+      (λ (q : k < o.0). rest o.0 s q o.1 (ap (λ (x : Stay). x.element) o.2 ∙ c.3)))
+      (cases_order o.0 k)
+
+  -- no stay of the element
+  pub none_known : ((m : ℕ) (d : Stay) → m < length stays → (get_or stays m d).element ≡ e → ⊥) → IsNew trace n z.task e
+  none_known rest j r below h = let c = a.complete j z.task e r below h in let o = c.1 in rest o.0 c.0 o.1 (ap (λ (x : Stay). x.element) o.2 ∙ c.3)
 
   -- whatever was handled is handled before or here
   last_or : (j t f : ℕ) (r : NamedSegment) → j < n + 1 → HandlesAt by_number trace t f j r → (j < n) ⊎ ((j ≡ n) × (t ≡ z.task) × (f ≡ e))
@@ -112,21 +122,18 @@ module _ (trace : NamedTrace) (n e : ℕ) (z : NamedSegment) (here : HandlesAt b
 
   -- ---- its stay goes on
 
-  module _ (i : ℕ) (known : IsKnown stays latest z.task e i) (y : Stay) (at : y ≡ get_or stays i y) where
+  module _ (i : ℕ) (known : IsKnown stays z.task e i) (y : Stay) (at : y ≡ get_or stays i y) where
     abbrev v : Stay
     v = record { task = y.task; element = y.element; begin = y.begin; first = y.first; end = n; last = z }
 
     abbrev longer : List Stay
     longer = slice_set stays i v
 
-    of_latest : IsLatest trace n stays e i
-    of_latest = lat.known e i None inside (known.found None)
-
     task_is : y.task ≡ z.task
     task_is = ap (λ (s : Stay). s.task) at ∙ known.task y
 
     element_is : y.element ≡ e
-    element_is = ap (λ (s : Stay). s.element) at ∙ of_latest.element y
+    element_is = ap (λ (s : Stay). s.element) at ∙ known.element y
 
     as_long : length longer ≡ length stays
     as_long = length-set stays i v
@@ -152,6 +159,12 @@ module _ (trace : NamedTrace) (n e : ℕ) (z : NamedSegment) (here : HandlesAt b
         (λ (h : m ≡ i → ⊥). ap (λ (s : Stay). s.element) (at_other m d h))
         (cases_eq m i)
 
+    same_begin : (m : ℕ) (d : Stay) → (get_or longer m d).begin ≡ (get_or stays m d).begin
+    same_begin m d = ⊎_elim
+        (λ (h : m ≡ i). ap (λ (k : ℕ). (get_or longer k d).begin) h ∙ ap (λ (s : Stay). s.begin) (at_i d) ∙ sym (ap (λ (s : Stay). s.begin) (y_at d)) ∙ ap (λ (k : ℕ). (get_or stays k d).begin) (sym h))
+        (λ (h : m ≡ i → ⊥). ap (λ (s : Stay). s.begin) (at_other m d h))
+        (cases_eq m i)
+
     stay_v : IsStay trace (n + 1) v
     stay_v = let old : IsStay trace n y = subst (IsStay trace n) (sym at) (a.sound i y known.within) in record {
       starts = old.starts;
@@ -162,7 +175,7 @@ module _ (trace : NamedTrace) (n e : ℕ) (z : NamedSegment) (here : HandlesAt b
 
     other_stay : (m : ℕ) (d : Stay) → m < length stays → (m ≡ i → ⊥) → IsStay trace (n + 1) (get_or stays m d)
     other_stay m d l ne = let s = get_or stays m d in stay_keep trace n s (a.sound m d l)
-        (λ r h. let p = parts_at trace n n s.task z.task s.element e r z h here refl in ne (a.differ m i d l known.within (p.0 ∙ sym (known.task d)) (p.1 ∙ sym (of_latest.element d))))
+        (λ r h. let p = parts_at trace n n s.task z.task s.element e r z h here refl in ne (a.differ m i d l known.within (p.0 ∙ sym (known.task d)) (p.1 ∙ sym (known.element d))))
 
     v_there : Contains longer v
     v_there = (i, subst (λ (k : ℕ). i < k) (sym as_long) known.within, at_i v)
@@ -182,31 +195,7 @@ module _ (trace : NamedTrace) (n e : ℕ) (z : NamedSegment) (here : HandlesAt b
           (last_or j t f r l h);
       differ = λ k m d l o p q. a.differ k m d (subst (λ (i : ℕ). k < i) as_long l) (subst (λ (i : ℕ). m < i) as_long o)
           (sym (same_task k d) ∙ p ∙ same_task m d) (sym (same_element k d) ∙ q ∙ same_element m d);
-    }
-
-    ends_later : (k : ℕ) (d : Stay) (j : ℕ) → j ≤ n → j ≤ (get_or stays k d).end → j ≤ (get_or longer k d).end
-    ends_later k d j l h = ⊎_elim
-        (λ (q : k ≡ i). subst (λ (m : ℕ). j ≤ m) (sym (ap (λ (m : ℕ). (get_or longer m d).end) q ∙ ap (λ (s : Stay). s.end) (at_i d))) l)
-        (λ (q : k ≡ i → ⊥). subst (λ (m : ℕ). j ≤ m) (sym (ap (λ (s : Stay). s.end) (at_other k d q))) h)
-        (cases_eq k i)
-
-    pub latest_longer : AreLatest trace (n + 1) longer latest
-    latest_longer = record {
-      known = λ f k o l h. let old = lat.known f k o l h in record {
-        within = subst (λ (m : ℕ). k < m) (sym as_long) old.within;
-        element = λ d. same_element k d ∙ old.element d;
-        last = λ d j t r b g. ⊎_elim
-            (λ (c : j < n). ends_later k d j (omega arith) (old.last d j t r c g))
-            (λ (c : (j ≡ n) × (t ≡ z.task) × (f ≡ e)).
-            let q : k ≡ i = some_same k i (sym h ∙ ap (λ (m : ℕ). get_or latest m o) c.2 ∙ known.found o) in
-            let p : (get_or longer k d).end ≡ n = ap (λ (m : ℕ). (get_or longer m d).end) q ∙ ap (λ (s : Stay). s.end) (at_i d) in
-            let w : j ≡ n = c.0 in omega arith)
-            (last_or j t f r b g);
-      };
-      unknown = λ f o l h j t r b g. ⊎_elim
-          (λ (c : j < n). lat.unknown f o l h j t r c g)
-          (λ (c : (j ≡ n) × (t ≡ z.task) × (f ≡ e)). not_both (get_or latest e o) i (known.found o) (ap (λ (m : ℕ). get_or latest m o) (sym c.2) ∙ h))
-          (last_or j t f r b g);
+      rise = λ k m d l h. let old : (get_or stays k d).begin < (get_or stays m d).begin = a.rise k m d l (subst (λ (i : ℕ). m < i) as_long h) in let p = same_begin k d in let q = same_begin m d in omega arith;
     }
 
   -- ---- a stay begins
@@ -277,50 +266,5 @@ module _ (trace : NamedTrace) (n e : ℕ) (z : NamedSegment) (here : HandlesAt b
           (λ (b : (j ≡ n) × (t ≡ z.task) × (f ≡ e)). (s, Contains-push stays s, sym b.1, sym b.2))
           (last_or j t f r l h);
       differ = differ_grown;
+      rise = all_pairs_push (λ (x y : Stay). x.begin < y.begin) stays s a.rise (λ k d h. begins_before k d h);
     }
-
-    abbrev noted : List (Option ℕ)
-    noted = slice_set latest e (Some (length stays))
-
-    noted_here : (o : Option ℕ) → get_or noted e o ≡ Some (length stays)
-    noted_here o = get_or-set_same latest e (Some (length stays)) o inside
-
-    noted_other : (f : ℕ) (o : Option ℕ) → (f ≡ e → ⊥) → get_or noted f o ≡ get_or latest f o
-    noted_other f o ne = get_or-set_other latest e f (Some (length stays)) o ne
-
-    latest_s : IsLatest trace (n + 1) grown e (length stays)
-    latest_s = record {
-      within = omega (arith, wide);
-      element = λ d. ap (λ (y : Stay). y.element) (behind (length stays) d refl);
-      last = λ d j t r b g. let p : (get_or grown (length stays) d).end ≡ n = ap (λ (y : Stay). y.end) (behind (length stays) d refl) in omega arith;
-    }
-
-    latest_other : (f i : ℕ) → (f ≡ e → ⊥) → IsLatest trace n stays f i → IsLatest trace (n + 1) grown f i
-    latest_other f i ne old = record {
-      within = let l : i < length stays = old.within in omega (arith, wide);
-      element = λ d. ap (λ (y : Stay). y.element) (before i d old.within) ∙ old.element d;
-      last = λ d j t r b g. ⊎_elim
-          (λ (c : j < n). subst (λ (m : ℕ). j ≤ m) (ap (λ (y : Stay). y.end) (sym (before i d old.within))) (old.last d j t r c g))
-          (λ (c : (j ≡ n) × (t ≡ z.task) × (f ≡ e)). absurd (ne c.2))
-          (last_or j t f r b g);
-    }
-
-    pub latest_grown : AreLatest trace (n + 1) grown noted
-    latest_grown = record {
-      known = λ f i o l h. ⊎_elim
-          (λ (q : f ≡ e).
-          let p : i ≡ length stays = some_same i (length stays) (sym h ∙ ap (λ (m : ℕ). get_or noted m o) q ∙ noted_here o) in
-          subst (λ (m : ℕ). IsLatest trace (n + 1) grown m i) (sym q) (subst (λ (m : ℕ). IsLatest trace (n + 1) grown e m) (sym p) latest_s))
-          (λ (q : f ≡ e → ⊥). latest_other f i q (lat.known f i o (as_wide f l) (sym (noted_other f o q) ∙ h)))
-          (cases_eq f e);
-      unknown = λ f o l h j t r b g. ⊎_elim
-          (λ (q : f ≡ e). not_both (get_or noted e o) (length stays) (noted_here o) (ap (λ (m : ℕ). get_or noted m o) (sym q) ∙ h))
-          (λ (q : f ≡ e → ⊥). ⊎_elim
-          (λ (c : j < n). lat.unknown f o (as_wide f l) (sym (noted_other f o q) ∙ h) j t r c g)
-          (λ (c : (j ≡ n) × (t ≡ z.task) × (f ≡ e)). q c.2)
-          (last_or j t f r b g))
-          (cases_eq f e);
-    }
-      where
-        as_wide : (f : ℕ) → f < length noted → f < length latest
-        as_wide f l = subst (λ (m : ℕ). f < m) (length-set latest e (Some (length stays))) l

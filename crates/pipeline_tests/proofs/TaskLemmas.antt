@@ -88,13 +88,13 @@ of_names trace (Unshared t u) f = absurd f
 pub no_task : (t : ℕ) → HasTask [] t → ⊥
 no_task t h = let l : h.1.0 < 0 = h.1.1 in omega arith
 
-task_kept : (groups : List TaskStays) (g : TaskStays) (t : ℕ) → HasTask groups t → HasTask (groups ++ g ∷ []) t
+pub task_kept : (groups : List TaskStays) (g : TaskStays) (t : ℕ) → HasTask groups t → HasTask (groups ++ g ∷ []) t
 task_kept groups g t h = (h.0, Contains-append_left groups (g ∷ []) h.0 h.1, h.2)
 
-task_last : (groups : List TaskStays) (g : TaskStays) (t : ℕ) → t ≡ g.task → HasTask (groups ++ g ∷ []) t
+pub task_last : (groups : List TaskStays) (g : TaskStays) (t : ℕ) → t ≡ g.task → HasTask (groups ++ g ∷ []) t
 task_last groups g t e = (g, Contains-push groups g, sym e)
 
-task_cases : (groups : List TaskStays) (g : TaskStays) (t : ℕ) → HasTask (groups ++ g ∷ []) t → HasTask groups t ⊎ (t ≡ g.task)
+pub task_cases : (groups : List TaskStays) (g : TaskStays) (t : ℕ) → HasTask (groups ++ g ∷ []) t → HasTask groups t ⊎ (t ≡ g.task)
 task_cases groups g t h = ⊎_elim
     (λ (o : Contains groups h.0). inl (h.0, o, h.2))
     (λ (o : g ≡ h.0). inr (sym h.2 ∙ ap (λ (x : TaskStays). x.task) (sym o)))

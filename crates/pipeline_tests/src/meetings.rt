@@ -1,79 +1,80 @@
-ghost use Rattle.std.specs.Prelude.{◌≡◌, OnOk};
-ghost use Rattle.std.specs.List.{list_any};
-ghost use Rattle.pipeline_tests.specs.declared.meetings.Meeting.{Meeting};
-ghost use Rattle.pipeline_tests.specs.inner.Meetings.{AddsMeetings, AreMeetings};
-ghost use Rattle.pipeline_tests.specs.inner.Meetings.{takes_early, turned};
+ghost use Rattle.std.specs.Prelude.{◌≢◌, ◌<◌, ◌++◌, ◌∷◌, [], List, ℕ, All, MatchOption};
+ghost use Rattle.std.specs.List.{Contains};
+ghost use Rattle.pipeline_tests.specs.declared.stays.Stay.{Stay};
+ghost use Rattle.pipeline_tests.specs.inner.Meetings.{AreMeetings, IsSharing, IsStayOf, Meeting};
+ghost use Rattle.pipeline_tests.specs.inner.Stays.{ElementsDiffer, StaysRise};
 
 use crate::stays::Stay;
 use refute_tests::starts_early;
-use std::alloc::AllocError;
 
-/// One element that two tasks handle, and where each does.
+/// What two tasks refute by the elements that both handle.
 #[derive(Clone, Copy)]
-pub(crate) struct Meeting {
-    /// Where the task of the lesser number does.
-    pub low: Stay,
-    /// Where the other task does.
-    pub high: Stay,
+pub(crate) struct Sharing {
+    /// Both handle some element.
+    pub shared: bool,
+    /// They start on two elements in different orders.
+    pub turned: bool,
+    /// The higher task takes an element before the lower is done with it, by more than the grace.
+    pub upward: bool,
+    /// The lower task takes an element before the higher is done with it, by more than the grace.
+    pub downward: bool,
+    /// The greatest index at which the higher task starts on an element so far, or 0.
+    latest: usize,
 }
 
-/// Appends the meetings of one stay with those of the other task.
-fn add_meetings(met: &mut Vec<Meeting>, low: Stay, high: &[Stay]) -> Result<(), AllocError>
-    ensures { OnOk result (AddsMeetings met.old.items low high.now met.new.items) }
-{
-    for stay in high {
-        if low.element == stay.element {
-            met.push(Meeting { low, high: *stay })?;
+impl Sharing {
+    /// Begins with no element.
+    fn none() -> Sharing
+        ensures { (grace : ℕ) → IsSharing grace [] result }
+    {
+        Sharing {
+            shared: false,
+            turned: false,
+            upward: false,
+            downward: false,
+            latest: 0,
         }
     }
-    Ok(())
-}
 
-/// Replaces what the list has by the meetings of the stays of two tasks.
-pub(crate) fn find_meetings(
-    met: &mut Vec<Meeting>,
-    low: &[Stay],
-    high: &[Stay],
-) -> Result<(), AllocError>
-    ensures { OnOk result (AreMeetings low.now high.now met.new.items) }
-{
-    met.clear();
-    for stay in low {
-        add_meetings(met, *stay, high)?;
+    /// Adds an element, on which the lower task starts after those before.
+    fn add(&mut self, low: &Stay, high: &Stay, grace: u64)
+        ensures { (met : List Meeting) → IsSharing grace met self.old
+            → ((m : Meeting) → Contains met m → m.low.begin < low.now.begin)
+            → IsSharing grace (met ++ record { low = low.now; high = high.now } ∷ []) self.new }
+    {
+        self.shared = true;
+        self.turned |= high.begin < self.latest;
+        self.upward |= starts_early(&low.last, &high.first, grace);
+        self.downward |= starts_early(&high.last, &low.first, grace);
+        self.latest = self.latest.max(high.begin);
     }
-    Ok(())
 }
 
-/// Tests whether the lower task starts on the element of some other meeting after that of this one,
-/// and the higher before it.
-fn turns_with(first: &Meeting, met: &[Meeting]) -> bool
-    ensures { result ≡ list_any (λ (n : Meeting). turned first.now n) met.now }
+/// Finds the stay of an element, and looks at this index first.
+fn find_stay(stays: &[Stay], element: u32, first: usize) -> Option<usize>
+    ensures { MatchOption result (All (λ (s : Stay). s.element ≢ element) stays.now)
+        (λ k. IsStayOf stays.now element k) }
 {
-    met.iter().any(|m| first.low.begin < m.low.begin && m.high.begin < first.high.begin)
+    if first < stays.len() && stays[first].element == element {
+        return Some(first);
+    }
+    stays.iter().position(|stay| stay.element == element)
 }
 
-/// Tests whether the two tasks start on two elements in different orders.
-pub(crate) fn turns_order(met: &[Meeting]) -> bool
-    ensures { result
-        ≡ list_any (λ (m : Meeting). list_any (λ (n : Meeting). turned m n) met.now) met.now }
+/// Compares how two tasks handle the elements of both. Most often both start on them in the same
+/// order, so the stay behind the one found last is looked at first.
+pub(crate) fn compare(low: &[Stay], high: &[Stay], grace: u64) -> Sharing
+    requires rise { StaysRise low.now }
+    requires differ { ElementsDiffer high.now }
+    ensures { (met : List Meeting) × AreMeetings low.now high.now met × IsSharing grace met result }
 {
-    met.iter().any(|m| turns_with(m, met))
-}
-
-/// Tests whether the higher task takes an element before the lower is done with it, by more than
-/// the grace in nanoseconds.
-pub(crate) fn higher_is_early(met: &[Meeting], grace: u64) -> bool
-    ensures { result ≡ list_any (λ (m : Meeting). takes_early grace m.low m.high) met.now }
-{
-    met.iter()
-        .any(|m| starts_early(&m.low.last, &m.high.first, grace))
-}
-
-/// Tests whether the lower task takes an element before the higher is done with it, by more than
-/// the grace in nanoseconds.
-pub(crate) fn lower_is_early(met: &[Meeting], grace: u64) -> bool
-    ensures { result ≡ list_any (λ (m : Meeting). takes_early grace m.high m.low) met.now }
-{
-    met.iter()
-        .any(|m| starts_early(&m.high.last, &m.low.first, grace))
+    let mut sharing = Sharing::none();
+    let mut next = 0;
+    for stay in low {
+        if let Some(at) = find_stay(high, stay.element, next) {
+            sharing.add(stay, &high[at], grace);
+            next = at + 1;
+        }
+    }
+    sharing
 }

@@ -1,40 +1,37 @@
-ghost use Rattle.std.specs.Prelude.{◌≡◌, ◌+◌, ◌<◌, ◌||◌, ℕ, IsTrue, OnOk};
+ghost use Rattle.std.specs.Prelude.{◌≡◌, ◌+◌, ◌<◌, ◌||◌, ℕ, IsTrue, List, OnOk};
 ghost use Rattle.hypothesis_index.specs.Refuting.{RefutesTasks};
 ghost use Rattle.pipeline_tests.specs.inner.Groups.{IsGroup};
+ghost use Rattle.pipeline_tests.specs.inner.Meetings.{IsSharing, Meeting};
 ghost use Rattle.pipeline_tests.specs.inner.Pairs.{IsBetween, pair_hits, task_word};
 ghost use Rattle.refute_tests.specs.Clearing.{AddsExactly};
 ghost use Rattle.word_rows.specs.Rows.{below, clears};
 
 use crate::groups::TaskStays;
-use crate::meetings::{Meeting, find_meetings, higher_is_early, lower_is_early, turns_order};
+use crate::meetings::{Sharing, compare};
 use hypothesis_index::Relation;
 use refute_tests::clear_if;
 use std::alloc::AllocError;
 use trace_types::NamedTrace;
 use word_rows::RowMaker;
 
-/// Clears what two tasks refute, given the elements that both handle.
+/// Clears what two tasks refute, given how they handle the elements of both.
 fn clear_hits(
     maker: &mut RowMaker,
-    grace: u64,
-    met: &[Meeting],
+    sharing: &Sharing,
     low: u32,
     high: u32,
 ) -> Result<(), AllocError>
     requires rises { low < high }
     requires small { high < 64 }
     requires no_later { IsTrue (below (task_word low high + 1) maker.old) }
-    ensures cleared { OnOk result ((i b : ℕ)
-        → clears maker.new i b ≡ (clears maker.old i b || pair_hits grace met.now low high i b)) }
+    ensures cleared { OnOk result ((grace : ℕ) (met : List Meeting) → IsSharing grace met sharing.now
+        → (i b : ℕ)
+        → clears maker.new i b ≡ (clears maker.old i b || pair_hits grace met low high i b)) }
     ensures no_later { OnOk result (IsTrue (below (task_word low high + 1) maker.new)) }
 {
-    let turns = turns_order(met);
-    let upward = higher_is_early(met, grace);
-    let downward = lower_is_early(met, grace);
-    let shared = !met.is_empty();
     clear_if(
         maker,
-        upward || turns,
+        sharing.upward | sharing.turned,
         Relation::Pipe {
             from: low,
             to: high,
@@ -42,24 +39,22 @@ fn clear_hits(
     )?;
     clear_if(
         maker,
-        downward || turns,
+        sharing.downward | sharing.turned,
         Relation::Pipe {
             from: high,
             to: low,
         },
     )?;
-    clear_if(maker, shared, Relation::Unshared { low, high })?;
+    clear_if(maker, sharing.shared, Relation::Unshared { low, high })?;
     Ok(())
 }
 
-/// Clears what two tasks refute, the first of which has the lesser number. The list of meetings is
-/// used anew.
+/// Clears what two tasks refute, the first of which has the lesser number.
 pub(crate) fn clear_pair(
     maker: &mut RowMaker,
-    met: &mut Vec<Meeting>,
     trace: &NamedTrace,
-    low: &TaskStays,
-    high: &TaskStays,
+    low: &TaskStays<'_>,
+    high: &TaskStays<'_>,
 ) -> Result<(), AllocError>
     requires low { IsGroup trace.now low.now }
     requires high { IsGroup trace.now high.now }
@@ -70,7 +65,7 @@ pub(crate) fn clear_pair(
     ensures no_later { OnOk result
         (IsTrue (below (task_word low.now.task high.now.task + 1) maker.new)) }
 {
-    find_meetings(met, low.stays.as_slice(), high.stays.as_slice())?;
-    clear_hits(maker, trace.grace, met.as_slice(), low.task, high.task)?;
+    let sharing = compare(low.stays, high.stays, trace.grace);
+    clear_hits(maker, &sharing, low.task, high.task)?;
     Ok(())
 }

@@ -1,5 +1,5 @@
-ghost use Rattle.std.specs.Prelude.{◌≡◌, ◌+◌, ◌<◌, length, IfOk, MatchOption, OnOk};
-ghost use Rattle.pipeline_tests.specs.inner.Stays.{AreLatest, AreStays, IsKnown, IsNew};
+ghost use Rattle.std.specs.Prelude.{◌≡◌, ◌+◌, length, IfOk, MatchOption, OnOk};
+ghost use Rattle.pipeline_tests.specs.inner.Stays.{AreStays, IsKnown, IsNew};
 ghost use Rattle.trace_types.specs.Parts.{by_number};
 ghost use Rattle.trace_types.specs.Pipelines.{HandlesAt};
 
@@ -24,32 +24,31 @@ pub(crate) struct Stay {
 }
 
 /// Finds the stay so far of the task and the element of a segment. The segments of a task stand
-/// together, so it is the latest stay of the element, or none.
+/// together, so its stays so far are the last ones.
 fn earlier_stay(
     trace: &NamedTrace,
     index: usize,
     segment: NamedSegment,
     element: u32,
     stays: &[Stay],
-    latest: &[Option<usize>],
 ) -> Option<usize>
     requires handles { HandlesAt by_number trace.now segment.task element index segment }
-    requires inside { element < length latest.now }
     requires stays { AreStays trace.now index stays.now }
-    requires latest { AreLatest trace.now index stays.now latest.now }
     ensures { MatchOption result (IsNew trace.now index segment.task element)
-        (λ k. IsKnown stays.now latest.now segment.task element k) }
+        (λ k. IsKnown stays.now segment.task element k) }
 {
-    match latest[element as usize] {
-        Some(known) => {
-            if stays[known].task == segment.task {
-                Some(known)
-            } else {
-                None
-            }
+    let mut after = stays.len();
+    while after > 0 {
+        let at = after - 1;
+        if stays[at].task != segment.task {
+            return None;
         }
-        None => None,
+        if stays[at].element == element {
+            return Some(at);
+        }
+        after = at;
     }
+    None
 }
 
 /// Notes that a task handles an element in this segment: its stay so far goes on, or a stay begins.
@@ -59,22 +58,17 @@ fn note_element(
     segment: NamedSegment,
     element: u32,
     stays: &mut Vec<Stay>,
-    latest: &mut [Option<usize>],
 ) -> Result<(), AllocError>
     requires handles { HandlesAt by_number trace.now segment.task element index segment }
-    requires inside { element < length latest.old }
     requires stays { AreStays trace.now index stays.old.items }
-    requires latest { AreLatest trace.now index stays.old.items latest.old }
-    ensures stays { OnOk result (AreStays trace.now (index + 1) stays.new.items) }
-    ensures latest { OnOk result (AreLatest trace.now (index + 1) stays.new.items latest.new) }
+    ensures { OnOk result (AreStays trace.now (index + 1) stays.new.items) }
 {
-    if let Some(known) = earlier_stay(trace, index, segment, element, stays, latest) {
+    if let Some(known) = earlier_stay(trace, index, segment, element, stays) {
         let stay = &mut stays[known];
         stay.end = index;
         stay.last = segment;
         return Ok(());
     }
-    latest[element as usize] = Some(stays.len());
     stays.push(Stay {
         task: segment.task,
         element,
@@ -91,13 +85,10 @@ fn note_element(
 pub(crate) fn stays_of(alloc: Global, trace: &NamedTrace) -> Result<Vec<Stay>, AllocError>
     ensures { IfOk result (λ stays. AreStays trace.now (length trace.now.segments) stays.items) }
 {
-    let segments = trace.segments.items();
     let mut stays = Vec::new(alloc);
-    let mut table = Vec::from_elem(alloc, None, segments.len())?;
-    let latest = table.as_mut_slice();
-    for (index, segment) in segments.iter().enumerate() {
+    for (index, segment) in trace.segments.items().iter().enumerate() {
         if let Some(element) = segment.element {
-            note_element(trace, index, *segment, element, &mut stays, latest)?;
+            note_element(trace, index, *segment, element, &mut stays)?;
         }
     }
     Ok(stays)

@@ -7,8 +7,8 @@ ghost use Rattle.refute_tests.specs.Clearing.{AddsExactly};
 ghost use Rattle.word_rows.specs.Rows.{below};
 
 use crate::groups::{TaskStays, by_task};
-use crate::meetings::Meeting;
 use crate::pairs::clear_pair;
+use crate::stays::stays_of;
 use hypothesis_index::laws::pairs_follow;
 use std::alloc::{AllocError, Global};
 use trace_types::NamedTrace;
@@ -18,10 +18,9 @@ use word_rows::laws::below_wider;
 /// Clears what a task refutes with those before it, which have lesser numbers.
 fn clear_below(
     maker: &mut RowMaker,
-    met: &mut Vec<Meeting>,
     trace: &NamedTrace,
-    before: &[TaskStays],
-    high: &TaskStays,
+    before: &[TaskStays<'_>],
+    high: &TaskStays<'_>,
 ) -> Result<(), AllocError>
     requires groups { All (IsGroup trace.now) before.now }
     requires high { IsGroup trace.now high.now }
@@ -37,7 +36,7 @@ fn clear_below(
     below_wider();
     pairs_follow();
     for low in before {
-        clear_pair(maker, met, trace, low, high)?;
+        clear_pair(maker, trace, low, high)?;
     }
     Ok(())
 }
@@ -45,9 +44,8 @@ fn clear_below(
 /// Clears what each task refutes with those before it. In the row so far only word 0 was begun.
 fn clear_groups(
     maker: &mut RowMaker,
-    met: &mut Vec<Meeting>,
     trace: &NamedTrace,
-    groups: &[TaskStays],
+    groups: &[TaskStays<'_>],
 ) -> Result<(), AllocError>
     requires groups { All (IsGroup trace.now) groups.now }
     requires rise { TasksRise groups.now }
@@ -60,7 +58,7 @@ fn clear_groups(
     pairs_follow();
     for (index, high) in groups.iter().enumerate() {
         let (before, _) = groups.split_at(index);
-        clear_below(maker, met, trace, before, high)?;
+        clear_below(maker, trace, before, high)?;
     }
     Ok(())
 }
@@ -77,8 +75,8 @@ pub(crate) fn clear_tasks(
         (AddsExactly maker.old (λ r. RefutesTasks r trace.now) maker.new) }
     ensures fits { OnOk result (IsTrue (below 126 maker.new)) }
 {
-    let groups = by_task(alloc, trace)?;
-    let mut met = Vec::new(alloc);
-    clear_groups(maker, &mut met, trace, groups.as_slice())?;
+    let stays = stays_of(alloc, trace)?;
+    let groups = by_task(alloc, trace, stays.as_slice())?;
+    clear_groups(maker, trace, groups.as_slice())?;
     Ok(())
 }

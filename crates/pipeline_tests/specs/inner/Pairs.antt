@@ -6,9 +6,8 @@ use Rattle.hypothesis_index.specs.declared.relation.Relation.{Relation}
 use Rattle.hypothesis_index.specs.declared.relation.Relation.TheVariants.{Before, Exclusive, Apart}
 use Rattle.hypothesis_index.specs.declared.relation.Relation.TheVariants.{Pipe, Unshared}
 use Rattle.pipeline_tests.specs.declared.groups.TaskStays.{TaskStays}
-use Rattle.pipeline_tests.specs.declared.meetings.Meeting.{Meeting}
 use Rattle.pipeline_tests.specs.inner.Groups.{HasTask}
-use Rattle.pipeline_tests.specs.inner.Meetings.{takes_early, turned}
+use Rattle.pipeline_tests.specs.inner.Meetings.{Meeting, takes_early, turns}
 use Rattle.refute_tests.specs.Clearing.{is_at}
 
 -- the word of the pair i < j
@@ -43,10 +42,6 @@ IsAmong groups (Exclusive a b) = ⊥
 IsAmong groups (Apart a b) = ⊥
 IsAmong groups (Pipe t u) = HasTask groups t × HasTask groups u
 IsAmong groups (Unshared t u) = HasTask groups t × HasTask groups u
-
--- some two of the elements are started on in different orders
-abbrev pub turns : List Meeting → Bool
-turns met = list_any (λ (m : Meeting). list_any (λ (n : Meeting). turned m n) met) met
 
 -- the bits that two tasks refute, given the elements that both handle
 abbrev pub pair_hits : ℕ → List Meeting → ℕ → ℕ → ℕ → ℕ → Bool
