@@ -1,6 +1,7 @@
 -- Tables that are filed stay so as they grow, and a name is found by the indices of its texts.
 use Rattle.std.proofs.Common.{◌≡◌, ◌≢◌, ℕ, ◌+◌, ◌<◌, List, [], ◌∷◌, ◌++◌, length, get_or, map, position, slice_get, Option, Some, None, Bool, true, false, not, ◌&&◌, nat_eq, All, refl, sym, ap, ◌∙◌, subst, ⊎_elim, append-nil, append_assoc, length-append, arith}
-use Rattle.std.proofs.lemmas.List.{map-append, get_or_append_left}
+use Rattle.std.proofs.lemmas.Bool.{false_from_ne_true}
+use Rattle.std.proofs.lemmas.List.{map-append, get_or-map, length-map, get_or_append_left}
 use Rattle.std.proofs.lemmas.List.Elements.{All-push}
 use Rattle.std.proofs.lemmas.Option.{get_or_from_slice_get, slice_get_within, slice_get_read}
 use Rattle.std.specs.List.{list_any}
@@ -9,7 +10,7 @@ use Rattle.trace_types.specs.Segments.{SegmentName}
 use Rattle.segment_names.specs.declared.name_key.NameKey.{NameKey}
 use Rattle.segment_names.specs.Known.{same_name}
 use Rattle.segment_names.specs.inner.Filing.{AreDifferent, IsFiled, IsFiledAs, names_of_entries}
-use Rattle.segment_names.proofs.FindLemmas.{none-passes, position-none, positions-alike, index-means, found-there}
+use Rattle.segment_names.proofs.FindLemmas.{none-passes, position-none, position-at, positions-alike, index-means, found-there}
 use Rattle.segment_names.proofs.FirstLemmas.{differ-new}
 use Rattle.segment_names.proofs.TextLemmas.{text_means, text_own, name_means, name_own}
 
@@ -103,3 +104,19 @@ module _ (tasks events : List (List ℕ)) (names : List (NameKey × SegmentName)
     start = found-there bytes_eq text_means text_own events n.1 start s;
     end = found-there bytes_eq text_means text_own events n.2 end e;
   }
+
+  -- the entry at an index has the texts of the name looked for: it is the only one
+  pub named_there : (key : NameKey) (name : SegmentName) (i : ℕ) → slice_get names i ≡ Some (key, name) → name ≡ n
+      → (position (same_name n) (names_of_entries names) ≡ Some i) × (slice_get tasks key.task ≡ Some n.0)
+  named_there key name i e same =
+      let entry : NameKey × SegmentName = (key, name) in
+      let at : get_or names i entry ≡ entry = get_or_from_slice_get names i entry entry e in
+      let within : i < length names = slice_get_within names i entry e in
+      let named : get_or (names_of_entries names) i name ≡ n = get_or-map (λ (x : NameKey × SegmentName). x.1) names i entry name within ∙ ap (λ (x : NameKey × SegmentName). x.1) at ∙ same in
+      let long : length (names_of_entries names) ≡ length names = length-map names (λ (x : NameKey × SegmentName). x.1) in
+      let filed : IsFiledAs tasks events key name = subst (λ (x : NameKey × SegmentName). IsFiledAs tasks events x.0 x.1) at (f.entries i entry within) in (
+        position-at (same_name n) (names_of_entries names) i name (omega arith)
+            (λ k l. false_from_ne_true (same_name n (get_or (names_of_entries names) k name)) (λ t. f.names_differ k i name l (omega arith) (sym (name_means n (get_or (names_of_entries names) k name) t) ∙ sym named)))
+            (subst (λ (x : SegmentName). same_name n x ≡ true) (sym named) (name_own n)),
+        filed.task ∙ ap (λ (x : SegmentName). Some x.0) same,
+      )

@@ -27,6 +27,13 @@ module _ {X : Type 0} (p : X → Bool) where
       let t : nat_lt (position_or_len p (x ∷ xs)) (length (x ∷ xs)) ≡ false = le-ltb (position_or_len p (x ∷ xs)) (length (x ∷ xs)) (omega arith) in
       ap (λ (b : Bool). cond b (Some (position_or_len p (x ∷ xs))) None) t
 
+  -- the first element that passes stands here
+  pub position-at : (xs : List X) (i : ℕ) (d : X) → i < length xs → ((k : ℕ) → k < i → p (get_or xs k d) ≡ false) → p (get_or xs i d) ≡ true → position p xs ≡ Some i
+  position-at xs i d h before at =
+      let q = position_or_len_is p xs i d (omega arith) before (λ l. at) in
+      let t : nat_lt (position_or_len p xs) (length xs) ≡ true = lt-ltb (position_or_len p xs) (length xs) (omega arith) in
+      ap (λ (b : Bool). cond b (Some (position_or_len p xs)) None) t ∙ ap Some q
+
   pub any-none : (xs : List X) → position p xs ≡ None → list_any p xs ≡ false
   any-none xs none = list_any_none p xs (none-passes xs none)
 

@@ -3,6 +3,7 @@
 #![tactic(auto)]
 
 mod catalogue;
+mod hints;
 pub mod laws;
 mod name_fault;
 mod name_key;

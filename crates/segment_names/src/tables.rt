@@ -5,6 +5,7 @@ ghost use Rattle.trace_types.specs.Segments.{name_of};
 ghost use Rattle.segment_names.specs.inner.Filing.{AreDifferent, IsFiledAs};
 
 use crate::NameFault;
+use crate::hints::{HINTS, hint_of};
 use crate::name_key::NameKey;
 use indexmap::{IndexMap, IndexSet};
 use std::alloc::{AllocError, Global};
@@ -25,12 +26,14 @@ pub(crate) struct Marks {
     names: usize,
 }
 
-/// The tables of a catalogue, without its limits. Each is in the order of first sight.
+/// The tables of a catalogue, without its limits. Each is in the order of first sight. A hint is
+/// where to look for a name first; the hints are no part of what the tables know.
 #[derive(Drop)]
 pub(crate) struct Tables {
     tasks: IndexSet<Text>,
     events: IndexSet<Text>,
     names: IndexMap<NameKey, NameText>,
+    hints: Vec<u16>,
 }
 
 impl Model for Tables {
@@ -123,11 +126,28 @@ impl Tables {
             tasks: IndexSet::new(alloc),
             events: IndexSet::new(alloc),
             names: IndexMap::new(alloc),
+            hints: Vec::new(alloc),
         }
     }
 
-    /// Looks up a name by its three texts, and gives its number and that of its task.
-    pub(crate) fn look_up(&self, task: &Text, start: &Text, end: &Text) -> Option<(usize, usize)>
+    /// Looks for a name where its hint points to. Returns its number and that of its task if all
+    /// three texts stand there.
+    fn look_up_by_hint(&self, task: &Text, start: &Text, end: &Text) -> Option<(usize, usize)>
+        ensures name { IfSome result (λ r. name_number (known_in self.now)
+            (task.now, start.now, end.now) ≡ Some r.0) }
+        ensures task { IfSome result (λ r. slice_get (known_in self.now).tasks r.1
+            ≡ Some task.now) }
+    {
+        let number = usize::from(*self.hints.get(hint_of(task, start, end))?);
+        let (key, name) = self.names.get_index(number)?;
+        if name.task == *task && name.start == *start && name.end == *end {
+            return Some((number, key.task));
+        }
+        None
+    }
+
+    /// Looks for a name by its key.
+    fn search(&self, task: &Text, start: &Text, end: &Text) -> Option<(usize, usize)>
         ensures absent { IfNone result (name_number (known_in self.now)
             (task.now, start.now, end.now) ≡ None) }
         ensures name { IfSome result (λ r. name_number (known_in self.now)
@@ -145,6 +165,23 @@ impl Tables {
         };
         let name_index = self.names.get_index_of(&key)?;
         Some((name_index, task_index))
+    }
+
+    /// Looks up a name by its three texts, and gives its number and that of its task.
+    pub(crate) fn look_up(&self, task: &Text, start: &Text, end: &Text) -> Option<(usize, usize)>
+        ensures absent { IfNone result (name_number (known_in self.now)
+            (task.now, start.now, end.now) ≡ None) }
+        ensures name { IfSome result (λ r. name_number (known_in self.now)
+            (task.now, start.now, end.now) ≡ Some r.0) }
+        ensures task { IfSome result (λ r. slice_get (known_in self.now).tasks r.1
+            ≡ Some task.now) }
+        ensures filed { AreFiled self.now }
+    {
+        let _names = &self.names;
+        match self.look_up_by_hint(task, start, end) {
+            Some(found) => Some(found),
+            None => self.search(task, start, end),
+        }
     }
 
     /// Looks up a task.
@@ -184,6 +221,42 @@ impl Tables {
         self.tasks.get_index(task).unwrap()
     }
 
+    /// Makes the hints, if there are none yet. They point to the first name.
+    fn make_hints(&mut self, alloc: Global) -> Result<(), AllocError>
+        ensures { self.new ≡ self.old }
+    {
+        if self.hints.is_empty() {
+            self.hints = Vec::from_elem(alloc, 0, HINTS)?;
+        }
+        Ok(())
+    }
+
+    /// Points the hint of a segment's name to the last name.
+    fn hint_last(&mut self, segment: &Segment)
+        ensures { self.new ≡ self.old }
+    {
+        let hint = hint_of(&segment.task, &segment.start_event, &segment.end_event);
+        let last = self.names.len().saturating_sub(1);
+        if hint < self.hints.len() && last < 1 << 16 {
+            self.hints[hint] = last as u16;
+        }
+    }
+
+    /// Notes the name and the task of a segment, whose name is not there.
+    fn note_new(&mut self, alloc: Global, segment: &Segment) -> Result<(), AllocError>
+        requires filed { AreFiled self.old }
+        requires new { name_number (known_in self.old) (name_of segment.now) ≡ None }
+        ensures filed { AreFiled self.new }
+        ensures grown { Grows self.old self.new }
+        ensures noted { OnOk result (known_in self.new
+            ≡ with_segments (known_in self.old) (segment.now ∷ [])) }
+    {
+        let name = copy_name(alloc, segment)?;
+        let key = intern_name(alloc, &mut self.tasks, &mut self.events, segment)?;
+        self.names.insert(key, name)?;
+        Ok(())
+    }
+
     /// Notes the name and the task of a segment, unless its name is there.
     fn note(&mut self, alloc: Global, segment: &Segment) -> Result<(), AllocError>
         ensures filed { AreFiled self.new }
@@ -197,9 +270,9 @@ impl Tables {
         {
             return Ok(());
         }
-        let name = copy_name(alloc, segment)?;
-        let key = intern_name(alloc, &mut self.tasks, &mut self.events, segment)?;
-        self.names.insert(key, name)?;
+        self.make_hints(alloc)?;
+        self.note_new(alloc, segment)?;
+        self.hint_last(segment);
         Ok(())
     }
 

@@ -2,7 +2,7 @@ use Rattle.std.proofs.Common.{sym, ap, subst, ◌∙◌, ◌≡◌, ℕ, Option,
 use Rattle.segment_names.specs.Known.{name_number}
 use Rattle.segment_names.specs.inner.Filing.{Filed, known_in}
 use Rattle.segment_names.proofs.FilingLemmas.{no_task, no_start, no_end, found_as, key_found}
-use Rattle.segment_names.proofs.tables.Tables.look_up.Goals as goal
+use Rattle.segment_names.proofs.tables.Tables.search.Goals as goal
 
 pub returns-in_err-task_index-clause-absent : goal.returns-in_err-task_index-clause-absent
 returns-in_err-task_index-clause-absent c =
