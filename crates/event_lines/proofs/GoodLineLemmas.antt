@@ -1,7 +1,11 @@
--- The lines that an input says have rising numbers, timely events and limited commands.
-use Rattle.std.proofs.Common.{◌≡◌, ℕ, zero, suc, ◌+◌, ◌*◌, ◌≤◌, List, [], ◌∷◌, ◌++◌, Bool, true, false, Option, Some, None, Result, Ok, Err, refl, sym, subst, ◌∙◌, true≢false, arith, codes, nat_lt, unwrap_or, is_some, if◌then◌else◌}
+-- The lines that an input says have rising numbers, timely events and limited commands, and there is
+-- at most one more than the input has bytes.
+use Rattle.std.proofs.Common.{◌≡◌, ℕ, zero, suc, ◌+◌, ◌*◌, ◌≤◌, List, [], ◌∷◌, ◌++◌, length, Bool, true, false, Option, Some, None, Result, Ok, Err, refl, sym, ap, subst, ◌∙◌, true≢false, arith, codes, nat_lt, unwrap_or, is_some, if◌then◌else◌}
 use Rattle.std.specs.Prelude.{All}
+use Rattle.std.proofs.lemmas.List.{length-append}
 use Rattle.std.proofs.lemmas.List.Elements.{All-cons}
+use Rattle.std.proofs.lemmas.List.Splits.{length-slice_split}
+use Rattle.std.proofs.lemmas.List.Sums.{count_by-le-length}
 use Rattle.std.specs.Option.{option_map_or}
 use Rattle.std.specs.Result.{result_map_both}
 use Rattle.std.proofs.lemmas.Bool.{ltb-false}
@@ -14,16 +18,16 @@ use Rattle.event_lines.specs.declared.why.Why.{Why}
 use Rattle.event_lines.specs.declared.why.Why.TheVariants.{NotJson, Missing, WrongKind, OutOfRange}
 use Rattle.event_lines.specs.declared.time_unit.TimeUnit.{TimeUnit}
 use Rattle.event_lines.specs.declared.time_unit.TimeUnit.TheVariants.{Microseconds, Nanoseconds}
-use Rattle.event_lines.specs.Cut.{input_lines, is_blank_line}
+use Rattle.event_lines.specs.Cut.{input_lines, is_blank_line, is_line_feed}
 use Rattle.event_lines.specs.GoodLines.{line_number, NumbersRise, IsTimely, IsLimited}
 use Rattle.event_lines.specs.Commands.{command_result}
 use Rattle.event_lines.specs.EventFaults.{event_line_fault, time_name, lacks_member, has_wrong_kind, is_out_of_range}
 use Rattle.event_lines.specs.LineResults.{line_event, event_line_result, control_line_result, object_result, value_result, line_result, json_value}
 use Rattle.event_lines.specs.Members.{has_member, number_at}
 use Rattle.event_lines.specs.TimeUnits.{time_unit_of, latest_in, nanoseconds_in}
-use Rattle.event_lines.specs.InputLines.{LineFault, lines_said_from, lines_said}
+use Rattle.event_lines.specs.InputLines.{LineFault, both_said, lines_said_from, lines_said}
 use Rattle.event_lines.proofs.CommandLemmas.{command_small}
-use Rattle.event_lines.proofs.InputLineLemmas.{one_or_fault, lines_said_from-cons, lines_said_from-one, and_then}
+use Rattle.event_lines.proofs.InputLineLemmas.{one_or_fault, lines_said_from-cons, lines_said_from-one}
 
 -- a good line has its number, and is in the limits
 record IsGood (n : ℕ) (line : Line) : Type 0 where
@@ -107,13 +111,33 @@ good_lines : (n : ℕ) (parts : List (List ℕ)) (lines : List Line) → lines_s
 good_lines n [] lines said = let none : [] ≡ lines = cc in subst (AreGoodFrom n) none tt
 good_lines n (part ∷ parts) lines said = by (lines_said_from n (part ∷ [])) (lines_said_from (n + 1) parts) refl refl (sym (lines_said_from-cons n part parts) ∙ said) (good_lines (n + 1) parts)
   where
-    by : (one rest : Result (List Line) LineFault) → lines_said_from n (part ∷ []) ≡ one → lines_said_from (n + 1) parts ≡ rest → and_then one rest ≡ Ok lines
+    by : (one rest : Result (List Line) LineFault) → lines_said_from n (part ∷ []) ≡ one → lines_said_from (n + 1) parts ≡ rest → both_said one rest ≡ Ok lines
         → ((more : List Line) → lines_said_from (n + 1) parts ≡ Ok more → AreGoodFrom (n + 1) more) → AreGoodFrom n lines
     by (Err e) rest is more all good = absurd (cc all)
     by (Ok first) (Err e) is more all good = absurd (cc all)
     by (Ok first) (Ok later) is more all good =
         let joined : first ++ later ≡ lines = cc in
         subst (AreGoodFrom n) joined (good_added n (is_blank_line part) (line_result n part) first later (good_line n part) (sym (lines_said_from-one n part) ∙ is) (good later more))
+
+-- ---- how many lines
+
+few_added : (n : ℕ) (blank : Bool) (said : Result Line Why) (lines : List Line) → (if blank then Ok [] else one_or_fault n said) ≡ Ok lines → length lines ≤ 1
+few_added n true said lines is = let none : [] ≡ lines = cc in omega (arith, ap length none)
+few_added n false (Err why) lines is = absurd (cc is)
+few_added n false (Ok line) lines is = let one : line ∷ [] ≡ lines = cc in omega (arith, ap length one)
+
+few_lines : (n : ℕ) (parts : List (List ℕ)) (lines : List Line) → lines_said_from n parts ≡ Ok lines → length lines ≤ length parts
+few_lines n [] lines said = let none : [] ≡ lines = cc in omega (arith, ap length none)
+few_lines n (part ∷ parts) lines said = by (lines_said_from n (part ∷ [])) (lines_said_from (n + 1) parts) refl refl (sym (lines_said_from-cons n part parts) ∙ said) (few_lines (n + 1) parts)
+  where
+    by : (one rest : Result (List Line) LineFault) → lines_said_from n (part ∷ []) ≡ one → lines_said_from (n + 1) parts ≡ rest → both_said one rest ≡ Ok lines
+        → ((more : List Line) → lines_said_from (n + 1) parts ≡ Ok more → length more ≤ length parts) → length lines ≤ length (part ∷ parts)
+    by (Err e) rest is more all few = absurd (cc all)
+    by (Ok first) (Err e) is more all few = absurd (cc all)
+    by (Ok first) (Ok later) is more all few =
+        let joined : first ++ later ≡ lines = cc in
+        let one = few_added n (is_blank_line part) (line_result n part) first (sym (lines_said_from-one n part) ∙ is) in
+        omega (arith, one, few later more, ap length joined, length-append first later)
 
 -- ---- as the contracts say it
 
@@ -141,3 +165,6 @@ all_timely bytes lines said = lines_timely 1 lines (good_lines 1 (input_lines by
 
 pub all_limited : (bytes : List ℕ) (lines : List Line) → lines_said bytes ≡ Ok lines → All IsLimited lines
 all_limited bytes lines said = lines_limited 1 lines (good_lines 1 (input_lines bytes) lines said)
+
+pub no_more_lines : (bytes : List ℕ) (lines : List Line) → lines_said bytes ≡ Ok lines → length lines ≤ length bytes + 1
+no_more_lines bytes lines said = omega (arith, few_lines 1 (input_lines bytes) lines said, length-slice_split is_line_feed bytes, count_by-le-length is_line_feed bytes)

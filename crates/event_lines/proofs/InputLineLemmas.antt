@@ -7,34 +7,28 @@ use Rattle.event_lines.specs.declared.line_error.LineError.{LineError}
 use Rattle.event_lines.specs.declared.line_error.LineError.TheVariants.{Memory, Bad}
 use Rattle.event_lines.specs.Cut.{is_blank_line}
 use Rattle.event_lines.specs.LineResults.{line_result}
-use Rattle.event_lines.specs.InputLines.{LineFault, numbered_lines, numbered_result, all_or_first_error, lines_said_from, IsLineError}
+use Rattle.event_lines.specs.InputLines.{LineFault, numbered_lines, numbered_result, all_or_first_error, lines_said_from, both_said, IsLineError}
 
--- the one and then the other, or the first error
-abbrev pub and_then : Result (List Line) LineFault → Result (List Line) LineFault → Result (List Line) LineFault
-and_then (Ok xs) (Ok ys) = Ok (xs ++ ys)
-and_then (Ok xs) (Err e) = Err e
-and_then (Err e) r = Err e
-
-and_then-nil : (r : Result (List Line) LineFault) → and_then (Ok []) r ≡ r
-and_then-nil (Ok xs) = refl
-and_then-nil (Err e) = refl
+pub both_said-nil : (r : Result (List Line) LineFault) → both_said (Ok []) r ≡ r
+both_said-nil (Ok xs) = refl
+both_said-nil (Err e) = refl
 
 module _ (said : ℕ × List ℕ → Result Line LineFault) where
   abbrev all_from : ℕ → List (List ℕ) → Result (List Line) LineFault
   all_from n lines = all_or_first_error (map said (numbered_lines n lines))
 
-  all_from-cons : (n : ℕ) (line : List ℕ) (lines : List (List ℕ)) → all_from n (line ∷ lines) ≡ and_then (all_from n (line ∷ [])) (all_from (n + 1) lines)
+  all_from-cons : (n : ℕ) (line : List ℕ) (lines : List (List ℕ)) → all_from n (line ∷ lines) ≡ both_said (all_from n (line ∷ [])) (all_from (n + 1) lines)
   all_from-cons n line lines = by (is_blank_line line) (said (n, line)) (all_from (n + 1) lines) refl refl refl
     where
       by : (b : Bool) (one : Result Line LineFault) (rest : Result (List Line) LineFault) → is_blank_line line ≡ b → said (n, line) ≡ one → all_from (n + 1) lines ≡ rest
-          → all_from n (line ∷ lines) ≡ and_then (all_from n (line ∷ [])) (all_from (n + 1) lines)
-      by true one rest e f g = rw e (sym (and_then-nil (all_from (n + 1) lines)))
+          → all_from n (line ∷ lines) ≡ both_said (all_from n (line ∷ [])) (all_from (n + 1) lines)
+      by true one rest e f g = rw e (sym (both_said-nil (all_from (n + 1) lines)))
       by false (Err why) rest e f g = rw (e, f) refl
       by false (Ok x) (Ok xs) e f g = rw (e, f, g) refl
       by false (Ok x) (Err why) e f g = rw (e, f, g) refl
 
 -- the first line and then the others
-pub lines_said_from-cons : (n : ℕ) (line : List ℕ) (lines : List (List ℕ)) → lines_said_from n (line ∷ lines) ≡ and_then (lines_said_from n (line ∷ [])) (lines_said_from (n + 1) lines)
+pub lines_said_from-cons : (n : ℕ) (line : List ℕ) (lines : List (List ℕ)) → lines_said_from n (line ∷ lines) ≡ both_said (lines_said_from n (line ∷ [])) (lines_said_from (n + 1) lines)
 lines_said_from-cons n line lines = all_from-cons numbered_result n line lines
 
 -- a good line, or the fault of a bad one
@@ -54,22 +48,22 @@ lines_said_from-one n line = by (is_blank_line line) (line_result n line) refl r
     by false (Ok x) e f = rw (e, f) refl
     by false (Err why) e f = rw (e, f) refl
 
-joins : (a b : Result (List Line) LineFault) (old new : List Line) → IsOkAnd a (λ said. new ≡ old ++ said) → and_then (Ok old) (and_then a b) ≡ and_then (Ok new) b
+joins : (a b : Result (List Line) LineFault) (old new : List Line) → IsOkAnd a (λ said. new ≡ old ++ said) → both_said (Ok old) (both_said a b) ≡ both_said (Ok new) b
 joins (Ok xs) (Ok ys) old new h = ap Ok (sym (append_assoc old xs ys) ∙ ap (λ zs. zs ++ ys) (sym h))
 joins (Ok xs) (Err e) old new h = refl
 joins (Err e) b old new h = absurd h
 
-tells : (a b r : Result (List Line) LineFault) (old : List Line) (e : LineError) → IsLineError a e → and_then (Ok old) (and_then a b) ≡ r → IsLineError r e
+tells : (a b r : Result (List Line) LineFault) (old : List Line) (e : LineError) → IsLineError a e → both_said (Ok old) (both_said a b) ≡ r → IsLineError r e
 tells a b r old Memory h k = tt
-tells a b r old (Bad n why) h k = sym k ∙ ap (λ x. and_then (Ok old) (and_then x b)) h
+tells a b r old (Bad n why) h k = sym k ∙ ap (λ x. both_said (Ok old) (both_said x b)) h
 
 module _ (n : ℕ) (line : List ℕ) (lines parts : List (List ℕ)) (old : List Line) (all : Result (List Line) LineFault) (cut : parts ≡ line ∷ lines)
-    (told : and_then (Ok old) (lines_said_from n parts) ≡ all) where
-  by_first : and_then (Ok old) (and_then (lines_said_from n (line ∷ [])) (lines_said_from (n + 1) lines)) ≡ all
-  by_first = ap (and_then (Ok old)) (sym (lines_said_from-cons n line lines)) ∙ ap (λ ls. and_then (Ok old) (lines_said_from n ls)) (sym cut) ∙ told
+    (told : both_said (Ok old) (lines_said_from n parts) ≡ all) where
+  by_first : both_said (Ok old) (both_said (lines_said_from n (line ∷ [])) (lines_said_from (n + 1) lines)) ≡ all
+  by_first = ap (both_said (Ok old)) (sym (lines_said_from-cons n line lines)) ∙ ap (λ ls. both_said (Ok old) (lines_said_from n ls)) (sym cut) ∙ told
 
   -- what the first line says was added to the lines so far
-  pub first_added : (new : List Line) → IsOkAnd (lines_said_from n (line ∷ [])) (λ said. new ≡ old ++ said) → and_then (Ok new) (lines_said_from (n + 1) lines) ≡ all
+  pub first_added : (new : List Line) → IsOkAnd (lines_said_from n (line ∷ [])) (λ said. new ≡ old ++ said) → both_said (Ok new) (lines_said_from (n + 1) lines) ≡ all
   first_added new added = sym (joins (lines_said_from n (line ∷ [])) (lines_said_from (n + 1) lines) old new added) ∙ by_first
 
   -- the first line is bad, so it is the first bad line of all

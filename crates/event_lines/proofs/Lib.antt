@@ -8,6 +8,8 @@ pub mod GoodLineLemmas
 pub mod InputLineLemmas
 pub mod JsonValueLemmas
 pub mod LineRowLemmas
+pub mod PieceLemmas
+pub mod ReadingLemmas
 pub mod RiseLemmas
 pub mod TableLemmas
 pub mod TotalLemmas

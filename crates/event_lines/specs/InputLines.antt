@@ -1,5 +1,5 @@
 -- What an input says: its lines, or its first bad line.
-use Rattle.std.specs.Prelude.{ℕ, ◌≡◌, List, [], ◌∷◌, map, filter, not, ⊤}
+use Rattle.std.specs.Prelude.{ℕ, ◌≡◌, List, [], ◌∷◌, ◌++◌, map, filter, not, ⊤}
 use Rattle.std.specs.Prelude.{Result, Ok, Err}
 use Rattle.std.specs.List.{enumerate_from}
 use Rattle.std.specs.Result.{result_map_both}
@@ -35,6 +35,13 @@ all_or_first_error (Err e ∷ results) = Err e
 -- what lines say that are numbered from n on
 abbrev pub lines_said_from : ℕ → List (List ℕ) → Result (List Line) LineFault
 lines_said_from n lines = all_or_first_error (map numbered_result (numbered_lines n lines))
+
+-- what the first part of an input says and then what the second says, or the first bad line
+abbrev pub both_said : Result (List Line) LineFault → Result (List Line) LineFault
+    → Result (List Line) LineFault
+both_said (Ok lines) (Ok more) = Ok (lines ++ more)
+both_said (Ok lines) (Err fault) = Err fault
+both_said (Err fault) more = Err fault
 
 -- what the bytes of an input say: its lines, or the first bad one
 abbrev pub lines_said : List ℕ → Result (List Line) LineFault

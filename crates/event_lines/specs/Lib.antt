@@ -3,6 +3,7 @@ pub mod Cut
 pub mod EventFaults
 pub mod GoodLines
 pub mod InputLines
+pub mod LineParts
 pub mod LineResults
 pub mod Members
 pub mod Reasons

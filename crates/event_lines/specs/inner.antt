@@ -2,3 +2,4 @@
 pub mod Fields
 pub mod FlatObjects
 pub mod Gathered
+pub mod Readings

@@ -1,13 +1,13 @@
-ghost use Rattle.std.specs.Prelude.{◌≡◌, ◌≤◌, ◌<◌, ◌+◌, ◌∷◌, [], ◌++◌, All, length, vec_len};
+ghost use Rattle.std.specs.Prelude.{◌≡◌, ◌≤◌, ◌<◌, ◌+◌, ◌^◌, ◌∷◌, [], ◌++◌, length};
 ghost use Rattle.std.specs.Prelude.{Ok, IfOk, IfErr, OnOk, IsOkAnd};
 ghost use Rattle.std.specs.List.{position_or_len};
-ghost use Rattle.event_lines.specs.Cut.{is_line_feed};
-ghost use Rattle.event_lines.specs.GoodLines.{IsLimited, IsTimely, NumbersRise};
-ghost use Rattle.event_lines.specs.InputLines.{lines_said, lines_said_from, IsLineError};
+ghost use Rattle.event_lines.specs.Cut.{input_lines, is_line_feed};
+ghost use Rattle.event_lines.specs.InputLines.{lines_said_from, IsLineError};
+ghost use Rattle.event_lines.specs.inner.Readings.{IsReading};
 
 use crate::blank_lines::is_blank_line;
 use crate::line_reading::read_line;
-use crate::{Line, LineError};
+use crate::{Line, LineError, LineParts};
 use json::Scratch;
 use memchr::memchr;
 use std::alloc::Global;
@@ -34,7 +34,6 @@ fn add_line(
 ) -> Result<(), LineError>
     ensures ok { OnOk result (IsOkAnd (lines_said_from number (line.now ∷ []))
         (λ said. lines.new.items ≡ lines.old.items ++ said)) }
-    ensures one { OnOk result (vec_len lines.new ≤ vec_len lines.old + 1) }
     ensures err { IfErr result (IsLineError (lines_said_from number (line.now ∷ []))) }
 {
     if is_blank_line(line) {
@@ -46,25 +45,22 @@ fn add_line(
     }
 }
 
-/// Reads the lines of an input: one entry for each line that is not blank, in order.
-///
-/// An input has fewer than 2^32 - 1 bytes, so that the number of each line fits 32 bits.
+/// Reads the lines of bytes one after another, numbered from this one on: one entry for each line
+/// that is not blank.
 ///
 /// The errors are `Memory`, and `Bad` with the number of the first bad line and the first reason
 /// that holds of it.
-pub fn read_lines(alloc: Global, bytes: &[u8]) -> Result<Vec<Line>, LineError>
-    requires { length bytes.now < u32.MAX }
-    ensures lines_read { IfOk result (λ v. lines_said bytes.now ≡ Ok v.items) }
-    ensures first_bad { IfErr result (IsLineError (lines_said bytes.now)) }
-    ensures rising { IfOk result (λ v. NumbersRise v.items) }
-    ensures timely { IfOk result (λ v. All IsTimely v.items) }
-    ensures limited { IfOk result (λ v. All IsLimited v.items) }
-    ensures few { IfOk result (λ v. length v.items ≤ length bytes.now + 1) }
+fn read_in_turn(alloc: Global, first: u32, bytes: &[u8]) -> Result<Vec<Line>, LineError>
+    requires { first + length bytes.now < 2 ^ 32 }
+    ensures lines_read { IfOk result (λ v.
+        lines_said_from first (input_lines bytes.now) ≡ Ok v.items) }
+    ensures first_bad { IfErr result
+        (IsLineError (lines_said_from first (input_lines bytes.now))) }
 {
     let mut lines = Vec::new(alloc);
     let mut scratch = Scratch::new(alloc);
     let mut start = 0;
-    let mut number = 1u32;
+    let mut number = first;
     'lines: loop {
         let end = start + line_end(&bytes[start..]);
         add_line(alloc, number, &bytes[start..end], &mut scratch, &mut lines)?;
@@ -74,4 +70,13 @@ pub fn read_lines(alloc: Global, bytes: &[u8]) -> Result<Vec<Line>, LineError>
         number += 1;
         start = end + 1;
     }
+}
+
+/// Reads the lines of one piece of an input, numbered from this one on.
+pub(crate) fn read_piece(alloc: Global, first: u32, bytes: &[u8]) -> Result<LineParts, LineError>
+    requires { first + length bytes.now < 2 ^ 32 }
+    ensures { IsReading (lines_said_from first (input_lines bytes.now)) result }
+{
+    let lines = read_in_turn(alloc, first, bytes)?;
+    Ok(LineParts::of(alloc, lines)?)
 }

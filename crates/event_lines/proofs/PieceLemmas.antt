@@ -1,0 +1,67 @@
+-- An input in pieces: bytes that are cut at a line feed, and what each piece says.
+use Rattle.std.proofs.Common.{◌≡◌, ℕ, ◌+◌, ◌<◌, List, [], ◌∷◌, ◌++◌, length, Bool, true, false, Result, Ok, Err, arith, refl, sym, ap, subst, ◌∙◌, append_assoc}
+use Rattle.std.specs.List.{slice_split, onto_first}
+use Rattle.std.proofs.lemmas.List.Splits.{slice_split-cons_yes, slice_split-cons_no, length-slice_split}
+use Rattle.memchr.specs.Find.{is_byte, places}
+use Rattle.memchr.proofs.lemmas.CallerLemmas.{length-places}
+use Rattle.event_lines.specs.declared.line.Line.{Line}
+use Rattle.event_lines.specs.declared.line_error.LineError.{LineError}
+use Rattle.event_lines.specs.Cut.{is_line_feed, input_lines}
+use Rattle.event_lines.specs.InputLines.{LineFault, both_said, lines_said_from}
+use Rattle.event_lines.specs.inner.Readings.{IsReading}
+use Rattle.event_lines.proofs.InputLineLemmas.{both_said-nil, lines_said_from-cons}
+
+-- ---- bytes that are cut at a line feed
+
+onto_first-append : {X : Type 0} (x : X) (ps qs : List (List X)) → 0 < length ps → onto_first x (ps ++ qs) ≡ onto_first x ps ++ qs
+onto_first-append x [] qs some = absurd (omega arith)
+onto_first-append x (p ∷ ps) qs some = refl
+
+slice_split-append : {X : Type 0} (p : X → Bool) (xs : List X) (y : X) (ys : List X) → p y ≡ true → slice_split p (xs ++ y ∷ ys) ≡ slice_split p xs ++ slice_split p ys
+slice_split-append p [] y ys is = slice_split-cons_yes p y ys is
+slice_split-append p (x ∷ xs) y ys is = by (p x) refl (slice_split-append p xs y ys is)
+  where
+    by : (b : Bool) → p x ≡ b → slice_split p (xs ++ y ∷ ys) ≡ slice_split p xs ++ slice_split p ys → slice_split p ((x ∷ xs) ++ y ∷ ys) ≡ slice_split p (x ∷ xs) ++ slice_split p ys
+    by true e rest = slice_split-cons_yes p x (xs ++ y ∷ ys) e ∙ ap (λ ps. [] ∷ ps) rest ∙ sym (ap (λ ps. ps ++ slice_split p ys) (slice_split-cons_yes p x xs e))
+    by false e rest =
+        slice_split-cons_no p x (xs ++ y ∷ ys) e ∙ ap (onto_first x) rest ∙ onto_first-append x (slice_split p xs) (slice_split p ys) (omega (arith, length-slice_split p xs))
+        ∙ sym (ap (λ ps. ps ++ slice_split p ys) (slice_split-cons_no p x xs e))
+
+pub input_lines-cut : (front back : List ℕ) → input_lines (front ++ 10 ∷ back) ≡ input_lines front ++ input_lines back
+input_lines-cut front back = slice_split-append is_line_feed front 10 back refl
+
+pub lines_counted : (bytes : List ℕ) → length (places (is_byte 10) bytes) + 1 ≡ length (input_lines bytes)
+lines_counted bytes = ap (λ n. n + 1) (length-places (is_byte 10) bytes) ∙ sym (length-slice_split is_line_feed bytes)
+
+-- ---- what a front says and then what the back after it says
+
+both_said-assoc : (a b c : Result (List Line) LineFault) → both_said a (both_said b c) ≡ both_said (both_said a b) c
+both_said-assoc (Ok xs) (Ok ys) (Ok zs) = ap Ok (sym (append_assoc xs ys zs))
+both_said-assoc (Ok xs) (Ok ys) (Err e) = refl
+both_said-assoc (Ok xs) (Err e) c = refl
+both_said-assoc (Err e) b c = refl
+
+lines_said_from-append : (n : ℕ) (xs ys : List (List ℕ)) → lines_said_from n (xs ++ ys) ≡ both_said (lines_said_from n xs) (lines_said_from (n + length xs) ys)
+lines_said_from-append n [] ys =
+    let same : n ≡ n + 0 = omega arith in
+    sym (both_said-nil (lines_said_from n ys)) ∙ ap (λ k. both_said (Ok []) (lines_said_from k ys)) same
+lines_said_from-append n (x ∷ xs) ys =
+    let same : n + 1 + length xs ≡ n + length (x ∷ xs) = omega arith in
+    lines_said_from-cons n x (xs ++ ys)
+    ∙ ap (both_said (lines_said_from n (x ∷ []))) (lines_said_from-append (n + 1) xs ys)
+    ∙ both_said-assoc (lines_said_from n (x ∷ [])) (lines_said_from (n + 1) xs) (lines_said_from (n + 1 + length xs) ys)
+    ∙ ap (λ said. both_said said (lines_said_from (n + 1 + length xs) ys)) (sym (lines_said_from-cons n x xs))
+    ∙ ap (λ k. both_said (lines_said_from n (x ∷ xs)) (lines_said_from k ys)) same
+
+-- two pieces say what the whole says
+pub both_pieces : (n : ℕ) (front back : List ℕ) → lines_said_from n (input_lines (front ++ 10 ∷ back))
+    ≡ both_said (lines_said_from n (input_lines front)) (lines_said_from (n + length (input_lines front)) (input_lines back))
+both_pieces n front back = ap (lines_said_from n) (input_lines-cut front back) ∙ lines_said_from-append n (input_lines front) (input_lines back)
+
+-- a reading of two pieces of bytes is one of the bytes
+pub pieces_read : (n next : ℕ) (bytes front back : List ℕ) (r : Result (List Line) LineError) → bytes ≡ front ++ 10 ∷ back → next ≡ n + length (input_lines front)
+    → IsReading (both_said (lines_said_from n (input_lines front)) (lines_said_from next (input_lines back))) r → IsReading (lines_said_from n (input_lines bytes)) r
+pieces_read n next bytes front back r cut is reading =
+    let whole : lines_said_from n (input_lines bytes) ≡ both_said (lines_said_from n (input_lines front)) (lines_said_from next (input_lines back)) =
+    rw (cut, is) (both_pieces n front back) in
+    subst (λ said. IsReading said r) (sym whole) reading

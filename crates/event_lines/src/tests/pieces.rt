@@ -1,0 +1,134 @@
+ghost use Rattle.std.specs.Prelude.{◌<◌};
+
+use crate::input_reading::read_shared;
+use crate::{Line, LineError, read_lines};
+use std::alloc::{AllocError, Global};
+use std::test::Fail;
+use std::thread::Threads;
+
+/// Inputs, and what they say: the numbers of their lines, each with the name of its event or its
+/// command, or the number of the first bad line with its reason.
+const INPUTS: [(&str, &str); 11] = [
+    ("", ""),
+    ("\n\r\n \n\t\n", ""),
+    (r#"{"do":"add"}"#, "1 Add"),
+    (r#"{"do":"stop"}"#, "1 unknown command"),
+    (
+        "{\"do\":\"add\"}\n\n \t\r\n\n\n{\"do\":\"model\"}\n",
+        "1 Add,6 Model",
+    ),
+    (
+        "{\"do\":\"watch\",\"every\":2}\n\n\
+            {\"request\":\"r\",\"machine\":\"m\",\"task\":\"t\",\"event\":\"x@d\",\"time\":3}\n\
+            \t\r\n{\"do\":\"add\"}\r\n{\"do\":\"model\"}",
+        "1 Watch { every: 2 },3 x@d,5 Add,6 Model",
+    ),
+    (
+        "\n \t\r\n{\"request\":\"r\",\"machine\":\"m\",\"task\":\"t\",\"event\":\"s\",\"time\":7}\r\n\
+            \n[]\n{}\n",
+        "5 not a JSON object",
+    ),
+    (
+        "{\"do\":\"add\"}\n{\"do\":\"add\"}\n\n{\"do\":\"stop\"}\n{\"do\":\"add\"}",
+        "4 unknown command",
+    ),
+    (
+        "{\"do\":\"add\"}\n{\"do\":\"stop\"}\n{\"do\":\"add\"}\n\n[]\n{}\n",
+        "2 unknown command",
+    ),
+    (
+        "{\"do\":\"add\"}\n{\"do\":\n\"add\"}\n",
+        "2 not a JSON object",
+    ),
+    (
+        "{\"do\":\"add\"}\n{\"do\":\"graph\"}\n{\"do\":\"paths\"}\n{\"do\":\"slack\"}\n{\"do\":\"model\"}",
+        "1 Add,2 Graph,3 Paths,4 Slack,5 Model",
+    ),
+];
+
+/// Prints the number of a line with the name of its event or its command.
+fn print_line(alloc: Global, line: &Line) -> Result<String, AllocError> {
+    let number = line.number();
+    match line {
+        Line::Event { event } => format!(in alloc; "{number} {}", event.event.as_str()),
+        Line::Control { command, .. } => format!(in alloc; "{number} {command:?}"),
+    }
+}
+
+/// Prints what a short input says that so many workers share in pieces of about this length or
+/// more.
+fn print_shared<R: Threads + Sync>(
+    rt: &R,
+    alloc: Global,
+    bytes: &[u8],
+    workers: u32,
+    least: usize,
+) -> Result<String, AllocError>
+    requires { 0 < least }
+{
+    if bytes.len() > 1000 {
+        return Err(AllocError);
+    }
+    let mut printed = Vec::new(alloc);
+    match read_shared(rt, alloc, bytes, workers, least) {
+        Err(LineError::Memory) => return Err(AllocError),
+        Err(LineError::Bad { line, why }) => {
+            printed.push(format!(in alloc; "{line} {}", why.as_str())?)?;
+        }
+        Ok(lines) => {
+            for part in lines.into_parts() {
+                for line in &part {
+                    printed.push(print_line(alloc, line)?)?;
+                }
+            }
+        }
+    }
+    printed.join(alloc, ",")
+}
+
+#[test]
+fn an_input_says_the_same_in_any_number_of_pieces(rt: HostRuntime) -> Result<(), Fail> {
+    for (input, said) in INPUTS {
+        for workers in [1, 2, 3, 64] {
+            for least in [1, 9, 30] {
+                let printed = print_shared(&rt, rt.alloc(), input.as_bytes(), workers, least)?;
+                assert_eq!(rt; printed.as_str(), said, "{workers} workers, {least} bytes");
+            }
+        }
+    }
+    Ok(())
+}
+
+/// Counts the parts of the lines of an input that so many workers read.
+fn count_parts<R: Threads + Sync>(
+    rt: &R,
+    alloc: Global,
+    bytes: &[u8],
+    workers: u32,
+) -> Option<usize> {
+    if bytes.len() > 1_000_000 {
+        return None;
+    }
+    let lines = read_lines(rt, alloc, bytes, workers).ok()?;
+    Some(lines.into_parts().len())
+}
+
+#[test]
+fn a_long_input_is_read_in_a_piece_for_each_worker(rt: HostRuntime) -> Result<(), Fail> {
+    let blanks = " ".repeat(rt.alloc(), 99)?;
+    let line = format!(in rt.alloc(); "{blanks}\n")?;
+    for (lines, workers, parts) in [
+        (1310, 64, 1),
+        (1311, 64, 2),
+        (2000, 0, 1),
+        (2000, 1, 1),
+        (2000, 2, 2),
+        (2000, 3, 3),
+        (2000, 64, 3),
+    ] {
+        let input = line.repeat(rt.alloc(), lines)?;
+        let counted = count_parts(&rt, rt.alloc(), input.as_str().as_bytes(), workers);
+        assert_eq!(rt; counted, Some(parts), "{lines} lines, {workers} workers");
+    }
+    Ok(())
+}
