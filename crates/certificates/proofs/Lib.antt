@@ -1,0 +1,4 @@
+pub mod ClaimLemmas
+pub mod CuttingLemmas
+pub mod FieldLemmas
+pub mod TextLemmas

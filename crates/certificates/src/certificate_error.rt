@@ -1,0 +1,37 @@
+use std::alloc::{AllocError, AllocFailed};
+
+/// Why a certificate was not read.
+#[derive(Clone, Copy, Debug, PartialEq, Eq)]
+pub enum CertificateError {
+    /// Out of memory.
+    Memory,
+    /// The certificate has a line that is outside the form: the first one.
+    Bad {
+        /// Its number, from 1 over the whole certificate.
+        line: u32,
+    },
+}
+
+impl From<AllocError> for CertificateError {
+    ghost use Rattle.std.specs.Prelude.{◌≡◌};
+    ghost use Rattle.certificates.specs.declared.certificate_error.CertificateError.TheVariants.{Memory};
+
+    ghost from_gives = { λ _ e. e ≡ Memory };
+
+    /// Gives the error of a call that is out of memory.
+    fn from(_: AllocError) -> Self {
+        CertificateError::Memory
+    }
+}
+
+impl<T: Drop> From<AllocFailed<T>> for CertificateError {
+    ghost use Rattle.std.specs.Prelude.{◌≡◌};
+    ghost use Rattle.certificates.specs.declared.certificate_error.CertificateError.TheVariants.{Memory};
+
+    ghost from_gives = { λ _ e. e ≡ Memory };
+
+    /// Gives the error of a call that is out of memory.
+    fn from(_: AllocFailed<T>) -> Self {
+        CertificateError::Memory
+    }
+}
