@@ -2,5 +2,8 @@ pub mod NameLemmas
 pub mod ElementLemmas
 pub mod OrderLemmas
 pub mod DayLemmas
+pub mod TableLemmas
+pub mod FirstLemmas
+pub mod ShownLemmas
 pub mod TestLemmas
 pub mod PairLemmas

@@ -1,2 +1,4 @@
 pub mod Findings
+pub mod FirstRefuters
+pub mod ShownClaims
 pub mod inner

@@ -1,15 +1,20 @@
-ghost use Rattle.std.specs.Prelude.{◌≡◌, ◌≢◌, ◌+◌, ◌<◌, ◌≤◌, ◌≤ℤ◌, pos, ◌∷◌, [], None, Some, IfOk, length};
+ghost use Rattle.std.specs.Prelude.{◌≡◌, ◌≢◌, ◌+◌, ◌<◌, ◌≤◌, ◌≤ℤ◌, pos, ◌∷◌, []};
+ghost use Rattle.std.specs.Prelude.{None, Some, IfOk, length};
 ghost use Rattle.day_partitions.specs.Books.{IsSheetOf};
 ghost use Rattle.refute_tests.specs.Clearing.{HaveNamesBelow};
 
-use crate::{Finding, find, refutes};
+use crate::{Finding, FirstRefuters, find, find_all, refutes, shown};
+use certificates::{Claim, Matter};
 use day_partitions::DayBook;
 use hypothesis_index::Relation;
 use pipeline_tests::DaySheet;
+use segment_names::Catalogue;
 use std::alloc::{AllocError, Global};
 use std::process::Abort;
 use std::test::Fail;
-use trace_types::{NamedSegment, NamedSegmentList, NamedTrace, Text};
+use trace_types::{
+    NameText, NamedSegment, NamedSegmentList, NamedTrace, Segment, SegmentList, Text, Trace,
+};
 
 /// The relations between the names 0 and 1.
 const NAMES: [Relation; 4] = [
@@ -52,6 +57,7 @@ fn lone(name: u32, start: i64, end: i64) -> NamedSegment
 /// A trace of the day with two such segments.
 fn pair(
     alloc: Global,
+    request: &str,
     day: u32,
     first: NamedSegment,
     second: NamedSegment,
@@ -65,7 +71,7 @@ fn pair(
     ensures day { IfOk result (λ t. t.day ≡ day) }
     ensures segments { IfOk result (λ t. t.segments ≡ first ∷ second ∷ []) }
 {
-    let request = Text::new(alloc, "r1")?;
+    let request = Text::new(alloc, request)?;
     let segments = Vec::from_array(alloc, [first, second])?;
     Ok(NamedTrace {
         request,
@@ -81,19 +87,19 @@ fn times_refute_relations_of_names(rt: HostRuntime) -> Result<(), Fail> {
     let alloc = rt.alloc();
     let rows = [
         (
-            pair(alloc, 0, lone(0, 0, 10), lone(1, 10, 30), 0)?,
+            pair(alloc, "r1", 0, lone(0, 0, 10), lone(1, 10, 30), 0)?,
             [false, true, false, true],
         ),
         (
-            pair(alloc, 0, lone(1, 0, 5), lone(0, 5, 9), 0)?,
+            pair(alloc, "r1", 0, lone(1, 0, 5), lone(0, 5, 9), 0)?,
             [true, false, false, true],
         ),
         (
-            pair(alloc, 0, lone(0, 0, 10), lone(1, 9, 20), 0)?,
+            pair(alloc, "r1", 0, lone(0, 0, 10), lone(1, 9, 20), 0)?,
             [true, true, true, true],
         ),
         (
-            pair(alloc, 0, lone(0, 0, 10), lone(1, 9, 20), 1)?,
+            pair(alloc, "r1", 0, lone(0, 0, 10), lone(1, 9, 20), 1)?,
             [false, true, false, true],
         ),
     ];
@@ -190,7 +196,7 @@ fn two(alloc: Global, day: u32, start: i64) -> Result<NamedTrace, AllocError>
     ensures day { IfOk result (λ t. t.day ≡ day) }
     ensures named { IfOk result (HaveNamesBelow 2) }
 {
-    pair(alloc, day, lone(0, 0, 10), lone(1, start, 30), 0)
+    pair(alloc, "r1", day, lone(0, 0, 10), lone(1, start, 30), 0)
 }
 
 /// The sheet of one trace of two names.
@@ -216,17 +222,25 @@ fn keep(rt: &impl Abort, book: &mut DayBook, day: u32, sheet: DaySheet)
     };
 }
 
+/// A book of the days 3 and 5, in whose traces name 0 is from 0 to 10 and name 1 starts then or
+/// before.
+fn two_days(rt: &impl Abort, alloc: Global) -> Result<DayBook, AllocError> {
+    let mut book = DayBook::new(alloc, 2)?;
+    'starts: for start in [10, 9, 9] {
+        let sheet = sheet_of(alloc, two(alloc, 5, start)?)?;
+        keep(rt, &mut book, 5, sheet);
+    }
+    let sheet = sheet_of(alloc, two(alloc, 3, 10)?)?;
+    keep(rt, &mut book, 3, sheet);
+    Ok(book)
+}
+
 #[test]
 fn the_first_refuter_is_found_by_day_and_index(rt: HostRuntime) -> Result<(), Fail> {
     let alloc = rt.alloc();
-    let mut book = DayBook::new(alloc, 2)?;
-    assert!(rt; find(&book, NAMES[3]) == None);
-    'starts: for start in [10, 9, 9] {
-        let sheet = sheet_of(alloc, two(alloc, 5, start)?)?;
-        keep(&rt, &mut book, 5, sheet);
-    }
-    let sheet = sheet_of(alloc, two(alloc, 3, 10)?)?;
-    keep(&rt, &mut book, 3, sheet);
+    let empty = DayBook::new(alloc, 2)?;
+    assert!(rt; find(&empty, NAMES[3]) == None);
+    let book = two_days(&rt, alloc)?;
     let second = Some(Finding { place: 1, index: 1 });
     assert!(rt; find(&book, NAMES[0]) == second);
     assert!(rt; find(&book, NAMES[1]) == Some(Finding { place: 0, index: 0 }));
@@ -234,5 +248,224 @@ fn the_first_refuter_is_found_by_day_and_index(rt: HostRuntime) -> Result<(), Fa
     for relation in &TASKS {
         assert!(rt; find(&book, *relation) == None);
     }
+    Ok(())
+}
+
+/// Tells whether the first refuters among all of the ordered pair, as names and as tasks, are those
+/// that are found alone.
+fn agrees_on(book: &DayBook, all: &FirstRefuters, one: u32, other: u32) -> bool
+    requires differ { one ≢ other }
+    requires one { one < 64 }
+    requires other { other < 64 }
+{
+    let before = Relation::Before {
+        first: one,
+        second: other,
+    };
+    let pipe = Relation::Pipe {
+        from: one,
+        to: other,
+    };
+    all.find(before) == find(book, before) && all.find(pipe) == find(book, pipe)
+}
+
+/// Tells whether they are those of the pair where its order does not matter.
+fn agrees_on_pair(book: &DayBook, all: &FirstRefuters, low: u32, high: u32) -> bool
+    requires rises { low < high }
+    requires high { high < 64 }
+{
+    let exclusive = Relation::Exclusive { low, high };
+    let apart = Relation::Apart { low, high };
+    let unshared = Relation::Unshared { low, high };
+    all.find(exclusive) == find(book, exclusive)
+        && all.find(apart) == find(book, apart)
+        && all.find(unshared) == find(book, unshared)
+}
+
+#[test]
+fn first_refuters_among_all_are_those_found_alone(rt: HostRuntime) -> Result<(), Fail> {
+    let alloc = rt.alloc();
+    let book = two_days(&rt, alloc)?;
+    let all = find_all(alloc, &book)?;
+    assert!(rt; agrees_on(&book, &all, 0, 1));
+    assert!(rt; agrees_on(&book, &all, 1, 0));
+    assert!(rt; agrees_on_pair(&book, &all, 0, 1));
+    Ok(())
+}
+
+/// A trace of day 5 with a segment of each of the names 0 and 1.
+fn request(
+    alloc: Global,
+    request: &str,
+    first: NamedSegment,
+    second: NamedSegment,
+) -> Result<NamedTrace, AllocError>
+    requires names { first.name ≢ second.name }
+    requires tasks { first.task ≢ second.task }
+    requires one { first.element ≡ None }
+    requires other { second.element ≡ None }
+    requires low { first.name < 2 }
+    requires high { second.name < 2 }
+    ensures day { IfOk result (λ t. t.day ≡ 5) }
+    ensures named { IfOk result (HaveNamesBelow 2) }
+{
+    pair(alloc, request, 5, first, second, 0)
+}
+
+/// A book of day 5 with two traces: in r1 name 1 starts when name 0 ends, and in r2 name 0 when
+/// name 1 ends.
+fn two_requests(rt: &impl Abort, alloc: Global) -> Result<DayBook, AllocError>
+    ensures { IfOk result (λ b. b.names ≡ 2) }
+{
+    let mut book = DayBook::new(alloc, 2)?;
+    let trace = request(alloc, "r1", lone(0, 0, 10), lone(1, 10, 30))?;
+    keep(rt, &mut book, 5, sheet_of(alloc, trace)?);
+    let trace = request(alloc, "r2", lone(1, 0, 5), lone(0, 5, 9))?;
+    keep(rt, &mut book, 5, sheet_of(alloc, trace)?);
+    Ok(book)
+}
+
+/// The same book with r3, in which name 1 starts before name 0 ends.
+fn three_requests(rt: &impl Abort, alloc: Global) -> Result<DayBook, AllocError> {
+    let mut book = two_requests(rt, alloc)?;
+    let trace = request(alloc, "r3", lone(0, 0, 10), lone(1, 9, 20))?;
+    keep(rt, &mut book, 5, sheet_of(alloc, trace)?);
+    Ok(book)
+}
+
+#[test]
+fn the_first_refuter_of_each_relation_is_noted(rt: HostRuntime) -> Result<(), Fail> {
+    let alloc = rt.alloc();
+    let second = Some(Finding { place: 0, index: 1 });
+    let all = find_all(alloc, &two_requests(&rt, alloc)?)?;
+    assert!(rt;
+        all.find(Relation::Before {
+            first: 0,
+            second: 1
+        }) == second
+    );
+    assert!(rt;
+        all.find(Relation::Before {
+            first: 1,
+            second: 0
+        }) == Some(Finding { place: 0, index: 0 })
+    );
+    assert!(rt; all.find(Relation::Exclusive { low: 0, high: 1 }) == None);
+    let all = find_all(alloc, &three_requests(&rt, alloc)?)?;
+    assert!(rt;
+        all.find(Relation::Before {
+            first: 0,
+            second: 1
+        }) == second
+    );
+    assert!(rt;
+        all.find(Relation::Exclusive { low: 0, high: 1 }) == Some(Finding { place: 0, index: 2 })
+    );
+    Ok(())
+}
+
+/// A trace by texts of one segment of the task.
+fn single(alloc: Global, task: &str) -> Result<Trace, AllocError>
+    ensures { IfOk result (λ t. length t.segments ≡ 1) }
+{
+    let segment = Segment {
+        task: Text::new(alloc, task)?,
+        start_event: Text::new(alloc, "s")?,
+        end_event: Text::new(alloc, "e")?,
+        start: 5,
+        end: 9,
+        element: None,
+    };
+    Ok(Trace {
+        request: Text::new(alloc, "r0")?,
+        day: 3,
+        latency: 4,
+        segments: SegmentList::of(vec![in alloc; segment]?),
+    })
+}
+
+/// A catalogue of the names (a, s, e) and (b, s, e), in this order.
+fn two_names(rt: &impl Abort, alloc: Global) -> Result<Catalogue, AllocError> {
+    let mut catalogue = Catalogue::new(alloc);
+    assert!(rt; catalogue.add(alloc, &single(alloc, "a")?) == Ok(()));
+    assert!(rt; catalogue.add(alloc, &single(alloc, "b")?) == Ok(()));
+    Ok(catalogue)
+}
+
+/// The name (task, s, e).
+fn name(alloc: Global, task: &str) -> Result<NameText, AllocError> {
+    Ok(NameText {
+        task: Text::new(alloc, task)?,
+        start: Text::new(alloc, "s")?,
+        end: Text::new(alloc, "e")?,
+    })
+}
+
+/// The relation of this kind between two names, or between two tasks.
+fn matter(alloc: Global, kind: &str, first: &str, second: &str) -> Result<Matter, AllocError> {
+    if kind == "pipe" {
+        return Ok(Matter::Pipe {
+            from: Text::new(alloc, first)?,
+            to: Text::new(alloc, second)?,
+        });
+    }
+    let first = name(alloc, first)?;
+    let second = name(alloc, second)?;
+    if kind == "before" {
+        Ok(Matter::Before { first, second })
+    } else {
+        Ok(Matter::Exclusive { first, second })
+    }
+}
+
+/// Tells whether the book of r1, r2 and r3 shows a claim of this kind on two names or tasks.
+fn is_shown(
+    rt: &impl Abort,
+    alloc: Global,
+    kind: &str,
+    names: (&str, &str),
+    day: u32,
+    index: u32,
+    request: &str,
+) -> Result<bool, AllocError> {
+    let book = three_requests(rt, alloc)?;
+    let catalogue = two_names(rt, alloc)?;
+    let claim = Claim {
+        line: 2,
+        matter: matter(alloc, kind, names.0, names.1)?,
+        day,
+        index,
+        request: Text::new(alloc, request)?,
+    };
+    Ok(shown(&book, &catalogue, &claim))
+}
+
+#[test]
+fn claims_are_shown_by_the_trace_that_they_name(rt: HostRuntime) -> Result<(), Fail> {
+    let alloc = rt.alloc();
+    assert!(rt; is_shown(&rt, alloc, "before", ("a", "b"), 5, 1, "r2")?);
+    assert!(rt; is_shown(&rt, alloc, "before", ("b", "a"), 5, 0, "r1")?);
+    assert!(rt; !is_shown(&rt, alloc, "before", ("a", "b"), 5, 0, "r1")?);
+    assert!(rt; is_shown(&rt, alloc, "exclusive", ("a", "b"), 5, 2, "r3")?);
+    assert!(rt; is_shown(&rt, alloc, "exclusive", ("b", "a"), 5, 2, "r3")?);
+    assert!(rt; !is_shown(&rt, alloc, "exclusive", ("b", "a"), 5, 1, "r2")?);
+    assert!(rt; !is_shown(&rt, alloc, "pipe", ("a", "b"), 5, 2, "r3")?);
+    Ok(())
+}
+
+#[test]
+fn a_later_refuter_shows_a_claim_too(rt: HostRuntime) -> Result<(), Fail> {
+    assert!(rt; is_shown(&rt, rt.alloc(), "before", ("a", "b"), 5, 2, "r3")?);
+    Ok(())
+}
+
+#[test]
+fn claims_on_what_is_not_kept_are_not_shown(rt: HostRuntime) -> Result<(), Fail> {
+    let alloc = rt.alloc();
+    assert!(rt; !is_shown(&rt, alloc, "before", ("a", "b"), 5, 2, "r2")?);
+    assert!(rt; !is_shown(&rt, alloc, "before", ("a", "b"), 5, 3, "r3")?);
+    assert!(rt; !is_shown(&rt, alloc, "before", ("a", "b"), 6, 2, "r3")?);
+    assert!(rt; !is_shown(&rt, alloc, "before", ("a", "c"), 5, 2, "r3")?);
+    assert!(rt; !is_shown(&rt, alloc, "before", ("a", "a"), 5, 2, "r3")?);
     Ok(())
 }
