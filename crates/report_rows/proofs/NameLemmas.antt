@@ -40,7 +40,7 @@ module _ (known : Known) (traces : List NamedTrace) (kept : List Kept) (shown : 
       let x = zip_left (IsSegmentShown known) (segments_of by_number traces) (segments_of by_kept kept) shown s.0 s.1 in
       subst (λ (m : ℕ). m < length known.names) s.2 (slice_get_within known.names (number_of_name s.0) (name_of x.0) x.2.name)
 
-  module _ (names : List SegmentName) (are : texts.AreNamesOf kept names) where
+  module _ (names : List SegmentName) (are : texts.AreKeptNames kept names) where
     names_rise : AllPairs (λ (x y : SegmentName). name_cmp x y ≡ Less) (map (name_at known.names) ns)
     names_rise i j d lt inside =
         let within : j < length ns = omega (arith, length-map ns (name_at known.names)) in

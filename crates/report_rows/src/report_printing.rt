@@ -4,7 +4,7 @@ ghost use Rattle.kept_books.specs.Shown.{AreShown};
 ghost use Rattle.report_rows.specs.inner.NumberedTexts.{latency_row, report_head};
 ghost use Rattle.session_rules.specs.KeptTraces.{Kept};
 ghost use Rattle.session_rules.specs.Parts.{IsPart, LatenciesOf, ReportHead};
-ghost use Rattle.session_rules.specs.ReportTexts.{AreNamesOf, IsLatencyText, IsReportHead};
+ghost use Rattle.session_rules.specs.ReportTexts.{AreKeptNames, IsLatencyText, IsReportHead};
 ghost use Rattle.session_rules.specs.Sessions.{report_parts};
 ghost use Rattle.text_rows.specs.Printing.{print_faults};
 ghost use Rattle.text_rows.specs.TextsOfParts.{PrintsTexts};
@@ -56,7 +56,7 @@ pub fn print_report<R: Threads + Sync, S: Sink>(
 ) -> Result<(), PrintFault>
     requires names { book.now.names ≡ length catalogue.now.names }
     ensures printed { (kept : List Kept) → AreShown catalogue.now (all_traces book.now.days) kept
-        → (names : List SegmentName) → AreNamesOf kept names
+        → (names : List SegmentName) → AreKeptNames kept names
         → PrintsTexts S.written S.faults result sink.old sink.new IsPart
         (report_parts kept names) buffer.old buffer.new }
     ensures counted { S.faults sink.new ≡ print_faults result (S.faults sink.old) }

@@ -3,7 +3,7 @@ ghost use Rattle.day_partitions.specs.Books.{all_traces};
 ghost use Rattle.kept_books.specs.Shown.{AreShown};
 ghost use Rattle.session_rules.specs.KeptTraces.{Kept};
 ghost use Rattle.session_rules.specs.Parts.{IsPart};
-ghost use Rattle.session_rules.specs.ReportTexts.{AreNamesOf};
+ghost use Rattle.session_rules.specs.ReportTexts.{AreKeptNames};
 ghost use Rattle.session_rules.specs.Sessions.{tail_parts};
 ghost use Rattle.text_rows.specs.Printing.{print_faults};
 ghost use Rattle.text_rows.specs.TextsOfParts.{PrintsTexts};
@@ -34,7 +34,7 @@ pub fn print_tail<R: Threads + Sync, S: Sink>(
 ) -> Result<(), PrintFault>
     requires names { book.now.names ≡ length catalogue.now.names }
     ensures printed { (kept : List Kept) → AreShown catalogue.now (all_traces book.now.days) kept
-        → (names : List SegmentName) → AreNamesOf kept names
+        → (names : List SegmentName) → AreKeptNames kept names
         → PrintsTexts S.written S.faults result sink.old sink.new IsPart
         (tail_parts kept names) buffer.old buffer.new }
     ensures counted { S.faults sink.new ≡ print_faults result (S.faults sink.old) }

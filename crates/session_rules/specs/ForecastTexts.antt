@@ -18,8 +18,8 @@ abbrev pub time_under : NamedChange → SegmentName → ℕ → ℕ
 time_under change name time =
     if same_name change.name name then time * change.num / change.den else time
 
--- the length of a kept trace's critical path, and the greatest length of a chain of its graph if the
--- segments took the time that they have under the change
+-- the length of a kept trace's critical path, and the greatest length of a chain of its graph if
+-- the segments took the time that they have under the change
 pub record IsForecastOf (change : NamedChange) (kept : List Kept) (k : Kept) (f : Forecast) : Type 0
   where
     pub order : List ℕ

@@ -1,10 +1,12 @@
 pub mod Batches
+pub mod CertificateTexts
 pub mod ForecastTexts
 pub mod Hypotheses
 pub mod Jobs
 pub mod KeptTraces
 pub mod ModelTexts
 pub mod Parts
+pub mod Refutations
 pub mod ReportTexts
 pub mod Sessions
 pub mod TailTexts

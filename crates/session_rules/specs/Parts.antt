@@ -1,5 +1,6 @@
 -- The parts of a session's text. What a part is told over stands in it; its text is a relation.
-use Rattle.std.specs.Prelude.{◌≡◌, ℕ, List, [], ◌∷◌, codes, decimal}
+use Rattle.std.specs.Prelude.{◌≡◌, ℕ, Bool, List, [], ◌∷◌, codes, decimal}
+use Rattle.certificates.specs.declared.matter.Matter.{Matter}
 use Rattle.std.specs.List.{flat_map}
 use Rattle.segment_cut.specs.Faults.{fault_reason, fault_number}
 use Rattle.text_rows.specs.Rows.{figure, row_of}
@@ -7,6 +8,7 @@ use Rattle.trace_pass.specs.declared.watch_lines.WatchLine.{WatchLine}
 use Rattle.trace_types.specs.Segments.{SegmentName}
 use Rattle.session_rules.specs.declared.named_change.NamedChange.{NamedChange}
 use Rattle.session_rules.specs.declared.refused.Refused.{Refused}
+use Rattle.session_rules.specs.CertificateTexts.{IsRefutedText, verdict_row, why_row}
 use Rattle.session_rules.specs.ForecastTexts.{IsForecastHead, IsForecastText}
 use Rattle.session_rules.specs.KeptTraces.{Kept}
 use Rattle.session_rules.specs.ModelTexts.{IsModelHead, IsModelText}
@@ -44,6 +46,13 @@ pub data Part : Type 0 where
   -- of a forecast: the header, and the row of one of the kept traces
   ForecastHead : NamedChange → List Kept → Part
   ForecastOf : NamedChange → List Kept → Kept → Part
+  -- of a certificate: the header with the numbers of the kept traces and of the relations that they
+  -- refute, and the row of such a relation
+  WhyHead : ℕ → ℕ → Part
+  RefutedOf : List Kept → Matter → Part
+  -- of its check: whether the claim of a line is shown; how many are, and how many there are
+  Verdict : Bool → ℕ → Part
+  Verified : ℕ → ℕ → Part
 
 -- `refused`, the request, the reason and its number
 abbrev pub refused_row : Refused → List ℕ
@@ -90,3 +99,7 @@ IsPart (TailHead kept) bytes = IsTailHead kept bytes
 IsPart (TailOf kept name) bytes = IsTailText kept name bytes
 IsPart (ForecastHead change kept) bytes = IsForecastHead change kept bytes
 IsPart (ForecastOf change kept k) bytes = IsForecastText change kept k bytes
+IsPart (WhyHead traces refuted) bytes = bytes ≡ why_row traces refuted
+IsPart (RefutedOf kept matter) bytes = IsRefutedText kept matter bytes
+IsPart (Verdict verdict line) bytes = bytes ≡ verdict_row verdict line
+IsPart (Verified shown claims) bytes = bytes ≡ count_row (codes "verified") shown claims

@@ -18,8 +18,8 @@ use Rattle.trace_types.specs.Segments.{SegmentName, name_of}
 use Rattle.session_rules.specs.KeptTraces.{Kept, by_kept, latencies_of}
 
 -- exactly the names of the kept traces' segments, each once, in name order
-abbrev pub AreNamesOf : List Kept → List SegmentName → Type 0
-AreNamesOf kept names =
+abbrev pub AreKeptNames : List Kept → List SegmentName → Type 0
+AreKeptNames kept names =
     ListsExactly name_cmp (Contains (map name_of (segments_of by_kept kept))) names
 
 -- a row of a word, a name and numbers
@@ -45,9 +45,9 @@ pub record IsLatencyText (kept : List Kept) (bytes : List ℕ) : Type 0 where
   pub told : AreFigures (latencies_of kept) figures
   pub text : bytes ≡ row_of (codes "latency" ∷ map decimal (numbers_of figures))
 
--- `segment` and a name; the figures of the durations of the kept traces' segments with this name; on
--- how many of the critical paths there is one, and how long they last there together. The row's own
--- name, a number of some catalogue, is not looked at
+-- `segment` and a name; the figures of the durations of the kept traces' segments with this name;
+-- on how many of the critical paths there is one, and how long they last there together. The row's
+-- own name, a number of some catalogue, is not looked at
 pub record IsSegmentText (kept : List Kept) (name : SegmentName) (bytes : List ℕ) : Type 0 where
   pub paths : List (List Segment)
   pub critical_paths : AreCriticalPaths by_kept kept paths

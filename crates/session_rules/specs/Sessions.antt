@@ -1,7 +1,9 @@
 -- What each job does to the state of a session, and which parts it prints.
 use Rattle.std.specs.Prelude.{◌≡◌, ℕ, ◌+◌, ◌*◌, ◌<◌, List, [], ◌∷◌, ◌++◌, length, map, codes}
-use Rattle.std.specs.Prelude.{Contains}
+use Rattle.std.specs.Prelude.{Bool, Contains, filter}
+use Rattle.std.specs.List.{AllZip, zip}
 use Rattle.std.specs.Ordering.{nat_cmp}
+use Rattle.certificates.specs.declared.claim.Claim.{Claim}
 use Rattle.event_lines.specs.declared.command.Command.{Command}
 use Rattle.event_lines.specs.declared.command.Command.TheVariants as commands
 use Rattle.segment_names.specs.Known.{Known, with_traces}
@@ -16,6 +18,7 @@ use Rattle.trace_types.specs.Listing.{ListsExactly}
 use Rattle.trace_types.specs.Segments.{SegmentName}
 use Rattle.session_rules.specs.declared.job.Job.{Job}
 use Rattle.session_rules.specs.declared.job.Job.TheVariants.{Add, Control, Summary, WhatIf, Tail}
+use Rattle.session_rules.specs.declared.job.Job.TheVariants.{Why, Verify}
 use Rattle.session_rules.specs.declared.limit.Limit.{Limit}
 use Rattle.session_rules.specs.declared.limit.Limit.TheVariants.{Names, Tasks, Days}
 use Rattle.session_rules.specs.declared.named_change.NamedChange.{NamedChange}
@@ -26,8 +29,9 @@ use Rattle.session_rules.specs.KeptTraces.{with_taken, without_day}
 use Rattle.session_rules.specs.Parts.{Part, Refusals, Watched, Dropped, KeptNewest, ModelOf, Header}
 use Rattle.session_rules.specs.Parts.{PathOf, SlacksOf, GraphOf, ModelHead, ReportHead}
 use Rattle.session_rules.specs.Parts.{LatenciesOf, SegmentOf, TailHead, TailOf, ForecastHead}
-use Rattle.session_rules.specs.Parts.{ForecastOf}
-use Rattle.session_rules.specs.ReportTexts.{AreNamesOf}
+use Rattle.session_rules.specs.Parts.{ForecastOf, WhyHead, RefutedOf, Verdict, Verified}
+use Rattle.session_rules.specs.Refutations.{Refutations, AreRefutations, IsVerdict, matters_of}
+use Rattle.session_rules.specs.ReportTexts.{AreKeptNames}
 
 -- the state of a session: the kept traces, by day and within a day in the order in which they were
 -- taken; the names and tasks of all traces that were ever valid, by first sight; after how many of
@@ -103,8 +107,8 @@ pub record Adds (workers : ℕ) (events : List Event) (s : State) (parts : List 
   pub days_are : ListsExactly nat_cmp (Contains (map day_of (graced s valid))) days
   pub printed : parts ≡ Refusals refused ∷ watch_parts s.watch workers (graced s valid) days
 
--- the parts of a report on kept traces with these names: the header, the row of latencies, and a row
--- for each name
+-- the parts of a report on kept traces with these names: the header, the row of latencies, and a
+-- row for each name
 abbrev pub report_parts : List Kept → List SegmentName → List Part
 report_parts kept names = ReportHead kept ∷ LatenciesOf kept ∷ map (SegmentOf kept) names
 
@@ -119,6 +123,23 @@ forecast_parts change kept = ForecastHead change kept ∷ map (ForecastOf change
 -- the first row of the model of kept traces, and the first two of their report
 abbrev pub summary_parts : List Kept → List Part
 summary_parts kept = ModelHead kept ∷ ReportHead kept ∷ LatenciesOf kept ∷ []
+
+-- the parts of a certificate of kept traces that refute these relations: the header, and a row for
+-- each relation
+abbrev pub why_parts : List Kept → Refutations → List Part
+why_parts kept refuted =
+    WhyHead (length kept) (length (matters_of refuted))
+    ∷ map (RefutedOf kept) (matters_of refuted)
+
+-- the part of a claim with its verdict
+abbrev pub verdict_part : Claim × Bool → Part
+verdict_part p = Verdict p.1 p.0.line
+
+-- the parts of a check of claims with these verdicts: one for each claim, and how many are shown
+abbrev pub verify_parts : List Claim → List Bool → List Part
+verify_parts claims verdicts =
+    map verdict_part (zip claims verdicts)
+    ++ Verified (length (filter (λ v. v) verdicts)) (length claims) ∷ []
 
 -- a command over the state prints these parts and leaves this state; an add is a job of its own
 abbrev pub Commands : Command → State → List Part → State → Type 0
@@ -137,7 +158,7 @@ Commands commands.Paths s parts next = (next ≡ s)
 Commands commands.Slack s parts next = (next ≡ s)
     × (parts ≡ Header (codes "slack") (length s.kept) ∷ map (SlacksOf s.kept) s.kept)
 Commands commands.Report s parts next = (next ≡ s) × ((names : List SegmentName)
-    × AreNamesOf s.kept names × (parts ≡ report_parts s.kept names))
+    × AreKeptNames s.kept names × (parts ≡ report_parts s.kept names))
 Commands commands.Graph s parts next = (next ≡ s)
     × (parts ≡ Header (codes "graph") (length s.kept) ∷ map (GraphOf s.kept) s.kept)
 
@@ -148,7 +169,11 @@ Does workers (Control command) s parts next = Commands command s parts next
 Does workers Summary s parts next = (next ≡ s) × (parts ≡ summary_parts s.kept)
 Does workers (WhatIf change) s parts next = (next ≡ s) × (parts ≡ forecast_parts change s.kept)
 Does workers Tail s parts next = (next ≡ s) × ((names : List SegmentName)
-    × AreNamesOf s.kept names × (parts ≡ tail_parts s.kept names))
+    × AreKeptNames s.kept names × (parts ≡ tail_parts s.kept names))
+Does workers Why s parts next = (next ≡ s) × ((refuted : Refutations)
+    × AreRefutations s.kept refuted × (parts ≡ why_parts s.kept refuted))
+Does workers (Verify claims) s parts next = (next ≡ s) × ((verdicts : List Bool)
+    × AllZip (IsVerdict s.kept) claims verdicts × (parts ≡ verify_parts claims verdicts))
 
 -- a job passes this limit: it prints nothing
 abbrev pub Passes : Job → State → Limit → Type 0
@@ -158,6 +183,8 @@ Passes (Control command) s limit = ⊥
 Passes Summary s limit = ⊥
 Passes (WhatIf change) s limit = ⊥
 Passes Tail s limit = ⊥
+Passes Why s limit = ⊥
+Passes (Verify claims) s limit = ⊥
 
 -- jobs, one after another, print these parts and leave this state
 abbrev pub Leads : ℕ → List Job → State → List Part → State → Type 0

@@ -21,9 +21,9 @@ pub record IsTailHead (kept : List Kept) (bytes : List ℕ) : Type 0 where
       ∷ figure (codes "slow") (slow_count (length kept))
       ∷ figure (codes "floor") floor ∷ [])
 
--- `segment` and a name; on how many critical paths of slow traces there is a segment with this name,
--- and for how long together; the same of the rest. The row's own name, a number of some catalogue,
--- is not looked at
+-- `segment` and a name; on how many critical paths of slow traces there is a segment with this
+-- name, and for how long together; the same of the rest. The row's own name, a number of some
+-- catalogue, is not looked at
 pub record IsTailText (kept : List Kept) (name : SegmentName) (bytes : List ℕ) : Type 0 where
   pub paths : List (List Segment)
   pub critical_paths : AreCriticalPaths by_kept kept paths

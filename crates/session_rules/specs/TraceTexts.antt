@@ -49,8 +49,8 @@ pub record IsPathText (kept : List Kept) (k : Kept) (bytes : List ℕ) : Type 0 
   pub first : NoLongestIsBefore graph chain
   pub text : bytes ≡ path_text k order graph chain
 
--- `trace`, the trace and the length of its critical path; then a row for each vertex: `segment`, the
--- name, its duration and its slack
+-- `trace`, the trace and the length of its critical path; then a row for each vertex: `segment`,
+-- the name, its duration and its slack
 abbrev pub slack_text : Kept → List ℕ → Graph → ℕ → List ℕ → List ℕ
 slack_text k order graph longest slacks =
     trace_row (codes "trace") k (decimal longest ∷ [])

@@ -1,4 +1,5 @@
 use crate::NamedChange;
+use certificates::ClaimList;
 use event_lines::Command;
 use trace_types::EventList;
 
@@ -24,4 +25,11 @@ pub enum Job {
     },
     /// Print the report on the slowest traces.
     Tail,
+    /// Print a certificate: for each refuted relation the first trace that refutes it.
+    Why,
+    /// Print which claims of a certificate the traces show.
+    Verify {
+        /// The claims.
+        claims: ClaimList,
+    },
 }

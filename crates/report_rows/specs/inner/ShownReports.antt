@@ -9,7 +9,7 @@ use Rattle.latency_report.specs.Reports.{IsReport}
 use Rattle.segment_names.specs.Known.{Known}
 use Rattle.segment_names.specs.Limits.{IsKept}
 use Rattle.session_rules.specs.KeptTraces.{Kept}
-use Rattle.session_rules.specs.ReportTexts.{AreNamesOf, IsLatencyText, IsReportHead}
+use Rattle.session_rules.specs.ReportTexts.{AreKeptNames, IsLatencyText, IsReportHead}
 use Rattle.session_rules.specs.ReportTexts.{IsSegmentText}
 use Rattle.session_rules.specs.TailTexts.{IsTailHead, IsTailText}
 use Rattle.slow_tail.specs.declared.slow_report.SlowReport.{SlowReport}
@@ -26,7 +26,7 @@ use Rattle.report_rows.specs.inner.NumberedTexts.{tail_head, tail_row}
 pub record AreReportTexts (known : Known) (kept : List Kept) (report : FullReport) : Type 0 where
   pub head : IsReportHead kept (report_head report)
   pub latency : IsLatencyText kept (latency_row report.latency)
-  pub names : (names : List SegmentName) → AreNamesOf kept names
+  pub names : (names : List SegmentName) → AreKeptNames kept names
       → map (λ (r : SegmentRow). name_at known.names r.name) report.rows ≡ names
   pub rows : All (λ (r : SegmentRow). IsSegmentText kept (name_at known.names r.name)
       (segment_row known.names r)) report.rows
@@ -40,7 +40,7 @@ ReportIsShown = (known : Known) (traces : List NamedTrace) (kept : List Kept)
 -- the rows of a report on the slowest are texts of that report on the kept traces, likewise
 pub record AreTailTexts (known : Known) (kept : List Kept) (report : SlowReport) : Type 0 where
   pub head : IsTailHead kept (tail_head report)
-  pub names : (names : List SegmentName) → AreNamesOf kept names
+  pub names : (names : List SegmentName) → AreKeptNames kept names
       → map (λ (r : TailRow). name_at known.names r.name) report.rows ≡ names
   pub rows : All (λ (r : TailRow). IsTailText kept (name_at known.names r.name)
       (tail_row known.names r)) report.rows
