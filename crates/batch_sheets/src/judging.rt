@@ -1,4 +1,5 @@
-ghost use Rattle.std.specs.Prelude.{◌≡◌, ◌^◌, ◌<◌, ◌≤◌, All, length, OnOk, IfOk, sum_by};
+ghost use Rattle.std.specs.Prelude.{◌≡◌, ◌^◌, ◌<◌, ◌≤◌, ◌++◌, All, length, OnOk, IfOk, sum_by};
+ghost use Rattle.std.specs.Thread.{IsSync};
 ghost use Rattle.trace_types.specs.declared.raw_trace.RawTrace.{RawTrace};
 ghost use Rattle.trace_types.specs.Batch.{plain, traces_of};
 ghost use Rattle.trace_types.specs.EventLines.{LinesRise};
@@ -7,10 +8,12 @@ ghost use Rattle.session_rules.specs.Batches.{AreJudged};
 ghost use Rattle.batch_sheets.specs.Named.{HasFewSegments};
 ghost use Rattle.batch_sheets.specs.inner.Judging.{Judges, AreJudgedSoFar};
 
+use crate::parts::LEAST_PART;
 use event_lines::gather;
 use segment_cut::{TraceFault, cut};
 use session_rules::Refused;
 use std::alloc::{AllocError, Global};
+use std::thread::{Threads, join};
 use trace_types::{Event, RawTrace, Trace};
 
 /// The traces of a batch: the valid ones, cut into their segments, and those that are refused.
@@ -45,7 +48,7 @@ fn judge(alloc: Global, raw: RawTrace, judged: &mut JudgedTraces) -> Result<(), 
 fn judge_all(alloc: Global, raws: Vec<RawTrace>) -> Result<JudgedTraces, AllocError>
     requires few { sum_by (λ (raw : RawTrace). length raw.events) raws.items < 2 ^ 32 }
     requires timely { All (λ (raw : RawTrace). AreTimely raw.events) raws.items }
-    ensures judged { IfOk result (λ j. AreJudgedSoFar raws.items j) }
+    ensures { IfOk result (AreJudgedSoFar raws.items) }
 {
     let mut judged = JudgedTraces {
         valid: Vec::with_capacity(alloc, raws.len())?,
@@ -57,8 +60,58 @@ fn judge_all(alloc: Global, raws: Vec<RawTrace>) -> Result<JudgedTraces, AllocEr
     Ok(judged)
 }
 
-/// Gathers the traces of a batch of events and cuts them. The only error is that memory ran out.
-pub fn judge_batch(alloc: Global, events: Vec<Event>) -> Result<JudgedTraces, AllocError>
+/// Appends the traces of a later part to those of an earlier one.
+fn join_parts(mut front: JudgedTraces, mut back: JudgedTraces) -> Result<JudgedTraces, AllocError>
+    ensures valid { IfOk result (λ j. j.valid.items ≡ front.valid.items ++ back.valid.items) }
+    ensures refused { IfOk result
+        (λ j. j.refused.items ≡ front.refused.items ++ back.refused.items) }
+{
+    front.valid.append(&mut back.valid)?;
+    front.refused.append(&mut back.refused)?;
+    Ok(front)
+}
+
+/// Cuts the traces in so many parts, in parallel; the lines of each trace are freed once it is cut.
+fn judge_parts<R: Threads + Sync>(
+    rt: &R,
+    alloc: Global,
+    mut raws: Vec<RawTrace>,
+    parts: usize,
+) -> Result<JudgedTraces, AllocError>
+    requires few { sum_by (λ (raw : RawTrace). length raw.events) raws.items < 2 ^ 32 }
+    requires timely { All (λ (raw : RawTrace). AreTimely raw.events) raws.items }
+    ensures { IfOk result (AreJudgedSoFar raws.items) }
+{
+    if parts <= 1 {
+        return judge_all(alloc, raws);
+    }
+    let last = raws.split_off(raws.len() - raws.len() / parts)?;
+    let (back, front) = join(
+        rt,
+        move || -> Result<JudgedTraces, AllocError>
+            requires few { sum_by (λ (raw : RawTrace). length raw.events) last.items < 2 ^ 32 }
+            requires timely { All (λ (raw : RawTrace). AreTimely raw.events) last.items }
+            ensures { IfOk result (AreJudgedSoFar last.items) }
+        { judge_all(alloc, last) },
+        move || -> Result<JudgedTraces, AllocError>
+            requires sync { IsSync R.row }
+            requires few { sum_by (λ (raw : RawTrace). length raw.events) raws.items < 2 ^ 32 }
+            requires timely { All (λ (raw : RawTrace). AreTimely raw.events) raws.items }
+            requires parts { 1 < parts }
+            ensures { IfOk result (AreJudgedSoFar raws.items) }
+        { judge_parts(rt, alloc, raws, parts - 1) },
+    );
+    join_parts(front?, back?)
+}
+
+/// Gathers the traces of a batch of events, and cuts them by up to so many workers, in parallel. The
+/// only error is that memory ran out.
+pub fn judge_batch<R: Threads + Sync>(
+    rt: &R,
+    alloc: Global,
+    events: Vec<Event>,
+    workers: u32,
+) -> Result<JudgedTraces, AllocError>
     requires rising { LinesRise events.items }
     requires timely { AreTimely events.items }
     requires few { length events.items < 2 ^ 32 }
@@ -67,5 +120,6 @@ pub fn judge_batch(alloc: Global, events: Vec<Event>) -> Result<JudgedTraces, Al
     ensures few { IfOk result (λ j. All HasFewSegments j.valid.items) }
 {
     let raws = gather(alloc, events)?;
-    judge_all(alloc, raws)
+    let parts = (workers as usize).min(raws.len() / LEAST_PART);
+    judge_parts(rt, alloc, raws, parts)
 }

@@ -1,10 +1,11 @@
-//! A batch of events as sheets of days: its traces are cut, named by a catalogue, split by day, and
-//! recorded day by day by many workers.
+//! A batch of events as sheets of days: its traces are cut and named by many workers, split by day,
+//! and recorded day by day by many workers.
 #![tactic(auto)]
 
 mod days;
 mod judging;
 mod naming;
+mod parts;
 mod recording;
 
 pub use days::{DayTraces, list_days, split_by_day};

@@ -1,13 +1,17 @@
-ghost use Rattle.std.specs.Prelude.{◌≡◌, ◌≤◌, All, length, map, IfOk};
-ghost use Rattle.kept_books.specs.Shown.{AreShown, IsShown};
+ghost use Rattle.std.specs.Prelude.{◌<◌, ◌≤◌, All, length, map, IfOk};
+ghost use Rattle.kept_books.specs.Shown.{AreShown};
 ghost use Rattle.refute_tests.specs.Clearing.{HaveNamesBelow};
 ghost use Rattle.session_rules.specs.KeptTraces.{kept_with};
 ghost use Rattle.trace_types.specs.Limits.{most_grace};
 ghost use Rattle.batch_sheets.specs.Named.{HasFewSegments, IsKnownTrace};
+ghost use Rattle.batch_sheets.specs.inner.NamedOnes.{IsNamedAs};
 
+use crate::parts::LEAST_PART;
+use rayon::prelude::*;
 use segment_names::laws::named_trace_is_below;
 use segment_names::{Catalogue, NameOne};
 use std::alloc::{AllocError, Global};
+use std::thread::Threads;
 use trace_types::{NamedTrace, Trace};
 
 /// Names a trace, and gives it its grace.
@@ -20,8 +24,7 @@ fn name_one(
     requires few { HasFewSegments trace }
     requires known { IsKnownTrace catalogue.now trace }
     requires grace { grace ≤ most_grace }
-    ensures shown { IfOk result (λ named. IsShown catalogue.now named (kept_with grace trace)) }
-    ensures below { IfOk result (HaveNamesBelow (length catalogue.now.names)) }
+    ensures { IfOk result (IsNamedAs catalogue.now grace trace) }
 {
     named_trace_is_below();
     match catalogue.name(alloc, trace) {
@@ -31,14 +34,17 @@ fn name_one(
     }
 }
 
-/// Names traces whose names are all in the catalogue, and gives each its grace, in nanoseconds. The
-/// only error is that memory ran out.
-pub fn name_all(
+/// Names traces whose names are all in the catalogue, by up to so many workers, in parallel, and
+/// gives each its grace, in nanoseconds. The only error is that memory ran out.
+pub fn name_all<R: Threads + Sync>(
+    rt: &R,
     alloc: Global,
     catalogue: &Catalogue,
     traces: Vec<Trace>,
     grace: u64,
+    workers: u32,
 ) -> Result<Vec<NamedTrace>, AllocError>
+    requires workers { 0 < workers }
     requires few { All HasFewSegments traces.items }
     requires known { All (IsKnownTrace catalogue.now) traces.items }
     requires grace { grace ≤ most_grace }
@@ -47,9 +53,18 @@ pub fn name_all(
     ensures below { IfOk result
         (λ named. All (HaveNamesBelow (length catalogue.now.names)) named.items) }
 {
-    let mut named = Vec::with_capacity(alloc, traces.len())?;
-    for trace in traces {
-        named.push(name_one(alloc, catalogue, trace, grace)?)?;
-    }
-    Ok(named)
+    let least = traces.len().div_ceil(workers as usize).max(LEAST_PART);
+    let named: Result<Vec<NamedTrace>, AllocError> = traces
+        .into_par_iter()
+        .with_min_len(least)
+        .map(
+            |trace: Trace| -> Result<NamedTrace, AllocError>
+                requires few { HasFewSegments trace }
+                requires known { IsKnownTrace catalogue.now trace }
+                requires grace { grace ≤ most_grace }
+                ensures { IfOk result (IsNamedAs catalogue.entry.now grace trace) }
+            { name_one(alloc, catalogue, trace, grace) },
+        )
+        .collect(rt, alloc)?;
+    named
 }

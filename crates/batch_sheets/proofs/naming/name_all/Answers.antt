@@ -1,37 +1,30 @@
-use Rattle.std.proofs.Common.{◌≡◌, ◌∷◌, ◌++◌, [], ◌∙◌, length, map, ap, sym, subst, append_assoc, arith}
-use Rattle.std.specs.Prelude.{All}
-use Rattle.std.specs.Vec.Iter.{into_iter_items}
-use Rattle.std.proofs.lemmas.List.{map-append}
-use Rattle.std.proofs.lemmas.List.Elements.{All-append, All-cons, All-nil}
-use Rattle.kept_books.specs.Shown.{IsShown}
-use Rattle.refute_tests.specs.Clearing.{HaveNamesBelow}
-use Rattle.session_rules.specs.KeptTraces.{kept_with}
-use Rattle.batch_sheets.specs.Named.{IsKnownTrace}
-use Rattle.batch_sheets.proofs.DayLemmas.{all_middle}
-use Rattle.batch_sheets.proofs.NameLemmas.{zip_more}
+use Rattle.std.proofs.Common.{List, Result, IfOk, subst, ◌∙◌}
+use Rattle.std.specs.List.{AllZip}
+use Rattle.std.specs.declared.alloc.AllocError.{AllocError}
+use Rattle.batch_sheets.specs.inner.NamedOnes.{IsNamedAs}
+use Rattle.trace_types.specs.declared.named_trace.NamedTrace.{NamedTrace}
+use Rattle.trace_types.specs.declared.trace.Trace.{Trace}
+use Rattle.batch_sheets.proofs.NameLemmas.{collected, named_shown, named_below}
 use Rattle.batch_sheets.proofs.naming.name_all.Goals as goal
 
-pub name_one-requires-clause-known : goal.name_one-requires-clause-known
-name_one-requires-clause-known c =
-    let at = c.loop-trace in
-    let trace = c.in-Some.trace in
-    let steps : into_iter_items at.trace-iterator ≡ trace ∷ into_iter_items c.next.new.self = c.in-Some.ensures.steps.0 in
-    let all : at.yielded ++ (trace ∷ into_iter_items c.next.new.self) ≡ c.args.traces.items = rw (← steps) at.invariant.so_far ∙ c.into_iter-trace-iterator.ensures.into_iter_gives.0 in
-    all_middle (IsKnownTrace c.args.catalogue.now) at.yielded (into_iter_items c.next.new.self) trace (subst (All (IsKnownTrace c.args.catalogue.now)) (sym all) c.requires.known)
+pub collect-requires-clause-ready : goal.collect-requires-clause-ready
+collect-requires-clause-ready g c κs within =
+    rw (c.map.ensures.base, c.map.ensures.f, c.with_min_len.ensures.base, c.into_par_iter.ensures) (λ k d lt. ((c.requires.few k d lt, (c.requires.known k d lt, c.requires.grace)), λ y p. tt))
 
-pub loop-trace-preserved : goal.loop-trace-preserved
-loop-trace-preserved c =
-    let at = c.loop-trace in
-    let trace = c.in-Some.trace in
-    let known = c.args.catalogue.now in
-    let one = c.in_ok-name_one.field-0 in
-    let steps : into_iter_items at.trace-iterator ≡ trace ∷ into_iter_items c.next.new.self = c.in-Some.ensures.steps.0 in record {
-      so_far = append_assoc at.yielded (trace ∷ []) _ ∙ rw (← steps) at.invariant.so_far;
-      left =
-          let was = at.invariant.left in
-          let gone = c.in-Some.ensures.steps.1 in
-          let short = ap length steps in
-          omega arith;
-      shown = rw (c.in_ok-push.ensures.items, map-append (kept_with c.args.grace) at.yielded (trace ∷ [])) (zip_more (IsShown known) at.named.items (map (kept_with c.args.grace) at.yielded) one (kept_with c.args.grace trace) at.invariant.shown c.in_ok-name_one.ensures.shown);
-      below = rw c.in_ok-push.ensures.items (All-append (HaveNamesBelow (length known.names)) at.named.items (one ∷ []) at.invariant.below (All-cons (HaveNamesBelow (length known.names)) one [] c.in_ok-name_one.ensures.below (All-nil (HaveNamesBelow (length known.names)))));
-    }
+pub returns-clause-shown : goal.returns-clause-shown
+returns-clause-shown g c =
+    let is : Trace → NamedTrace → Type 0 = IsNamedAs c.args.catalogue.now c.args.grace in
+    let given = c.in_ok-named.ensures.1 in
+    let taken = rw (c.map.ensures.base, c.with_min_len.ensures.base) at given.1 in
+    let named = rw c.map.ensures.f at given.2 in
+    let each = subst (λ (ts : List Trace). AllZip (λ t (y : Result NamedTrace AllocError). IfOk y (is t)) ts c.in_ok-named.ensures.0) (taken ∙ c.into_par_iter.ensures) named in
+    named_shown c.args.catalogue.now c.args.grace c.args.traces.items c.in_ok-named.named (collected is c.args.traces.items c.in_ok-named.ensures.0 c.in_ok-named.named each c.in_ok-named.ensures.2)
+
+pub returns-clause-below : goal.returns-clause-below
+returns-clause-below g c =
+    let is : Trace → NamedTrace → Type 0 = IsNamedAs c.args.catalogue.now c.args.grace in
+    let given = c.in_ok-named.ensures.1 in
+    let taken = rw (c.map.ensures.base, c.with_min_len.ensures.base) at given.1 in
+    let named = rw c.map.ensures.f at given.2 in
+    let each = subst (λ (ts : List Trace). AllZip (λ t (y : Result NamedTrace AllocError). IfOk y (is t)) ts c.in_ok-named.ensures.0) (taken ∙ c.into_par_iter.ensures) named in
+    named_below c.args.catalogue.now c.args.grace c.args.traces.items c.in_ok-named.named (collected is c.args.traces.items c.in_ok-named.ensures.0 c.in_ok-named.named each c.in_ok-named.ensures.2)
