@@ -1,0 +1,212 @@
+-- The elements of lists that are made of others.
+use Rattle.std.proofs.Common.{◌≡◌, ◌⊎◌, ℕ, zero, suc, ◌+◌, ◌-◌, ◌<◌, ◌≤◌, Bool, true, false, Some, List, [], ◌∷◌, ◌++◌, length, get_or, take, map, filter, refl, sym, ap, ◌∙◌, subst, inl, inr, ⊎_elim, arith}
+use Rattle.std.specs.List.{All, AllPairs, AllZip, Contains, flat_map, slice_get}
+use Rattle.std.proofs.lemmas.Bool.{cases_Bool, cases_lt, cond-false, cond-true, false≢true}
+use Rattle.std.proofs.lemmas.List.{get_or_append_left, get_or-append_right, get_or-map, get_or-take, length-append, length-map, length-take}
+use Rattle.std.proofs.lemmas.List.Elements.{All-head, All-tail, Contains-append_left, Contains-append_right, Contains-append_cases, Contains-get_or}
+use Rattle.std.proofs.lemmas.Option.{slice_get_within, slice_get-get_or, get_or_from_slice_get}
+
+module _ {X : Type 0} where
+  pub Contains-nil : (x : X) → Contains [] x → ⊥
+  Contains-nil x c = let lt : c.0 < 0 = c.1 in absurd (omega arith)
+
+  pub Contains-cons : (x : X) (xs : List X) (y : X) → Contains xs y → Contains (x ∷ xs) y
+  Contains-cons x xs y c = let lt : c.0 < length xs = c.1 in (suc c.0, omega arith, c.2)
+
+  pub Contains-here : (x : X) (xs : List X) (y : X) → x ≡ y → Contains (x ∷ xs) y
+  Contains-here x xs y e = (zero, omega arith, e)
+
+  pub cons_cases : (x : X) (xs : List X) (z : X) → Contains (x ∷ xs) z → (x ≡ z) ⊎ Contains xs z
+  cons_cases x xs z (zero, lt, is) = inl is
+  cons_cases x xs z (suc k, lt, is) = inr (k, omega arith, is)
+
+  pub Contains-from_get : (xs : List X) (k : ℕ) (x : X) → slice_get xs k ≡ Some x → Contains xs x
+  Contains-from_get xs k x e = (k, slice_get_within xs k x e, get_or_from_slice_get xs k x x e)
+
+  pub get_from_Contains : (xs : List X) (x : X) → Contains xs x → (k : ℕ) × (k < length xs) × (slice_get xs k ≡ Some x)
+  get_from_Contains xs x c = (c.0, c.1, slice_get-get_or xs c.0 x c.1 ∙ ap (λ (v : X). Some v) c.2)
+
+  -- ---- pairs of elements
+  pub pairs_nil : (R : X → X → Type 0) → AllPairs R []
+  pairs_nil R = λ i j d below within. let lt : j < 0 = within in absurd (omega arith)
+
+  pub pairs_tail : (R : X → X → Type 0) (x : X) (xs : List X) → AllPairs R (x ∷ xs) → AllPairs R xs
+  pairs_tail R x xs p = λ i j d below within. p (suc i) (suc j) d (omega arith) (omega arith)
+
+  pub head_before : (R : X → X → Type 0) (x : X) (xs : List X) (z : X) → AllPairs R (x ∷ xs) → Contains xs z → R x z
+  head_before R x xs z p (k, lt, is) = subst (R x) is (p zero (suc k) z (omega arith) (omega arith))
+
+  pub pairs_append : (R : X → X → Type 0) (xs ys : List X) → AllPairs R xs → AllPairs R ys → ((x y : X) → Contains xs x → Contains ys y → R x y) → AllPairs R (xs ++ ys)
+  pairs_append R xs ys p q across i j d lt inside =
+      let n : j < length xs + length ys = omega (arith, length-append xs ys) in
+      ⊎_elim
+      (λ (low : j < length xs). let m : i < length xs = omega arith in
+      subst (λ v. R v (get_or (xs ++ ys) j d)) (sym (get_or_append_left xs ys d i m)) (subst (λ v. R (get_or xs i d) v) (sym (get_or_append_left xs ys d j low)) (p i j d lt low)))
+      (λ (high : length xs ≤ j). let k : j - length xs < length ys = omega arith in let ej = get_or-append_right xs ys (length xs) j d refl high in
+      subst (λ v. R (get_or (xs ++ ys) i d) v) (sym ej) (⊎_elim
+      (λ (m : i < length xs). subst (λ v. R v (get_or ys (j - length xs) d)) (sym (get_or_append_left xs ys d i m)) (across (get_or xs i d) (get_or ys (j - length xs) d) (Contains-get_or xs i d m) (Contains-get_or ys (j - length xs) d k)))
+      (λ (m : length xs ≤ i). subst (λ v. R v (get_or ys (j - length xs) d)) (sym (get_or-append_right xs ys (length xs) i d refl m)) (q (i - length xs) (j - length xs) d (omega arith) k))
+      (cases_lt i (length xs))))
+      (cases_lt j (length xs))
+
+  -- an element before place i stands to the one at i as any earlier to any later one
+  pub before_place : (R : X → X → Type 0) (xs : List X) → AllPairs R xs → (i : ℕ) (x y : X) → slice_get xs i ≡ Some x → Contains (take i xs) y → R y x
+  before_place R xs all i x y here c =
+      let few : c.0 < length (take i xs) = c.1 in
+      let early : c.0 < i = omega (arith, length-take i xs) in
+      let lt = slice_get_within xs i x here in
+      let first : get_or xs c.0 y ≡ y = sym (get_or-take i xs c.0 y early) ∙ c.2 in
+      subst (λ v. R v x) first (subst (λ v. R (get_or xs c.0 y) v) (get_or_from_slice_get xs i x y here) (all c.0 i y early lt))
+
+  -- what stands in the first elements stands at a place before
+  pub get_from_take : (xs : List X) (i : ℕ) (y : X) → Contains (take i xs) y → (k : ℕ) × (k < i) × (slice_get xs k ≡ Some y)
+  get_from_take xs i y c =
+      let few : c.0 < length (take i xs) = c.1 in
+      let early : c.0 < i = omega (arith, length-take i xs) in
+      let within : c.0 < length xs = omega (arith, length-take i xs) in
+      (c.0, early, slice_get-get_or xs c.0 y within ∙ ap (λ (v : X). Some v) (sym (get_or-take i xs c.0 y early) ∙ c.2))
+
+  -- ---- filters
+  pub filter_yes : (p : X → Bool) (x : X) (xs : List X) → p x ≡ true → filter p (x ∷ xs) ≡ x ∷ filter p xs
+  filter_yes p x xs e = cond-true (p x) (x ∷ filter p xs) (filter p xs) e
+
+  pub filter_no : (p : X → Bool) (x : X) (xs : List X) → p x ≡ false → filter p (x ∷ xs) ≡ filter p xs
+  filter_no p x xs e = cond-false (p x) (x ∷ filter p xs) (filter p xs) e
+
+  pub filter_all : (p : X → Bool) (xs : List X) → All (λ x. p x ≡ true) xs → filter p xs ≡ xs
+  filter_all p [] h = refl
+  filter_all p (x ∷ xs) h = filter_yes p x xs (All-head (λ y. p y ≡ true) x xs h) ∙ ap (λ l. x ∷ l) (filter_all p xs (All-tail (λ y. p y ≡ true) x xs h))
+
+  pub filter_none : (p : X → Bool) (xs : List X) → All (λ x. p x ≡ false) xs → filter p xs ≡ []
+  filter_none p [] h = refl
+  filter_none p (x ∷ xs) h = filter_no p x xs (All-head (λ y. p y ≡ false) x xs h) ∙ filter_none p xs (All-tail (λ y. p y ≡ false) x xs h)
+
+  -- what passes a test is kept, and what is kept passes it
+  pub Contains-kept : (p : X → Bool) (xs : List X) (x : X) → Contains xs x → p x ≡ true → Contains (filter p xs) x
+  Contains-kept p [] x c e = c
+  Contains-kept p (y ∷ ys) x c e = elim (cases_Bool (p y)) [
+    | inl good ↦ rw (filter_yes p y ys good) (⊎_elim (λ (h : y ≡ x). Contains-here y (filter p ys) x h) (λ (d : Contains ys x). Contains-cons y (filter p ys) x (Contains-kept p ys x d e)) (cons_cases y ys x c))
+    | inr bad ↦ rw (filter_no p y ys bad) (⊎_elim (λ (h : y ≡ x). absurd (false≢true (sym bad ∙ (ap p h ∙ e)))) (λ (d : Contains ys x). Contains-kept p ys x d e) (cons_cases y ys x c))
+  ]
+
+  pub kept_Contains : (p : X → Bool) (xs : List X) (x : X) → Contains (filter p xs) x → Contains xs x × (p x ≡ true)
+  kept_Contains p [] x c = absurd (Contains-nil x c)
+  kept_Contains p (y ∷ ys) x c = elim (cases_Bool (p y)) [
+    | inl good ↦
+        let d : Contains (y ∷ filter p ys) x = subst (λ l. Contains l x) (filter_yes p y ys good) c in
+        ⊎_elim (λ (h : y ≡ x). (Contains-here y ys x h, sym (ap p h) ∙ good)) (λ (r : Contains (filter p ys) x). let k = kept_Contains p ys x r in (Contains-cons y ys x k.0, k.1)) (cons_cases y (filter p ys) x d)
+    | inr bad ↦ let k = kept_Contains p ys x (subst (λ l. Contains l x) (filter_no p y ys bad) c) in (Contains-cons y ys x k.0, k.1)
+  ]
+
+-- ---- maps, and lists joined end to end
+map_at : {X Y : Type 0} (f : X → Y) (xs : List X) (x : X) (y : Y) (k : ℕ) → k < length xs → get_or xs k x ≡ x → f x ≡ y → Contains (map f xs) y
+map_at f [] x y k lt same e = absurd (omega arith)
+map_at f (z ∷ xs) x y zero lt same e = (0, omega arith, ap f same ∙ e)
+map_at f (z ∷ xs) x y (suc k) lt same e = Contains-cons (f z) (map f xs) y (map_at f xs x y k (omega arith) same e)
+
+pub Contains-map : {X Y : Type 0} (f : X → Y) (xs : List X) (x : X) (y : Y) → Contains xs x → f x ≡ y → Contains (map f xs) y
+Contains-map f xs x y c e = map_at f xs x y c.0 c.1 c.2 e
+
+from_map_at : {X Y : Type 0} (f : X → Y) (xs : List X) (y : Y) (k : ℕ) → k < length (map f xs) → get_or (map f xs) k y ≡ y → (x : X) × Contains xs x × (f x ≡ y)
+from_map_at f [] y k lt e = absurd (omega arith)
+from_map_at f (x ∷ xs) y zero lt e = (x, (0, omega arith, refl), e)
+from_map_at f (x ∷ xs) y (suc k) lt e = let r = from_map_at f xs y k (omega arith) e in (r.0, Contains-cons x xs r.0 r.1, r.2)
+
+-- an element of a map comes from one
+pub from_map : {X Y : Type 0} (f : X → Y) (xs : List X) (y : Y) → Contains (map f xs) y → (x : X) × Contains xs x × (f x ≡ y)
+from_map f xs y c = from_map_at f xs y c.0 c.1 c.2
+
+pub pairs_map : {X Y : Type 0} (f : X → Y) (R : Y → Y → Type 0) (xs : List X) → AllPairs (λ x y. R (f x) (f y)) xs → AllPairs R (map f xs)
+pairs_map f R [] p = pairs_nil R
+pairs_map {X} {Y} f R (x ∷ xs) p = λ i j d lt inside.
+    let within : j < length (x ∷ xs) = omega (arith, length-map (x ∷ xs) f) in
+    let ei = get_or-map f (x ∷ xs) i x d (omega arith) in
+    let ej = get_or-map f (x ∷ xs) j x d within in
+    subst (λ (v : Y). R v (get_or (map f (x ∷ xs)) j d)) (sym ei) (subst (λ (v : Y). R (f (get_or (x ∷ xs) i x)) v) (sym ej) (p i j x lt within))
+
+pub map_twice : {X Y Z : Type 0} (f : Y → Z) (g : X → Y) (xs : List X) → map f (map g xs) ≡ map (λ x. f (g x)) xs
+map_twice f g [] = refl
+map_twice {Z = Z} f g (x ∷ xs) = ap (λ (l : List Z). f (g x) ∷ l) (map_twice f g xs)
+
+flat_map_at : {X Y : Type 0} (f : X → List Y) (xs : List X) (x : X) (y : Y) (k : ℕ) → k < length xs → get_or xs k x ≡ x → Contains (f x) y → Contains (flat_map f xs) y
+flat_map_at f [] x y k lt same c = absurd (omega arith)
+flat_map_at f (z ∷ xs) x y zero lt same c = Contains-append_left (f z) (flat_map f xs) y (subst (λ v. Contains (f v) y) (sym same) c)
+flat_map_at f (z ∷ xs) x y (suc k) lt same c = Contains-append_right (f z) (flat_map f xs) y (flat_map_at f xs x y k (omega arith) same c)
+
+pub Contains-flat_map : {X Y : Type 0} (f : X → List Y) (xs : List X) (x : X) (y : Y) → Contains xs x → Contains (f x) y → Contains (flat_map f xs) y
+Contains-flat_map f xs x y c d = flat_map_at f xs x y c.0 c.1 c.2 d
+
+-- an element of lists joined end to end is in one of them
+pub from_flat_map : {X Y : Type 0} (f : X → List Y) (xs : List X) (y : Y) → Contains (flat_map f xs) y → (x : X) × Contains xs x × Contains (f x) y
+from_flat_map f [] y c = absurd (Contains-nil y c)
+from_flat_map f (x ∷ xs) y c = ⊎_elim
+    (λ (d : Contains (f x) y). (x, (0, omega arith, refl), d))
+    (λ (d : Contains (flat_map f xs) y). let r = from_flat_map f xs y d in (r.0, Contains-cons x xs r.0 r.1, r.2))
+    (Contains-append_cases (f x) (flat_map f xs) y c)
+
+-- ---- two lists, index by index
+module _ {A B : Type 0} (R : A → B → Type 0) where
+  zip_right_at : (xs : List A) (ys : List B) → AllZip R xs ys → (y : B) (k : ℕ) → k < length ys → get_or ys k y ≡ y → (x : A) × Contains xs x × R x y
+  zip_right_at xs [] z y k lt e = absurd (omega arith)
+  zip_right_at [] (b ∷ ys) z y k lt e = absurd z
+  zip_right_at (a ∷ xs) (b ∷ ys) z y zero lt e = (a, (0, omega arith, refl), subst (λ v. R a v) e z.0)
+  zip_right_at (a ∷ xs) (b ∷ ys) z y (suc k) lt e = let r = zip_right_at xs ys z.1 y k (omega arith) e in (r.0, Contains-cons a xs r.0 r.1, r.2)
+
+  pub zip_right : (xs : List A) (ys : List B) → AllZip R xs ys → (y : B) → Contains ys y → (x : A) × Contains xs x × R x y
+  zip_right xs ys z y c = zip_right_at xs ys z y c.0 c.1 c.2
+
+  -- what stands at one place of both
+  pub zip_get_left : (xs : List A) (ys : List B) (i : ℕ) (x : A) → AllZip R xs ys → slice_get xs i ≡ Some x → (y : B) × (slice_get ys i ≡ Some y) × R x y
+  zip_get_left [] ys i x z e = let lt = slice_get_within [] i x e in absurd (omega arith)
+  zip_get_left (a ∷ xs) [] i x z e = absurd z
+  zip_get_left (a ∷ xs) (b ∷ ys) zero x z e = (b, refl, subst (λ v. R v b) (some_is a x e) z.0)
+    where
+      some_is : (u v : A) → Some u ≡ Some v → u ≡ v
+      some_is u v e = cc
+  zip_get_left (a ∷ xs) (b ∷ ys) (suc i) x z e = zip_get_left xs ys i x z.1 e
+
+  pub zip_get_right : (xs : List A) (ys : List B) (i : ℕ) (y : B) → AllZip R xs ys → slice_get ys i ≡ Some y → (x : A) × (slice_get xs i ≡ Some x) × R x y
+  zip_get_right xs [] i y z e = let lt = slice_get_within [] i y e in absurd (omega arith)
+  zip_get_right [] (b ∷ ys) i y z e = absurd z
+  zip_get_right (a ∷ xs) (b ∷ ys) zero y z e = (a, refl, subst (λ v. R a v) (some_is b y e) z.0)
+    where
+      some_is : (u v : B) → Some u ≡ Some v → u ≡ v
+      some_is u v e = cc
+  zip_get_right (a ∷ xs) (b ∷ ys) (suc i) y z e = zip_get_right xs ys i y z.1 e
+
+  -- filters by tests that agree keep the relation
+  pub zip_filter : (p : A → Bool) (q : B → Bool) → ((x : A) (y : B) → R x y → p x ≡ q y) → (xs : List A) (ys : List B) → AllZip R xs ys → AllZip R (filter p xs) (filter q ys)
+  zip_filter p q same [] [] z = z
+  zip_filter p q same [] (y ∷ ys) z = absurd z
+  zip_filter p q same (x ∷ xs) [] z = absurd z
+  zip_filter p q same (x ∷ xs) (y ∷ ys) z =
+      let rest = zip_filter p q same xs ys z.1 in
+      let agree = same x y z.0 in
+      elim (cases_Bool (p x)) [
+        | inl good ↦ rw (filter_yes p x xs good, filter_yes q y ys (sym agree ∙ good)) (z.0, rest)
+        | inr bad ↦ rw (filter_no p x xs bad, filter_no q y ys (sym agree ∙ bad)) rest
+      ]
+
+  pub zip_length : (xs : List A) (ys : List B) → AllZip R xs ys → length xs ≡ length ys
+  zip_length [] [] z = refl
+  zip_length [] (y ∷ ys) z = absurd z
+  zip_length (x ∷ xs) [] z = absurd z
+  zip_length (x ∷ xs) (y ∷ ys) z = let h = zip_length xs ys z.1 in omega arith
+
+  -- one of the lists is split at an element
+  pub record IsSplit (front back : List A) (x : A) (ys : List B) : Type 0 where
+    pub before : List B
+    pub here : B
+    pub after : List B
+    pub split : ys ≡ before ++ here ∷ after
+    pub first : AllZip R front before
+    pub is : R x here
+    pub last : AllZip R back after
+
+  pub zip_split : (front : List A) (x : A) (back : List A) (ys : List B) → AllZip R (front ++ x ∷ back) ys → IsSplit front back x ys
+  zip_split [] x back [] z = absurd z
+  zip_split [] x back (y ∷ ys) z = record { before = []; here = y; after = ys; split = refl; first = tt; is = z.0; last = z.1 }
+  zip_split (a ∷ front) x back [] z = absurd z
+  zip_split (a ∷ front) x back (y ∷ ys) z =
+      let s = zip_split front x back ys z.1 in
+      record { before = y ∷ s.before; here = s.here; after = s.after; split = ap (λ l. y ∷ l) s.split; first = (z.0, s.first); is = s.is; last = s.last }

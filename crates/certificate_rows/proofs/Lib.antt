@@ -1,0 +1,15 @@
+pub mod BridgeLemmas
+pub mod ClaimLemmas
+pub mod ClaimDecisionLemmas
+pub mod DayLemmas
+pub mod DecideLemmas
+pub mod ElementLemmas
+pub mod FirstLemmas
+pub mod ListedLemmas
+pub mod OrderLemmas
+pub mod PairLemmas
+pub mod RefuterLemmas
+pub mod TextLemmas
+pub mod VerdictLemmas
+pub mod WalkLemmas
+pub mod WholeLemmas

@@ -1,0 +1,184 @@
+-- What is decided of the elements of a list can be listed, and so can the relations that kept traces
+-- refute.
+use Rattle.std.proofs.Common.{◌≡◌, ◌⊎◌, ◌↔◌, ℕ, List, [], ◌∷◌, map, refl, sym, ap, ◌∙◌, subst, ⊎_elim, inl, inr, Ordering}
+use Rattle.std.specs.declared.cmp.Ordering.TheVariants.{Less, Equal, Greater}
+use Rattle.std.specs.List.{All, AllPairs, Contains, flat_map}
+use Rattle.std.specs.Cmp.{IsTotalOrder}
+use Rattle.std.specs.Cmp.Lexicographic.{slice_cmp}
+use Rattle.std.specs.Ordering.{nat_cmp, ordering_reverse, ordering_then}
+use Rattle.std.proofs.lemmas.List.Elements.{All-cons, All-nil, Contains-get_or}
+use Rattle.std.proofs.lemmas.List.Kept.{AllPairs-cons}
+use Rattle.certificates.specs.declared.matter.Matter.{Matter}
+use Rattle.certificates.specs.declared.matter.Matter.TheVariants.{Before, Exclusive, Pipe}
+use Rattle.session_rules.specs.KeptTraces.{Kept, by_kept}
+use Rattle.session_rules.specs.Refutations.{AreRefutations, Refutations, RefutesMatter}
+use Rattle.trace_types.specs.Listing.{ListsExactly}
+use Rattle.trace_types.specs.NameOrder.{name_cmp, pair_cmp}
+use Rattle.trace_types.specs.Parts.{segments_of}
+use Rattle.trace_types.specs.Pipelines.{TakesOutOfOrder, TakesUnfinished}
+use Rattle.trace_types.specs.Segments.{SegmentName, name_of, task_of}
+use Rattle.trace_types.specs.Surviving.{IsRefuted}
+use Rattle.trace_types.specs.declared.segment.Segment.{Segment}
+use Rattle.certificate_rows.proofs.DecideLemmas.{IsDecided, decided_and, decided_like, less_decided, refutes_decided, some_decided}
+use Rattle.certificate_rows.proofs.ElementLemmas.{Contains-cons, Contains-flat_map, Contains-from_get, Contains-here, Contains-map, Contains-nil, cons_cases, head_before, pairs_nil, pairs_tail}
+use Rattle.certificate_rows.proofs.OrderLemmas.{name_exact, name_total, text_exact, text_total}
+use Rattle.certificate_rows.proofs.WholeLemmas.{pair_total}
+
+-- ---- the elements of a list, in rising order and each once
+all_contained : {X : Type 0} (P : X → Type 0) (xs : List X) → ((z : X) → Contains xs z → P z) → All P xs
+all_contained P xs each = λ k d lt. each _ (Contains-get_or xs k d lt)
+
+module _ {X : Type 0} (cmp : X → X → Ordering) where
+  -- the list rises
+  abbrev Rises : List X → Type 0
+  Rises xs = AllPairs (λ x y. cmp x y ≡ Less) xs
+
+  -- the rising list has this element and those of another
+  record IsPut (x : X) (ys zs : List X) : Type 0 where
+    pub rising : Rises zs
+    pub same : (z : X) → Contains zs z ↔ ((x ≡ z) ⊎ Contains ys z)
+
+module _ {X : Type 0} (cmp : X → X → Ordering) (total : IsTotalOrder cmp) (exact : (x y : X) → cmp x y ≡ Equal → x ≡ y) where
+  -- an element is put into a rising list with this head, where it can be put into the rest
+  put_at : (x y : X) (ys : List X) → Rises cmp (y ∷ ys) → (zs : List X) × IsPut cmp x ys zs → (o : Ordering) → cmp x y ≡ o → (zs : List X) × IsPut cmp x (y ∷ ys) zs
+  put_at x y ys rising rest Less e = (
+    x ∷ y ∷ ys,
+    record {
+      rising = AllPairs-cons (λ u v. cmp u v ≡ Less) x (y ∷ ys) (All-cons (λ v. cmp x v ≡ Less) y ys e (all_contained (λ v. cmp x v ≡ Less) ys (λ z c. total.trans x y z e (head_before (λ u v. cmp u v ≡ Less) y ys z rising c)))) rising;
+      same = λ z. (cons_cases x (y ∷ ys) z, λ s. ⊎_elim (λ (h : x ≡ z). Contains-here x (y ∷ ys) z h) (λ (c : Contains (y ∷ ys) z). Contains-cons x (y ∷ ys) z c) s);
+    },
+  )
+  put_at x y ys rising rest Equal e = (
+    y ∷ ys,
+    record {
+      rising = rising;
+      same = λ z. (λ c. inr c, λ s. ⊎_elim (λ (h : x ≡ z). Contains-here y ys z (sym (exact x y e) ∙ h)) (λ (c : Contains (y ∷ ys) z). c) s);
+    },
+  )
+  put_at x y ys rising (zs, p) Greater e =
+      let before : cmp y x ≡ Less = total.antisymm y x ∙ ap ordering_reverse e in (
+        y ∷ zs,
+        record {
+          rising = AllPairs-cons (λ u v. cmp u v ≡ Less) y zs (all_contained (λ v. cmp y v ≡ Less) zs (λ z c. ⊎_elim (λ (h : x ≡ z). subst (λ v. cmp y v ≡ Less) h before) (λ (d : Contains ys z). head_before (λ u v. cmp u v ≡ Less) y ys z rising d) ((p.same z).0 c))) p.rising;
+          same = λ z. (
+            λ c. ⊎_elim (λ (h : y ≡ z). inr (Contains-here y ys z h)) (λ (d : Contains zs z). ⊎_elim (λ (h : x ≡ z). inl h) (λ (f : Contains ys z). inr (Contains-cons y ys z f)) ((p.same z).0 d)) (cons_cases y zs z c),
+            λ s. ⊎_elim (λ (h : x ≡ z). Contains-cons y zs z ((p.same z).1 (inl h))) (λ (c : Contains (y ∷ ys) z). ⊎_elim (λ (h : y ≡ z). Contains-here y zs z h) (λ (d : Contains ys z). Contains-cons y zs z ((p.same z).1 (inr d))) (cons_cases y ys z c)) s,
+          );
+        },
+      )
+
+  put : (x : X) (ys : List X) → Rises cmp ys → (zs : List X) × IsPut cmp x ys zs
+  put x [] rising = (
+    x ∷ [],
+    record {
+      rising = AllPairs-cons (λ u v. cmp u v ≡ Less) x [] (All-nil (λ v. cmp x v ≡ Less)) rising;
+      same = λ z. (cons_cases x [] z, λ s. ⊎_elim (λ (h : x ≡ z). Contains-here x [] z h) (λ (c : Contains [] z). absurd (Contains-nil z c)) s);
+    },
+  )
+  put x (y ∷ ys) rising = put_at x y ys rising (put x ys (pairs_tail (λ u v. cmp u v ≡ Less) y ys rising)) (cmp x y) refl
+
+  -- the elements of a list that have a decided fact
+  module _ (P : X → Type 0) (decide : (x : X) → IsDecided (P x)) where
+    -- one more element
+    listed_more : (x : X) (xs ys : List X) → ListsExactly cmp (λ z. Contains xs z × P z) ys → IsDecided (P x) → (zs : List X) × ListsExactly cmp (λ z. Contains (x ∷ xs) z × P z) zs
+    listed_more x xs ys h (inl has) =
+        let p = put x ys h.rising in (
+          p.0,
+          record {
+            rising = p.1.rising;
+            exactly = λ z. (
+              λ c. ⊎_elim (λ (e : x ≡ z). (Contains-here x xs z e, subst P e has)) (λ (d : Contains ys z). let r = (h.exactly z).0 d in (Contains-cons x xs z r.0, r.1)) ((p.1.same z).0 c),
+              λ c. ⊎_elim (λ (e : x ≡ z). (p.1.same z).1 (inl e)) (λ (d : Contains xs z). (p.1.same z).1 (inr ((h.exactly z).1 (d, c.1)))) (cons_cases x xs z c.0),
+            );
+          },
+        )
+    listed_more x xs ys h (inr lacks) = (
+      ys,
+      record {
+        rising = h.rising;
+        exactly = λ z. (
+          λ c. let r = (h.exactly z).0 c in (Contains-cons x xs z r.0, r.1),
+          λ c. ⊎_elim (λ (e : x ≡ z). absurd (lacks (subst P (sym e) c.1))) (λ (d : Contains xs z). (h.exactly z).1 (d, c.1)) (cons_cases x xs z c.0),
+        );
+      },
+    )
+
+    listed : (xs : List X) → (ys : List X) × ListsExactly cmp (λ z. Contains xs z × P z) ys
+    listed [] = ([], record { rising = pairs_nil (λ u v. cmp u v ≡ Less); exactly = λ z. (λ c. absurd (Contains-nil z c), λ c. absurd (Contains-nil z c.0)) })
+    listed (x ∷ xs) = let h = listed xs in listed_more x xs h.0 h.1 (decide x)
+
+    -- where only elements of the list have the fact
+    pub all_listed : (xs : List X) → ((x : X) → P x → Contains xs x) → (ys : List X) × ListsExactly cmp P ys
+    all_listed xs within =
+        let h = listed xs in
+        (h.0, record { rising = h.1.rising; exactly = λ z. ((λ c. ((h.1.exactly z).0 c).1), (λ p. (h.1.exactly z).1 (within z p, p))) })
+
+-- ---- pairs
+both_equal : (o p : Ordering) → ordering_then o p ≡ Equal → (o ≡ Equal) × (p ≡ Equal)
+both_equal Less p e = cc
+both_equal Equal p e = (refl, e)
+both_equal Greater p e = cc
+
+pair_exact : {X : Type 0} (cmp : X → X → Ordering) → ((x y : X) → cmp x y ≡ Equal → x ≡ y) → (p q : X × X) → pair_cmp cmp p q ≡ Equal → p ≡ q
+pair_exact cmp exact p q e =
+    let t = both_equal (cmp p.0 q.0) (cmp p.1 q.1) e in
+    let first = exact p.0 q.0 t.0 in
+    let second = exact p.1 q.1 t.1 in
+    λ k. (first k, second k)
+
+-- all pairs of the elements
+all_pairs : {X : Type 0} → List X → List (X × X)
+all_pairs xs = flat_map (λ x. map (λ y. (x, y)) xs) xs
+
+in_all_pairs : {X : Type 0} (xs : List X) (p : X × X) → Contains xs p.0 → Contains xs p.1 → Contains (all_pairs xs) p
+unfolding all_pairs
+in_all_pairs xs p one other = Contains-flat_map (λ x. map (λ y. (x, y)) xs) xs p.0 p one (Contains-map (λ y. (p.0, y)) xs p.1 p other refl)
+
+-- ---- what kept traces refute
+refuted_decided : (kept : List Kept) (matter : Matter) → IsDecided (IsRefuted (RefutesMatter matter) kept)
+refuted_decided kept matter = decided_like
+    (λ (s : (k : Kept) × Contains kept k × RefutesMatter matter k). (s.1.0, s.0, s.1.1, s.1.2, s.2))
+    (λ r. (r.1, (r.0, r.2, r.3), r.4))
+    (some_decided (RefutesMatter matter) (λ k. refutes_decided k matter) kept)
+
+module _ (kept : List Kept) where
+  names : List SegmentName
+  names = map name_of (segments_of by_kept kept)
+
+  tasks : List (List ℕ)
+  tasks = map task_of (segments_of by_kept kept)
+
+  name_there : (k : Kept) (s : Segment) (a : SegmentName) → Contains kept k → Contains k.trace.segments s → name_of s ≡ a → Contains names a
+  unfolding names
+  name_there k s a here at e = Contains-map name_of (segments_of by_kept kept) s a (Contains-flat_map (λ (x : Kept). x.trace.segments) kept k s here at) e
+
+  task_there : (k : Kept) (s : Segment) (t : List ℕ) → Contains kept k → Contains k.trace.segments s → task_of s ≡ t → Contains tasks t
+  unfolding tasks
+  task_there k s t here at e = Contains-map task_of (segments_of by_kept kept) s t (Contains-flat_map (λ (x : Kept). x.trace.segments) kept k s here at) e
+
+  before_within : (p : SegmentName × SegmentName) → IsRefuted (RefutesMatter (Before p.0 p.1)) kept → Contains (all_pairs names) p
+  before_within p r = let both = r.4.1 in in_all_pairs names p (name_there r.1 both.0 p.0 (r.0, r.2, r.3) both.2 both.4) (name_there r.1 both.1 p.1 (r.0, r.2, r.3) both.3 both.5)
+
+  exclusive_within : (p : SegmentName × SegmentName) → IsRefuted (RefutesMatter (Exclusive p.0 p.1)) kept → Contains (all_pairs names) p
+  exclusive_within p r = let both = r.4.1 in in_all_pairs names p (name_there r.1 both.0 p.0 (r.0, r.2, r.3) both.2 both.4) (name_there r.1 both.1 p.1 (r.0, r.2, r.3) both.3 both.5)
+
+  pipe_within : (p : List ℕ × List ℕ) → IsRefuted (RefutesMatter (Pipe p.0 p.1)) kept → Contains (all_pairs tasks) p
+  pipe_within p r =
+      let k = r.1 in
+      let here : Contains kept k = (r.0, r.2, r.3) in
+      ⊎_elim
+      (λ (h : TakesUnfinished by_kept p.0 p.1 k). in_all_pairs tasks p
+      (task_there k h.given p.0 here (Contains-from_get k.trace.segments h.giver h.given h.ends.handles.segment) h.ends.handles.task)
+      (task_there k h.taken p.1 here (Contains-from_get k.trace.segments h.taker h.taken h.starts.handles.segment) h.starts.handles.task))
+      (λ (h : TakesOutOfOrder by_kept p.0 p.1 k). in_all_pairs tasks p
+      (task_there k h.in_order.s p.0 here (Contains-from_get k.trace.segments h.in_order.earlier h.in_order.s h.in_order.first.handles.segment) h.in_order.first.handles.task)
+      (task_there k h.turned.s p.1 here (Contains-from_get k.trace.segments h.turned.earlier h.turned.s h.turned.first.handles.segment) h.turned.first.handles.task))
+      r.4.1
+
+  pub refutations_of : (refuted : Refutations) × AreRefutations kept refuted
+  refutations_of =
+      let before = all_listed (pair_cmp name_cmp) (pair_total name_cmp name_total) (pair_exact name_cmp name_exact) (λ p. IsRefuted (RefutesMatter (Before p.0 p.1)) kept) (λ p. refuted_decided kept (Before p.0 p.1)) (all_pairs names) before_within in
+      let exclusive = all_listed (pair_cmp name_cmp) (pair_total name_cmp name_total) (pair_exact name_cmp name_exact) (λ p. (name_cmp p.0 p.1 ≡ Less) × IsRefuted (RefutesMatter (Exclusive p.0 p.1)) kept)
+      (λ p. decided_and (less_decided (name_cmp p.0 p.1)) (refuted_decided kept (Exclusive p.0 p.1))) (all_pairs names) (λ p r. exclusive_within p r.1) in
+      let pipe = all_listed (pair_cmp (slice_cmp nat_cmp)) (pair_total (slice_cmp nat_cmp) text_total) (pair_exact (slice_cmp nat_cmp) text_exact) (λ p. IsRefuted (RefutesMatter (Pipe p.0 p.1)) kept) (λ p. refuted_decided kept (Pipe p.0 p.1)) (all_pairs tasks) pipe_within in
+      (record { before = before.0; exclusive = exclusive.0; pipe = pipe.0 }, record { before = before.1; exclusive = exclusive.1; pipe = pipe.1 })

@@ -1,0 +1,16 @@
+//! The printed certificate of a book of days, which names for each refuted relation the first trace
+//! that refutes it, and the printed check of one.
+#![tactic(auto)]
+
+mod certificate_printing;
+mod counting;
+mod kind;
+pub mod laws;
+mod numbers;
+mod row_texts;
+mod row_walks;
+mod source;
+mod verdict_printing;
+
+pub use certificate_printing::print_certificate;
+pub use verdict_printing::print_verdicts;
