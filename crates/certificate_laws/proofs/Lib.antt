@@ -1,0 +1,12 @@
+pub mod ClaimLemmas
+pub mod ContentLemmas
+pub mod DecimalLemmas
+pub mod EventLemmas
+pub mod JsonLemmas
+pub mod KeptLemmas
+pub mod ReadingLemmas
+pub mod RowLemmas
+pub mod SurvivingLemmas
+pub mod TokenLemmas
+pub mod TraceLemmas
+pub mod VerifyingLemmas

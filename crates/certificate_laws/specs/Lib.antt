@@ -1,0 +1,5 @@
+pub mod Printable
+pub mod PrintableLaws
+pub mod ReadingLaws
+pub mod SurvivingLaws
+pub mod VerifyingLaws

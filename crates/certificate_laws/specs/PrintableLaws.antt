@@ -1,0 +1,48 @@
+-- The traces that a session keeps of an input are printable: statements that laws prove.
+use Rattle.std.specs.Prelude.{◌≡◌, ℕ, ◌≤◌, List, ◌++◌, All, Ok, length, ⊤}
+use Rattle.event_lines.specs.InputLines.{lines_said}
+use Rattle.event_lines.specs.declared.line.Line.{Line}
+use Rattle.event_lines.specs.declared.line.Line.TheVariants.{Control, Event}
+use Rattle.session_rules.specs.Jobs.{jobs_of}
+use Rattle.session_rules.specs.Parts.{Part}
+use Rattle.session_rules.specs.Sessions.{Leads, State, first_state}
+use Rattle.session_rules.specs.declared.job.Job.{Job}
+use Rattle.session_rules.specs.declared.job.Job.TheVariants as jobs
+use Rattle.certificate_laws.specs.Printable.{IsPrintable}
+
+-- a control line
+abbrev pub IsControl : Line → Type 0
+IsControl (Event event) = ⊥
+IsControl (Control line command) = ⊤
+
+-- a job that adds nothing
+abbrev pub IsNoAdd : Job → Type 0
+IsNoAdd (jobs.Add events) = ⊥
+IsNoAdd (jobs.Control command) = ⊤
+IsNoAdd jobs.Summary = ⊤
+IsNoAdd (jobs.WhatIf change) = ⊤
+IsNoAdd jobs.Tail = ⊤
+IsNoAdd jobs.Why = ⊤
+IsNoAdd (jobs.Verify claims) = ⊤
+
+-- a session carries out the lines of an input, further control lines and then jobs that add
+-- nothing, and this is its last state
+pub record IsLastState (input : List ℕ) (lines : List Line) (last : State) : Type 0 where
+  pub said : lines_said input ≡ Ok lines
+  pub more : List Line
+  pub further : All IsControl more
+  pub after : List Job
+  pub no_adds : All IsNoAdd after
+  pub workers : ℕ
+  pub parts : List Part
+  pub led : Leads workers (jobs_of (lines ++ more) ++ after) first_state parts last
+
+-- the traces that are then kept are printable
+abbrev pub KeptTracesArePrintable : Type 0
+KeptTracesArePrintable = (input : List ℕ) (lines : List Line) (last : State)
+    → IsLastState input lines last → All IsPrintable last.kept
+
+-- and there are no more of them than lines
+abbrev pub FewTracesAreKept : Type 0
+FewTracesAreKept = (input : List ℕ) (lines : List Line) (last : State)
+    → IsLastState input lines last → length last.kept ≤ length lines
