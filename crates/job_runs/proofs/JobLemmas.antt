@@ -1,10 +1,13 @@
 -- A job does one thing, or it passes one limit.
-use Rattle.std.proofs.Common.{◌≡◌, ◌↔◌, ℕ, ◌+◌, ◌≤◌, List, [], ◌∷◌, take, Contains, map, Result, Ok, Err, Ordering, refl, sym, ◌∙◌, ap, subst, arith, inl, inr, AllPairs, nat_cmp}
+use Rattle.std.proofs.Common.{◌≡◌, ◌↔◌, ℕ, ◌+◌, ◌≤◌, Bool, true, false, List, [], ◌∷◌, take, Contains, map, Result, Ok, Err, Ordering, refl, sym, ◌∙◌, ap, subst, arith, inl, inr, AllPairs, nat_cmp}
 use Rattle.std.specs.List.{AllZip}
 use Rattle.std.specs.Cmp.{IsTotalOrder}
+use Rattle.std.specs.Cmp.Lexicographic.{slice_cmp}
 use Rattle.std.specs.declared.cmp.Ordering.TheVariants.{Less}
 use Rattle.std.proofs.lemmas.Bool.{cases_lt}
 use Rattle.std.proofs.lemmas.Cmp.{nat_cmp_total}
+use Rattle.certificates.specs.declared.claim.Claim.{Claim}
+use Rattle.certificates.specs.declared.matter.Matter.TheVariants as matters
 use Rattle.event_lines.specs.declared.command.Command.TheVariants as commands
 use Rattle.segment_cut.specs.Cutting.{IsCut}
 use Rattle.segment_cut.specs.Faults.{IsTraceFault}
@@ -16,18 +19,20 @@ use Rattle.segment_names.specs.declared.name_fault.NameFault.TheVariants as faul
 use Rattle.session_rules.specs.Batches.{AreJudged, IsJudged, refused_of, valid_of}
 use Rattle.session_rules.specs.KeptTraces.{Kept, by_kept, day_of}
 use Rattle.session_rules.specs.Parts.{Part, Refusals, KeptNewest}
-use Rattle.session_rules.specs.ReportTexts.{AreNamesOf}
-use Rattle.session_rules.specs.Sessions.{Adds, Does, Passes, PassesLimitOf, State, graced, report_parts, state_after, tail_parts, watch_parts}
+use Rattle.session_rules.specs.Refutations.{AreRefutations, IsVerdict, RefutesMatter, Refutations}
+use Rattle.session_rules.specs.ReportTexts.{AreKeptNames}
+use Rattle.session_rules.specs.Sessions.{Adds, Does, Passes, PassesLimitOf, State, graced, report_parts, state_after, tail_parts, verify_parts, watch_parts, why_parts}
 use Rattle.session_rules.specs.declared.job.Job.{Job}
-use Rattle.session_rules.specs.declared.job.Job.TheVariants.{Add, Control, Summary, WhatIf, Tail}
+use Rattle.session_rules.specs.declared.job.Job.TheVariants.{Add, Control, Summary, WhatIf, Tail, Why, Verify}
 use Rattle.session_rules.specs.declared.limit.Limit.{Limit}
 use Rattle.session_rules.specs.declared.limit.Limit.TheVariants.{Names, Tasks, Days}
 use Rattle.session_rules.specs.declared.refused.Refused.{Refused}
 use Rattle.trace_types.specs.Batch.{PlainTrace, traces_of}
 use Rattle.trace_types.specs.Listing.{ListsExactly}
-use Rattle.trace_types.specs.NameOrder.{name_cmp}
+use Rattle.trace_types.specs.NameOrder.{name_cmp, pair_cmp}
 use Rattle.trace_types.specs.Parts.{segments_of}
 use Rattle.trace_types.specs.Segments.{SegmentName, name_of}
+use Rattle.trace_types.specs.Surviving.{IsRefuted}
 use Rattle.trace_types.specs.declared.event.Event.{Event}
 use Rattle.trace_types.specs.declared.trace.Trace.{Trace}
 
@@ -107,6 +112,42 @@ zip_one R one (x ∷ xs) [] zs h k = absurd h
 zip_one R one (x ∷ xs) (y ∷ ys) [] h k = absurd k
 zip_one {X} {Y} R one (x ∷ xs) (y ∷ ys) (z ∷ zs) h k = ap (λ (e : Y). e ∷ ys) (one x y z h.0 k.0) ∙ ap (λ (es : List Y). z ∷ es) (zip_one R one xs ys zs h.1 k.1)
 
+-- what is cited of lists that a job prints
+pub record OneListing : Type 0 where
+  pub days : OneRisingList ℕ
+  pub names : OneRisingList SegmentName
+  pub pairs : OneRisingList (SegmentName × SegmentName)
+  pub tasks : OneRisingList (List ℕ × List ℕ)
+  pub name_order : IsTotalOrder name_cmp
+  pub pair_order : IsTotalOrder (pair_cmp name_cmp)
+  pub task_order : IsTotalOrder (pair_cmp (slice_cmp nat_cmp))
+
+-- ---- certificates
+
+refutations_one : (told : OneListing) (kept : List Kept) (r q : Refutations) → AreRefutations kept r → AreRefutations kept q → r ≡ q
+refutations_one told kept r q h k =
+    ap (λ (xs : List (SegmentName × SegmentName)). record { before = xs; exclusive = r.exclusive; pipe = r.pipe }) before
+    ∙ ap (λ (xs : List (SegmentName × SegmentName)). record { before = q.before; exclusive = xs; pipe = r.pipe }) exclusive
+    ∙ ap (λ (xs : List (List ℕ × List ℕ)). record { before = q.before; exclusive = q.exclusive; pipe = xs }) pipe
+  where
+    before : r.before ≡ q.before
+    before = one_listed told.pairs (pair_cmp name_cmp) (λ (pair : SegmentName × SegmentName). IsRefuted (RefutesMatter (matters.Before pair.0 pair.1)) kept) r.before q.before told.pair_order h.before k.before
+
+    exclusive : r.exclusive ≡ q.exclusive
+    exclusive = one_listed told.pairs (pair_cmp name_cmp) (λ (pair : SegmentName × SegmentName). (name_cmp pair.0 pair.1 ≡ Less) × IsRefuted (RefutesMatter (matters.Exclusive pair.0 pair.1)) kept) r.exclusive q.exclusive told.pair_order h.exclusive k.exclusive
+
+    pipe : r.pipe ≡ q.pipe
+    pipe = one_listed told.tasks (pair_cmp (slice_cmp nat_cmp)) (λ (pair : List ℕ × List ℕ). IsRefuted (RefutesMatter (matters.Pipe pair.0 pair.1)) kept) r.pipe q.pipe told.task_order h.pipe k.pipe
+
+verdict_one : (kept : List Kept) (claim : Claim) (v w : Bool) → IsVerdict kept claim v → IsVerdict kept claim w → v ≡ w
+verdict_one kept claim true true h k = refl
+verdict_one kept claim true false h k = sym (k.1 (h.0 refl))
+verdict_one kept claim false true h k = h.1 (k.0 refl)
+verdict_one kept claim false false h k = refl
+
+verdicts_one : (kept : List Kept) (claims : List Claim) (vs ws : List Bool) → AllZip (IsVerdict kept) claims vs → AllZip (IsVerdict kept) claims ws → vs ≡ ws
+verdicts_one kept = zip_one (IsVerdict kept) (verdict_one kept)
+
 -- ---- jobs
 
 module _ (verdict : OneVerdict) where
@@ -130,6 +171,8 @@ module _ (verdict : OneVerdict) where
   no_limit w Summary s next parts limit h k = absurd k
   no_limit w (WhatIf change) s next parts limit h k = absurd k
   no_limit w Tail s next parts limit h k = absurd k
+  no_limit w Why s next parts limit h k = absurd k
+  no_limit w (Verify claims) s next parts limit h k = absurd k
 
   -- a job passes one limit
   pub one_limit : (job : Job) (s : State) (l m : Limit) → Passes job s l → Passes job s m → l ≡ m
@@ -140,8 +183,10 @@ module _ (verdict : OneVerdict) where
   one_limit Summary s l m h k = absurd h
   one_limit (WhatIf change) s l m h k = absurd h
   one_limit Tail s l m h k = absurd h
+  one_limit Why s l m h k = absurd h
+  one_limit (Verify claims) s l m h k = absurd h
 
-  module _ (listed : OneRisingList ℕ) (names : OneRisingList SegmentName) (order : IsTotalOrder name_cmp) where
+  module _ (told : OneListing) where
     adds_one : (w : ℕ) (events : List Event) (s next other : State) (parts others : List Part) → Adds w events s parts next → Adds w events s others other → (parts ≡ others) × (next ≡ other)
     adds_one w events s next other parts others h k = (
       h.printed ∙ ap (λ (r : List Refused). Refusals r ∷ watch_parts s.watch w (graced s h.valid) h.days) same.1
@@ -154,10 +199,10 @@ module _ (verdict : OneVerdict) where
         same = judged_one (traces_of events) h.valid k.valid h.refused k.refused h.judged k.judged
 
         days : h.days ≡ k.days
-        days = one_listed listed nat_cmp (Contains (map day_of (graced s k.valid))) h.days k.days nat_cmp_total (subst (λ (v : List Trace). ListsExactly nat_cmp (Contains (map day_of (graced s v))) h.days) same.0 h.days_are) k.days_are
+        days = one_listed told.days nat_cmp (Contains (map day_of (graced s k.valid))) h.days k.days nat_cmp_total (subst (λ (v : List Trace). ListsExactly nat_cmp (Contains (map day_of (graced s v))) h.days) same.0 h.days_are) k.days_are
 
-    names_one : (kept : List Kept) (xs ys : List SegmentName) → AreNamesOf kept xs → AreNamesOf kept ys → xs ≡ ys
-    names_one kept xs ys h k = one_listed names name_cmp (Contains (map name_of (segments_of by_kept kept))) xs ys order h k
+    names_one : (kept : List Kept) (xs ys : List SegmentName) → AreKeptNames kept xs → AreKeptNames kept ys → xs ≡ ys
+    names_one kept xs ys h k = one_listed told.names name_cmp (Contains (map name_of (segments_of by_kept kept))) xs ys told.name_order h k
 
     -- a job that is carried out does one thing
     pub does_one : (w : ℕ) (job : Job) (s next other : State) (parts others : List Part) → Does w job s parts next → Does w job s others other → (parts ≡ others) × (next ≡ other)
@@ -177,3 +222,5 @@ module _ (verdict : OneVerdict) where
     does_one w Summary s next other parts others h k = (h.1 ∙ sym k.1, h.0 ∙ sym k.0)
     does_one w (WhatIf change) s next other parts others h k = (h.1 ∙ sym k.1, h.0 ∙ sym k.0)
     does_one w Tail s next other parts others h k = (h.1.2 ∙ ap (tail_parts s.kept) (names_one s.kept h.1.0 k.1.0 h.1.1 k.1.1) ∙ sym k.1.2, h.0 ∙ sym k.0)
+    does_one w Why s next other parts others h k = (h.1.2 ∙ ap (why_parts s.kept) (refutations_one told s.kept h.1.0 k.1.0 h.1.1 k.1.1) ∙ sym k.1.2, h.0 ∙ sym k.0)
+    does_one w (Verify claims) s next other parts others h k = (h.1.2 ∙ ap (verify_parts claims) (verdicts_one s.kept claims h.1.0 k.1.0 h.1.1 k.1.1) ∙ sym k.1.2, h.0 ∙ sym k.0)

@@ -1,3 +1,4 @@
+mod CertificateTextLemmas
 mod EndingLemmas
 mod ForecastTextLemmas
 mod JobLemmas

@@ -6,7 +6,7 @@ use Rattle.std.specs.Ordering.{nat_cmp}
 use Rattle.model_meet.specs.Pipes.{IsPipeline}
 use Rattle.session_rules.specs.KeptTraces.{Kept, by_kept, day_of}
 use Rattle.session_rules.specs.ModelTexts.{AreFigures, Figures, IsModelHead, IsModelText, header_row, model_text}
-use Rattle.session_rules.specs.Parts.{AreWatchRows, Part, IsPart, Refusals, Watched, Dropped, KeptNewest, ModelOf, Header, PathOf, SlacksOf, GraphOf, ModelHead, ReportHead, LatenciesOf, SegmentOf, TailHead, TailOf, ForecastHead, ForecastOf}
+use Rattle.session_rules.specs.Parts.{AreWatchRows, Part, IsPart, Refusals, Watched, Dropped, KeptNewest, ModelOf, Header, PathOf, SlacksOf, GraphOf, ModelHead, ReportHead, LatenciesOf, SegmentOf, TailHead, TailOf, ForecastHead, ForecastOf, WhyHead, RefutedOf, Verdict, Verified}
 use Rattle.slow_tail.specs.SlowLaws.{PathsAreOne}
 use Rattle.text_rows.specs.TextsOfParts.{AreTexts}
 use Rattle.trace_graph.specs.TraceGraphs.{HasOneGraph}
@@ -17,6 +17,7 @@ use Rattle.trace_types.specs.Relations.{HappensBefore, ExcludesUnordered}
 use Rattle.trace_types.specs.Segments.{SegmentName, name_of, task_of}
 use Rattle.job_runs.specs.WatchLaws.{AreAlikeByPart, AreSameRows, IsAlike}
 use Rattle.job_runs.proofs.JobLemmas.{OneRisingList, one_listed}
+use Rattle.job_runs.proofs.CertificateTextLemmas.{refuted_one}
 use Rattle.job_runs.proofs.ForecastTextLemmas.{forecast_head_one, forecast_row_one}
 use Rattle.job_runs.proofs.ReportTextLemmas.{latencies_one, report_head_one, segment_one, tail_head_one, tail_one}
 use Rattle.job_runs.proofs.TraceTextLemmas.{graph_one, path_one, slacks_one}
@@ -93,6 +94,10 @@ module _ (told : OneTelling) where
   part_one (TailOf kept name) t u h k = tail_one told.paths kept name t u h k
   part_one (ForecastHead change kept) t u h k = forecast_head_one told.graphs change kept t u h k
   part_one (ForecastOf change kept trace) t u h k = forecast_row_one told.graphs change kept trace t u h k
+  part_one (WhyHead traces refuted) t u h k = h ∙ sym k
+  part_one (RefutedOf kept matter) t u h k = refuted_one kept matter t u h k
+  part_one (Verdict verdict line) t u h k = h ∙ sym k
+  part_one (Verified shown claims) t u h k = h ∙ sym k
 
   pub parts_one : (parts : List Part) (t u : List ℕ) → AreTexts IsPart parts t → AreTexts IsPart parts u → AreAlikeByPart parts t u
   parts_one [] t u h k = (h, k)

@@ -34,7 +34,10 @@ pub fn a_job_does_one_thing()
     a_trace_has_one_verdict();
     a_list_is_told_in_one_way::<u32>();
     a_list_is_told_in_one_way::<NameText>();
+    a_list_is_told_in_one_way::<(NameText, NameText)>();
+    a_list_is_told_in_one_way::<(Text, Text)>();
     names_are_totally_ordered::<NameText>();
+    names_are_totally_ordered::<Text>();
 }
 
 /// Jobs are carried out to their end or stop at one limit, and two texts of the one or the other

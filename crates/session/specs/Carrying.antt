@@ -11,6 +11,7 @@ use Rattle.session_rules.specs.Parts.{Part, IsPart}
 use Rattle.session_rules.specs.Sessions.{Does, Passes, State}
 use Rattle.session_rules.specs.declared.job.Job.{Job}
 use Rattle.session_rules.specs.declared.job.Job.TheVariants.{Add, Control, Summary, WhatIf, Tail}
+use Rattle.session_rules.specs.declared.job.Job.TheVariants.{Why, Verify}
 use Rattle.session_rules.specs.declared.limit.Limit.TheVariants.{Names, Tasks, Days}
 use Rattle.text_rows.specs.TextsOfParts.{AreTexts}
 use Rattle.text_rows.specs.declared.print_fault.PrintFault.{PrintFault}
@@ -36,6 +37,8 @@ requests_in (Control command) = 0
 requests_in Summary = 0
 requests_in (WhatIf change) = 0
 requests_in Tail = 0
+requests_in Why = 0
+requests_in (Verify claims) = 0
 
 -- a session carries out the command: an add is a job of its own
 abbrev pub IsReadyCommand : asked.Command → Type 0
@@ -51,13 +54,16 @@ IsReadyCommand commands.Report = ⊤
 IsReadyCommand commands.Graph = ⊤
 
 -- a session carries out the job: the lines of the events that it adds rise, and their times are
--- within the limit; a change that it forecasts takes no time or some, at most as much as now
+-- within the limit; a change that it forecasts takes no time or some, at most as much as now; the
+-- claims that it verifies are fewer than 4,294,967,296
 abbrev pub IsReady : Job → Type 0
 IsReady (Add events) = LinesRise events × AreTimely events × (length events < 2 ^ 32)
 IsReady (Control command) = IsReadyCommand command
 IsReady Summary = ⊤
 IsReady (WhatIf change) = (0 < change.den) × (change.num ≤ change.den)
 IsReady Tail = ⊤
+IsReady Why = ⊤
+IsReady (Verify claims) = length claims < 2 ^ 32
 
 -- a job was carried out from this state: the session shows the state after it, and a text of its
 -- parts was written

@@ -120,7 +120,7 @@ impl Session {
         add_leads_on();
         add_passes_days();
         add_is_told();
-        let judged = judge_batch(self.alloc, events.into_items())?;
+        let judged = judge_batch(rt, self.alloc, events.into_items(), self.workers)?;
         let mut session = self.add_names(&judged.valid)?;
         let watched = session.add_days(rt, judged.valid, gate)?;
         Ok(AddedBatch {

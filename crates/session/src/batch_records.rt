@@ -34,7 +34,8 @@ pub fn record_batch<R: Threads + Sync, G: Gate + Sync>(
         (graced_by grace valid.items) r.sheets.items r.watched.items) }
 {
     watch_lines_are_told_by_text();
-    let named = name_all(alloc, catalogue, valid, 1000 * u64::from(grace))?;
+    let nanos = 1000 * u64::from(grace);
+    let named = name_all(rt, alloc, catalogue, valid, nanos, workers)?;
     let days = list_days(alloc, &named)?;
     let split = split_by_day(alloc, named, &days)?;
     record_days(rt, alloc, catalogue.names(), workers, watch, split, gate)

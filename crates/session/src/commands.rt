@@ -4,7 +4,7 @@ ghost use Rattle.session_rules.specs.declared.job.Job.TheVariants as jobs;
 ghost use Rattle.session.specs.Carrying.{CarriesOut, HasCommandCause, IsLimitFault, IsReady};
 ghost use Rattle.session.specs.Carrying.{command_faults, kept_count, requests_in};
 ghost use Rattle.session.specs.SessionStates.{Shows};
-ghost use Rattle.session.specs.inner.Steps.{AddsNothing};
+ghost use Rattle.session.specs.inner.Steps.{IsNoAdd};
 
 use crate::added_text::print_added;
 use crate::{CommandFault, Job, Session};
@@ -25,7 +25,7 @@ impl Session {
         out: &mut S,
     ) -> Result<Session, CommandFault>
         requires ready { IsReady job }
-        requires printed { AddsNothing job }
+        requires no_add { IsNoAdd job }
         ensures carried { IfOk result (λ session. (s : State) → Shows self s
             → CarriesOut self.workers job s session (S.written out.old) (S.written out.new)) }
         ensures workers { IfOk result (λ session. session.workers ≡ self.workers) }

@@ -1,10 +1,12 @@
 ghost use Rattle.std.specs.Prelude.{◌≡◌, ◌≤◌};
 ghost use Rattle.session_rules.specs.declared.job.Job.TheVariants as jobs;
 ghost use Rattle.session.specs.Carrying.{IsReady, IsReadyCommand, kept_count};
-ghost use Rattle.session.specs.inner.Steps.{AddsNothing, PrintsSteps};
+ghost use Rattle.session.specs.inner.Steps.{IsNoAdd, PrintsSteps};
 ghost use Rattle.text_rows.specs.Printing.{print_faults};
 
 use crate::{Job, Session};
+use certificate_rows::laws::{claims_have_verdicts, refutations_are_listed};
+use certificate_rows::{print_certificate, print_verdicts};
 use event_lines::Command;
 use forecast_rows::print_forecasts;
 use kept_books::laws::names_are_listed;
@@ -66,7 +68,7 @@ impl Session {
         buffer: &mut RowBuffer,
     ) -> Result<(), PrintFault>
         requires ready { IsReady job }
-        requires printed { AddsNothing job }
+        requires no_add { IsNoAdd job }
         ensures stepped { PrintsSteps S.written S.faults result sink.old sink.new job self.old
             self.new buffer.old buffer.new }
         ensures workers { self.new.workers ≡ self.old.workers }
@@ -74,6 +76,8 @@ impl Session {
         ensures counted { S.faults sink.new ≡ print_faults result (S.faults sink.old) }
     {
         names_are_listed();
+        refutations_are_listed();
+        claims_have_verdicts();
         match job {
             Job::Add { .. } => unreachable!(),
             Job::Control { command } => self.print_command(rt, command, sink, buffer),
@@ -90,6 +94,10 @@ impl Session {
                 buffer,
             ),
             Job::Tail => print_tail(rt, self.alloc, &self.book, &self.catalogue, sink, buffer),
+            Job::Why => print_certificate(self.alloc, &self.book, &self.catalogue, sink, buffer),
+            Job::Verify { claims } => {
+                print_verdicts(&self.book, &self.catalogue, claims.items(), sink, buffer)
+            }
         }
     }
 }

@@ -2,7 +2,7 @@
 //! `Session::command`, which carries out one job and writes its text. An add cuts a batch of events
 //! into traces, names them, records them by many workers and adds their days to the book, all or
 //! none; the other jobs drop days, set a number or print what the kept traces leave: their model,
-//! their paths, slacks and graphs, reports on them, and forecasts.
+//! their paths, slacks and graphs, reports on them, forecasts, and certificates and their check.
 #![tactic(auto)]
 
 mod add_fault;

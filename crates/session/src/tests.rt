@@ -3,6 +3,7 @@ ghost use Rattle.session.specs.Carrying.{IsReady, IsReadyCommand, requests_in};
 ghost use Rattle.trace_types.specs.Times.{AreTimely};
 
 use crate::{CommandFault, Job, Session};
+use certificates::{Claim, ClaimList, Matter};
 use event_lines::{Command, lines_rise};
 use mystery_io::{MemSink, OpenGate, Sink};
 use session_rules::NamedChange;
@@ -14,11 +15,12 @@ use trace_types::{Event, EventList, NameText, Text};
 /// A day in nanoseconds.
 const DAY: u64 = 86_400_000_000_000;
 
-/// Makes an event of the one task.
+/// Makes an event of the one machine.
 fn event(
     alloc: Global,
     line: u32,
     request: &str,
+    task: &str,
     name: &str,
     time: u64,
 ) -> Result<Event, AllocError> {
@@ -26,7 +28,7 @@ fn event(
         line,
         request: Text::new(alloc, request)?,
         machine: Text::new(alloc, "m")?,
-        task: Text::new(alloc, "a")?,
+        task: Text::new(alloc, task)?,
         event: Text::new(alloc, name)?,
         time,
         send: None,
@@ -91,6 +93,51 @@ fn control<R: Threads + Sync, S: Sink>(
     carry_out(rt, session, Job::Control { command }, out)
 }
 
+/// Verifies claims, or answers `Memory` where there are many.
+fn verify<R: Threads + Sync, S: Sink>(
+    rt: &R,
+    session: Session,
+    claims: Vec<Claim>,
+    out: &mut S,
+) -> Result<Session, CommandFault> {
+    if claims.len() > 1000 {
+        return Err(CommandFault::Memory);
+    }
+    let claims = ClaimList::of(claims);
+    carry_out(rt, session, Job::Verify { claims }, out)
+}
+
+/// Makes the name of the segments of a task from `s` to `e`.
+fn name(alloc: Global, task: &str) -> Result<NameText, AllocError> {
+    Ok(NameText {
+        task: Text::new(alloc, task)?,
+        start: Text::new(alloc, "s")?,
+        end: Text::new(alloc, "e")?,
+    })
+}
+
+/// Makes the claim that a trace of the day 0 refutes that the one task's segment happens before the
+/// other's.
+fn claim(
+    alloc: Global,
+    line: u32,
+    first: &str,
+    second: &str,
+    index: u32,
+    request: &str,
+) -> Result<Claim, AllocError> {
+    Ok(Claim {
+        line,
+        matter: Matter::Before {
+            first: name(alloc, first)?,
+            second: name(alloc, second)?,
+        },
+        day: 0,
+        index,
+        request: Text::new(alloc, request)?,
+    })
+}
+
 /// Makes the events of two traces on the days 1 and 2, and of a third that has an event twice.
 fn batch(alloc: Global) -> Result<Vec<Event>, AllocError> {
     let mut events = Vec::new(alloc);
@@ -102,7 +149,26 @@ fn batch(alloc: Global) -> Result<Vec<Event>, AllocError> {
         (5, "r3", "s", 2 * DAY),
         (6, "r3", "s", 2 * DAY + 10_000),
     ] {
-        events.push(event(alloc, line, request, name, time)?)?;
+        events.push(event(alloc, line, request, "a", name, time)?)?;
+    }
+    Ok(events)
+}
+
+/// Makes the events of two traces on the day 0, of two tasks: `a` comes first in the one, and `b`
+/// in the other.
+fn turned_batch(alloc: Global) -> Result<Vec<Event>, AllocError> {
+    let mut events = Vec::new(alloc);
+    for (line, request, task, name, time) in [
+        (1, "r1", "a", "s", 0),
+        (2, "r1", "a", "e", 10_000),
+        (3, "r1", "b", "s", 20_000),
+        (4, "r1", "b", "e", 30_000),
+        (5, "r2", "b", "s", 0),
+        (6, "r2", "b", "e", 10_000),
+        (7, "r2", "a", "s", 20_000),
+        (8, "r2", "a", "e", 30_000),
+    ] {
+        events.push(event(alloc, line, request, task, name, time)?)?;
     }
     Ok(events)
 }
@@ -150,13 +216,8 @@ fn a_session_reports_and_forecasts(rt: HostRuntime) -> Result<(), Fail> {
     let mut out = MemSink::new(alloc, 100, Vec::new(alloc), 1000)?;
     let mut session = Session::new(alloc, 1)?;
     session = add(&rt, session, batch(alloc)?, &mut out)?;
-    let name = NameText {
-        task: Text::new(alloc, "a")?,
-        start: Text::new(alloc, "s")?,
-        end: Text::new(alloc, "e")?,
-    };
     let change = NamedChange {
-        name,
+        name: name(alloc, "a")?,
         num: 1,
         den: 4,
     };
@@ -184,6 +245,35 @@ fn a_session_reports_and_forecasts(rt: HostRuntime) -> Result<(), Fail> {
 }
 
 #[test]
+fn a_session_certifies_and_verifies(rt: HostRuntime) -> Result<(), Fail> {
+    let alloc = rt.alloc();
+    let mut out = MemSink::new(alloc, 100, Vec::new(alloc), 1000)?;
+    let mut session = Session::new(alloc, 1)?;
+    session = add(&rt, session, turned_batch(alloc)?, &mut out)?;
+    session = carry_out(&rt, session, Job::Why, &mut out)?;
+    let mut claims = Vec::new(alloc);
+    claims.push(claim(alloc, 2, "a", "b", 1, "r2")?)?;
+    claims.push(claim(alloc, 3, "b", "a", 0, "r1")?)?;
+    session = verify(&rt, session, claims, &mut out)?;
+    let mut claims = Vec::new(alloc);
+    claims.push(claim(alloc, 7, "a", "b", 0, "r1")?)?;
+    let _session = verify(&rt, session, claims, &mut out)?;
+    assert_eq!(rt;
+        out.bytes(),
+        b"why\ttraces=2\trefuted=2\n\
+          refuted\tbefore\ta\ts\te\tb\ts\te\t0\t1\tr2\n\
+          refuted\tbefore\tb\ts\te\ta\ts\te\t0\t0\tr1\n\
+          shown\t2\n\
+          shown\t3\n\
+          verified\t2\t2\n\
+          not shown\t7\n\
+          verified\t0\t1\n"
+            .as_slice()
+    );
+    Ok(())
+}
+
+#[test]
 fn an_add_of_65_days_writes_nothing(rt: HostRuntime) -> Result<(), Fail> {
     let alloc = rt.alloc();
     let mut out = MemSink::new(alloc, 100, Vec::new(alloc), 1000)?;
@@ -191,8 +281,8 @@ fn an_add_of_65_days_writes_nothing(rt: HostRuntime) -> Result<(), Fail> {
     for day in 0..65u32 {
         let request = format!(in alloc; "r{day}")?;
         let time = u64::from(day) * DAY;
-        events.push(event(alloc, 2 * day + 1, request.as_str(), "s", time)?)?;
-        events.push(event(alloc, 2 * day + 2, request.as_str(), "e", time + 5_000)?)?;
+        events.push(event(alloc, 2 * day + 1, request.as_str(), "a", "s", time)?)?;
+        events.push(event(alloc, 2 * day + 2, request.as_str(), "a", "e", time + 5_000)?)?;
     }
     let session = Session::new(alloc, 2)?;
     let fault = add(&rt, session, events, &mut out).err();
