@@ -1,19 +1,21 @@
--- Arguments and an input decide how a run ends that meets no fault and finds memory.
-use Rattle.std.proofs.Common.{◌≡◌, ◌⊎◌, ℕ, List, Option, Some, None, arith, refl, sym, ◌∙◌, ap, subst, inl, inr}
+-- Arguments, a certificate and an input decide how a run ends that meets no fault and finds memory.
+use Rattle.std.proofs.Common.{◌≡◌, ◌⊎◌, ℕ, List, Option, Some, None, refl, sym, ◌∙◌, ap, subst, inl, inr}
 use Rattle.std.specs.Prelude.{IfSome, Result, Ok, Err}
 use Rattle.session_rules.specs.declared.limit.Limit.{Limit}
 use Rattle.mystery_cli.specs.declared.outcome.Outcome.{Outcome}
 use Rattle.mystery_cli.specs.declared.outcome.Outcome.TheVariants.{Done, Memory, Arguments, BadLine, File, Write, Size, Over}
-use Rattle.mystery_cli.specs.CommandLines.{Call, call_of, files_of}
+use Rattle.mystery_cli.specs.CommandLines.{Call, call_of, certificate_of, files_of}
 use Rattle.mystery_cli.specs.Endings.{CallEnds, Ends, EndsAt, IsDecided, Writes}
 use Rattle.mystery_cli.specs.Messages.{status_of}
-use Rattle.mystery_cli.specs.Runs.{OfInput, told_input}
+use Rattle.mystery_cli.specs.Readings.{told_input}
+use Rattle.mystery_cli.specs.Runs.{OfInputs}
 use Rattle.mystery_cli.specs.Texts.{IsTextOf, IsTextUpTo}
 use Rattle.mystery_cli.specs.Works.{BadInput, Work, Jobs, Steps, work_said}
+use Rattle.mystery_cli.proofs.ReadingLemmas.{size_apart}
 use Rattle.job_runs.specs.EndingLaws.{AreAlike, JobsStopAtOneLimit, TextsToLimitAreAlike, WholeStopsAtNoLimit, WholeTextsAreAlike}
 use Rattle.job_runs.specs.WatchLaws.{AlikeTextsDifferInNumbers, DifferInWatchNumbers}
 
--- what an input said is one thing
+-- what a certificate and an input said is one thing
 one_work : (said : Result Work BadInput) (a b : Work) → said ≡ Ok a → said ≡ Ok b → b ≡ a
 one_work said a b e f = cc
 
@@ -36,114 +38,116 @@ module _ (whole : WholeStopsAtNoLimit) (one : JobsStopAtOneLimit) where
   one_limit workers (Jobs jobs) limit other t u h k = one workers jobs limit other t u h k
   one_limit workers (Steps file) limit other t u h k = absurd h
 
-  done_over : (call : Call) (input : List ℕ) (limit : Limit) (t u : List ℕ) → CallEnds call input Done t → CallEnds call input (Over limit) u → ⊥
-  done_over call input limit t u h k =
-      let same : k.1.0 ≡ h.1.0 = one_work (work_said call.action input) h.1.0 k.1.0 h.1.1 k.1.1 in
+  done_over : (call : Call) (cert input : List ℕ) (limit : Limit) (t u : List ℕ) → CallEnds call cert input Done t → CallEnds call cert input (Over limit) u → ⊥
+  done_over call cert input limit t u h k =
+      let same : k.1.0 ≡ h.1.0 = one_work (work_said call.action cert input) h.1.0 k.1.0 h.1.1 k.1.1 in
       done_not_over call.workers h.1.0 limit t u h.1.2 (subst (λ w. IsTextUpTo call.workers w limit u) same k.1.2)
 
-  over_over : (call : Call) (input : List ℕ) (limit other : Limit) (t u : List ℕ) → CallEnds call input (Over limit) t → CallEnds call input (Over other) u → limit ≡ other
-  over_over call input limit other t u h k =
-      let same : k.1.0 ≡ h.1.0 = one_work (work_said call.action input) h.1.0 k.1.0 h.1.1 k.1.1 in
+  over_over : (call : Call) (cert input : List ℕ) (limit other : Limit) (t u : List ℕ) → CallEnds call cert input (Over limit) t → CallEnds call cert input (Over other) u → limit ≡ other
+  over_over call cert input limit other t u h k =
+      let same : k.1.0 ≡ h.1.0 = one_work (work_said call.action cert input) h.1.0 k.1.0 h.1.1 k.1.1 in
       one_limit call.workers h.1.0 limit other t u h.1.2 (subst (λ w. IsTextUpTo call.workers w other u) same k.1.2)
 
-  -- two endings of a call over an input that no fault decides are one
-  one_call_ending : (call : Call) (input : List ℕ) (o p : Outcome) (t u : List ℕ) → IsDecided o → IsDecided p → CallEnds call input o t → CallEnds call input p u → o ≡ p
-  one_call_ending call input Done Done t u d e h k = refl
-  one_call_ending call input Done (Over m) t u d e h k = absurd (done_over call input m t u h k)
-  one_call_ending call input Done Arguments t u d e h k = absurd k
-  one_call_ending call input Done (BadLine m v) t u d e h k = absurd (not_both (work_said call.action input) _ h.1.0 k.1 h.1.1)
-  one_call_ending call input Done Size t u d e h k = absurd (omega (arith, h.0, k.0))
-  one_call_ending call input Done Memory t u d e h k = absurd e
-  one_call_ending call input Done (File j) t u d e h k = absurd e
-  one_call_ending call input Done Write t u d e h k = absurd e
-  one_call_ending call input (Over l) Done t u d e h k = absurd (done_over call input l u t k h)
-  one_call_ending call input (Over l) (Over m) t u d e h k = ap Over (over_over call input l m t u h k)
-  one_call_ending call input (Over l) Arguments t u d e h k = absurd k
-  one_call_ending call input (Over l) (BadLine m v) t u d e h k = absurd (not_both (work_said call.action input) _ h.1.0 k.1 h.1.1)
-  one_call_ending call input (Over l) Size t u d e h k = absurd (omega (arith, h.0, k.0))
-  one_call_ending call input (Over l) Memory t u d e h k = absurd e
-  one_call_ending call input (Over l) (File j) t u d e h k = absurd e
-  one_call_ending call input (Over l) Write t u d e h k = absurd e
-  one_call_ending call input Arguments Done t u d e h k = absurd h
-  one_call_ending call input Arguments (Over m) t u d e h k = absurd h
-  one_call_ending call input Arguments Arguments t u d e h k = absurd h
-  one_call_ending call input Arguments (BadLine m v) t u d e h k = absurd h
-  one_call_ending call input Arguments Size t u d e h k = absurd h
-  one_call_ending call input Arguments Memory t u d e h k = absurd e
-  one_call_ending call input Arguments (File j) t u d e h k = absurd e
-  one_call_ending call input Arguments Write t u d e h k = absurd e
-  one_call_ending call input (BadLine l w) Done t u d e h k = absurd (not_both (work_said call.action input) _ k.1.0 h.1 k.1.1)
-  one_call_ending call input (BadLine l w) (Over m) t u d e h k = absurd (not_both (work_said call.action input) _ k.1.0 h.1 k.1.1)
-  one_call_ending call input (BadLine l w) Arguments t u d e h k = absurd k
-  one_call_ending call input (BadLine l w) (BadLine m v) t u d e h k = one_bad (work_said call.action input) (record { line = l; why = w }) (record { line = m; why = v }) h.1 k.1
-  one_call_ending call input (BadLine l w) Size t u d e h k = absurd (omega (arith, h.0, k.0))
-  one_call_ending call input (BadLine l w) Memory t u d e h k = absurd e
-  one_call_ending call input (BadLine l w) (File j) t u d e h k = absurd e
-  one_call_ending call input (BadLine l w) Write t u d e h k = absurd e
-  one_call_ending call input Size Done t u d e h k = absurd (omega (arith, h.0, k.0))
-  one_call_ending call input Size (Over m) t u d e h k = absurd (omega (arith, h.0, k.0))
-  one_call_ending call input Size Arguments t u d e h k = absurd k
-  one_call_ending call input Size (BadLine m v) t u d e h k = absurd (omega (arith, h.0, k.0))
-  one_call_ending call input Size Size t u d e h k = refl
-  one_call_ending call input Size Memory t u d e h k = absurd e
-  one_call_ending call input Size (File j) t u d e h k = absurd e
-  one_call_ending call input Size Write t u d e h k = absurd e
-  one_call_ending call input Memory Done t u d e h k = absurd d
-  one_call_ending call input Memory (Over m) t u d e h k = absurd d
-  one_call_ending call input Memory Arguments t u d e h k = absurd d
-  one_call_ending call input Memory (BadLine m v) t u d e h k = absurd d
-  one_call_ending call input Memory Size t u d e h k = absurd d
-  one_call_ending call input Memory Memory t u d e h k = absurd d
-  one_call_ending call input Memory (File j) t u d e h k = absurd d
-  one_call_ending call input Memory Write t u d e h k = absurd d
-  one_call_ending call input (File i) Done t u d e h k = absurd d
-  one_call_ending call input (File i) (Over m) t u d e h k = absurd d
-  one_call_ending call input (File i) Arguments t u d e h k = absurd d
-  one_call_ending call input (File i) (BadLine m v) t u d e h k = absurd d
-  one_call_ending call input (File i) Size t u d e h k = absurd d
-  one_call_ending call input (File i) Memory t u d e h k = absurd d
-  one_call_ending call input (File i) (File j) t u d e h k = absurd d
-  one_call_ending call input (File i) Write t u d e h k = absurd d
-  one_call_ending call input Write Done t u d e h k = absurd d
-  one_call_ending call input Write (Over m) t u d e h k = absurd d
-  one_call_ending call input Write Arguments t u d e h k = absurd d
-  one_call_ending call input Write (BadLine m v) t u d e h k = absurd d
-  one_call_ending call input Write Size t u d e h k = absurd d
-  one_call_ending call input Write Memory t u d e h k = absurd d
-  one_call_ending call input Write (File j) t u d e h k = absurd d
-  one_call_ending call input Write Write t u d e h k = absurd d
+  -- two endings of a call over a certificate and an input that no fault decides are one
+  one_call_ending : (call : Call) (cert input : List ℕ) (o p : Outcome) (t u : List ℕ) → IsDecided o → IsDecided p → CallEnds call cert input o t → CallEnds call cert input p u → o ≡ p
+  one_call_ending call cert input Done Done t u d e h k = refl
+  one_call_ending call cert input Done (Over m) t u d e h k = absurd (done_over call cert input m t u h k)
+  one_call_ending call cert input Done Arguments t u d e h k = absurd k
+  one_call_ending call cert input Done (BadLine m v) t u d e h k = absurd (not_both (work_said call.action cert input) _ h.1.0 k.1 h.1.1)
+  one_call_ending call cert input Done Size t u d e h k = absurd (size_apart cert input h.0 k.0)
+  one_call_ending call cert input Done Memory t u d e h k = absurd e
+  one_call_ending call cert input Done (File j) t u d e h k = absurd e
+  one_call_ending call cert input Done Write t u d e h k = absurd e
+  one_call_ending call cert input (Over l) Done t u d e h k = absurd (done_over call cert input l u t k h)
+  one_call_ending call cert input (Over l) (Over m) t u d e h k = ap Over (over_over call cert input l m t u h k)
+  one_call_ending call cert input (Over l) Arguments t u d e h k = absurd k
+  one_call_ending call cert input (Over l) (BadLine m v) t u d e h k = absurd (not_both (work_said call.action cert input) _ h.1.0 k.1 h.1.1)
+  one_call_ending call cert input (Over l) Size t u d e h k = absurd (size_apart cert input h.0 k.0)
+  one_call_ending call cert input (Over l) Memory t u d e h k = absurd e
+  one_call_ending call cert input (Over l) (File j) t u d e h k = absurd e
+  one_call_ending call cert input (Over l) Write t u d e h k = absurd e
+  one_call_ending call cert input Arguments Done t u d e h k = absurd h
+  one_call_ending call cert input Arguments (Over m) t u d e h k = absurd h
+  one_call_ending call cert input Arguments Arguments t u d e h k = absurd h
+  one_call_ending call cert input Arguments (BadLine m v) t u d e h k = absurd h
+  one_call_ending call cert input Arguments Size t u d e h k = absurd h
+  one_call_ending call cert input Arguments Memory t u d e h k = absurd e
+  one_call_ending call cert input Arguments (File j) t u d e h k = absurd e
+  one_call_ending call cert input Arguments Write t u d e h k = absurd e
+  one_call_ending call cert input (BadLine l w) Done t u d e h k = absurd (not_both (work_said call.action cert input) _ k.1.0 h.1 k.1.1)
+  one_call_ending call cert input (BadLine l w) (Over m) t u d e h k = absurd (not_both (work_said call.action cert input) _ k.1.0 h.1 k.1.1)
+  one_call_ending call cert input (BadLine l w) Arguments t u d e h k = absurd k
+  one_call_ending call cert input (BadLine l w) (BadLine m v) t u d e h k = one_bad (work_said call.action cert input) (record { line = l; why = w }) (record { line = m; why = v }) h.1 k.1
+  one_call_ending call cert input (BadLine l w) Size t u d e h k = absurd (size_apart cert input h.0 k.0)
+  one_call_ending call cert input (BadLine l w) Memory t u d e h k = absurd e
+  one_call_ending call cert input (BadLine l w) (File j) t u d e h k = absurd e
+  one_call_ending call cert input (BadLine l w) Write t u d e h k = absurd e
+  one_call_ending call cert input Size Done t u d e h k = absurd (size_apart cert input k.0 h.0)
+  one_call_ending call cert input Size (Over m) t u d e h k = absurd (size_apart cert input k.0 h.0)
+  one_call_ending call cert input Size Arguments t u d e h k = absurd k
+  one_call_ending call cert input Size (BadLine m v) t u d e h k = absurd (size_apart cert input k.0 h.0)
+  one_call_ending call cert input Size Size t u d e h k = refl
+  one_call_ending call cert input Size Memory t u d e h k = absurd e
+  one_call_ending call cert input Size (File j) t u d e h k = absurd e
+  one_call_ending call cert input Size Write t u d e h k = absurd e
+  one_call_ending call cert input Memory Done t u d e h k = absurd d
+  one_call_ending call cert input Memory (Over m) t u d e h k = absurd d
+  one_call_ending call cert input Memory Arguments t u d e h k = absurd d
+  one_call_ending call cert input Memory (BadLine m v) t u d e h k = absurd d
+  one_call_ending call cert input Memory Size t u d e h k = absurd d
+  one_call_ending call cert input Memory Memory t u d e h k = absurd d
+  one_call_ending call cert input Memory (File j) t u d e h k = absurd d
+  one_call_ending call cert input Memory Write t u d e h k = absurd d
+  one_call_ending call cert input (File i) Done t u d e h k = absurd d
+  one_call_ending call cert input (File i) (Over m) t u d e h k = absurd d
+  one_call_ending call cert input (File i) Arguments t u d e h k = absurd d
+  one_call_ending call cert input (File i) (BadLine m v) t u d e h k = absurd d
+  one_call_ending call cert input (File i) Size t u d e h k = absurd d
+  one_call_ending call cert input (File i) Memory t u d e h k = absurd d
+  one_call_ending call cert input (File i) (File j) t u d e h k = absurd d
+  one_call_ending call cert input (File i) Write t u d e h k = absurd d
+  one_call_ending call cert input Write Done t u d e h k = absurd d
+  one_call_ending call cert input Write (Over m) t u d e h k = absurd d
+  one_call_ending call cert input Write Arguments t u d e h k = absurd d
+  one_call_ending call cert input Write (BadLine m v) t u d e h k = absurd d
+  one_call_ending call cert input Write Size t u d e h k = absurd d
+  one_call_ending call cert input Write Memory t u d e h k = absurd d
+  one_call_ending call cert input Write (File j) t u d e h k = absurd d
+  one_call_ending call cert input Write Write t u d e h k = absurd d
 
-  one_ending_at : (c : Option Call) (input : List ℕ) (o p : Outcome) (t u : List ℕ) → IsDecided o → IsDecided p → EndsAt c input o t → EndsAt c input p u → o ≡ p
-  one_ending_at None input o p t u d e h k = h.0 ∙ sym k.0
-  one_ending_at (Some call) input o p t u d e h k = one_call_ending call input o p t u d e h k
+  one_ending_at : (c : Option Call) (cert input : List ℕ) (o p : Outcome) (t u : List ℕ) → IsDecided o → IsDecided p → EndsAt c cert input o t → EndsAt c cert input p u → o ≡ p
+  one_ending_at None cert input o p t u d e h k = h.0 ∙ sym k.0
+  one_ending_at (Some call) cert input o p t u d e h k = one_call_ending call cert input o p t u d e h k
 
-  pub one_ending : (words : List (List ℕ)) (input : List ℕ) (o p : Outcome) (t u : List ℕ) → IsDecided o → IsDecided p → Ends words input o t → Ends words input p u → o ≡ p
-  one_ending words input o p t u d e h k = one_ending_at (call_of words) input o p t u d e h k
+  pub one_ending : (words : List (List ℕ)) (cert input : List ℕ) (o p : Outcome) (t u : List ℕ) → IsDecided o → IsDecided p → Ends words cert input o t → Ends words cert input p u → o ≡ p
+  one_ending words cert input o p t u d e h k = one_ending_at (call_of words) cert input o p t u d e h k
 
--- arguments and an input have one ending
+-- arguments, a certificate and an input have one ending
 abbrev pub HaveOneEnding : Type 0
-HaveOneEnding = (words : List (List ℕ)) (input : List ℕ) (o p : Outcome) (text other : List ℕ) → IsDecided o → IsDecided p → Ends words input o text → Ends words input p other → o ≡ p
+HaveOneEnding = (words : List (List ℕ)) (cert input : List ℕ) (o p : Outcome) (text other : List ℕ) → IsDecided o → IsDecided p → Ends words cert input o text → Ends words cert input p other → o ≡ p
 
--- a run ends as its arguments and its input decide, or memory, a file or the sink failed
+-- a run ends as its arguments, its certificate and its input decide, or memory, a file or the sink failed
 module _ (one : HaveOneEnding) where
-  decided_as : (words : List (List ℕ)) (input : List ℕ) (o p : Outcome) (n : ℕ) (t u : List ℕ) → n ≡ status_of o → IsDecided p → Ends words input o t → Ends words input p u → (n ≡ status_of p) ⊎ (n ≡ 1) ⊎ (n ≡ 4) ⊎ (n ≡ 5)
-  decided_as words input Done p n t u s d h k = inl (s ∙ ap status_of (one words input Done p t u tt d h k))
-  decided_as words input (Over l) p n t u s d h k = inl (s ∙ ap status_of (one words input (Over l) p t u tt d h k))
-  decided_as words input Arguments p n t u s d h k = inl (s ∙ ap status_of (one words input Arguments p t u tt d h k))
-  decided_as words input (BadLine l w) p n t u s d h k = inl (s ∙ ap status_of (one words input (BadLine l w) p t u tt d h k))
-  decided_as words input Size p n t u s d h k = inl (s ∙ ap status_of (one words input Size p t u tt d h k))
-  decided_as words input Memory p n t u s d h k = inr (inl s)
-  decided_as words input (File i) p n t u s d h k = inr (inr (inl s))
-  decided_as words input Write p n t u s d h k = inr (inr (inr s))
+  decided_as : (words : List (List ℕ)) (cert input : List ℕ) (o p : Outcome) (n : ℕ) (t u : List ℕ) → n ≡ status_of o → IsDecided p → Ends words cert input o t → Ends words cert input p u → (n ≡ status_of p) ⊎ (n ≡ 1) ⊎ (n ≡ 4) ⊎ (n ≡ 5)
+  decided_as words cert input Done p n t u s d h k = inl (s ∙ ap status_of (one words cert input Done p t u tt d h k))
+  decided_as words cert input (Over l) p n t u s d h k = inl (s ∙ ap status_of (one words cert input (Over l) p t u tt d h k))
+  decided_as words cert input Arguments p n t u s d h k = inl (s ∙ ap status_of (one words cert input Arguments p t u tt d h k))
+  decided_as words cert input (BadLine l w) p n t u s d h k = inl (s ∙ ap status_of (one words cert input (BadLine l w) p t u tt d h k))
+  decided_as words cert input Size p n t u s d h k = inl (s ∙ ap status_of (one words cert input Size p t u tt d h k))
+  decided_as words cert input Memory p n t u s d h k = inr (inl s)
+  decided_as words cert input (File i) p n t u s d h k = inr (inr (inl s))
+  decided_as words cert input Write p n t u s d h k = inr (inr (inr s))
 
-  decided_of : (told : Option (List ℕ)) (words : List (List ℕ)) (old new : Option (List ℕ)) (o : Outcome) (n : ℕ) → n ≡ status_of o → IfSome told (λ input. (text : List ℕ) × Ends words input o text × Writes o old new text)
-      → IfSome told (λ input. (p : Outcome) (u : List ℕ) → IsDecided p → Ends words input p u → (n ≡ status_of p) ⊎ (n ≡ 1) ⊎ (n ≡ 4) ⊎ (n ≡ 5))
-  decided_of None words old new o n s h = tt
-  decided_of (Some input) words old new o n s h = λ p u d k. decided_as words input o p n h.0 u s d h.1 k
+  decided_of : (a b : Option (List ℕ)) (words : List (List ℕ)) (old new : Option (List ℕ)) (o : Outcome) (n : ℕ) → n ≡ status_of o
+      → IfSome a (λ cert. IfSome b (λ input. (text : List ℕ) × Ends words cert input o text × Writes o old new text))
+      → IfSome a (λ cert. IfSome b (λ input. (p : Outcome) (u : List ℕ) → IsDecided p → Ends words cert input p u → (n ≡ status_of p) ⊎ (n ≡ 1) ⊎ (n ≡ 4) ⊎ (n ≡ 5)))
+  decided_of None b words old new o n s h = tt
+  decided_of (Some cert) None words old new o n s h = tt
+  decided_of (Some cert) (Some input) words old new o n s h = λ p u d k. decided_as words cert input o p n h.0 u s d h.1 k
 
-  pub decided_by : (contents : Option (List ℕ → List ℕ)) (words : List (List ℕ)) (old new : Option (List ℕ)) (o : Outcome) (n : ℕ) → n ≡ status_of o → OfInput contents words (λ input. (text : List ℕ) × Ends words input o text × Writes o old new text)
-      → OfInput contents words (λ input. (p : Outcome) (u : List ℕ) → IsDecided p → Ends words input p u → (n ≡ status_of p) ⊎ (n ≡ 1) ⊎ (n ≡ 4) ⊎ (n ≡ 5))
-  decided_by contents words old new o n s h = decided_of (told_input contents (files_of words)) words old new o n s h
+  pub decided_by : (contents : Option (List ℕ → List ℕ)) (words : List (List ℕ)) (old new : Option (List ℕ)) (o : Outcome) (n : ℕ) → n ≡ status_of o → OfInputs contents words (λ cert input. (text : List ℕ) × Ends words cert input o text × Writes o old new text)
+      → OfInputs contents words (λ cert input. (p : Outcome) (u : List ℕ) → IsDecided p → Ends words cert input p u → (n ≡ status_of p) ⊎ (n ≡ 1) ⊎ (n ≡ 4) ⊎ (n ≡ 5))
+  decided_by contents words old new o n s h = decided_of (told_input contents (certificate_of words)) (told_input contents (files_of words)) words old new o n s h
 
 -- two texts of one ending are one, or alike
 module _ (whole : WholeTextsAreAlike) (limited : TextsToLimitAreAlike) where
@@ -155,25 +159,25 @@ module _ (whole : WholeTextsAreAlike) (limited : TextsToLimitAreAlike) where
   over_alike workers (Jobs jobs) limit t u h k = inr (limited workers jobs limit t u h k)
   over_alike workers (Steps file) limit t u h k = absurd h
 
-  call_alike : (call : Call) (input : List ℕ) (o : Outcome) (t u : List ℕ) → IsDecided o → CallEnds call input o t → CallEnds call input o u → (t ≡ u) ⊎ AreAlike t u
-  call_alike call input Done t u d h k = done_alike call.workers h.1.0 t u h.1.2 (subst (λ w. IsTextOf call.workers w u) (one_work (work_said call.action input) h.1.0 k.1.0 h.1.1 k.1.1) k.1.2)
-  call_alike call input (Over l) t u d h k = over_alike call.workers h.1.0 l t u h.1.2 (subst (λ w. IsTextUpTo call.workers w l u) (one_work (work_said call.action input) h.1.0 k.1.0 h.1.1 k.1.1) k.1.2)
-  call_alike call input Arguments t u d h k = absurd h
-  call_alike call input (BadLine l w) t u d h k = inl (h.2 ∙ sym k.2)
-  call_alike call input Size t u d h k = inl (h.1 ∙ sym k.1)
-  call_alike call input Memory t u d h k = absurd d
-  call_alike call input (File i) t u d h k = absurd d
-  call_alike call input Write t u d h k = absurd d
+  call_alike : (call : Call) (cert input : List ℕ) (o : Outcome) (t u : List ℕ) → IsDecided o → CallEnds call cert input o t → CallEnds call cert input o u → (t ≡ u) ⊎ AreAlike t u
+  call_alike call cert input Done t u d h k = done_alike call.workers h.1.0 t u h.1.2 (subst (λ w. IsTextOf call.workers w u) (one_work (work_said call.action cert input) h.1.0 k.1.0 h.1.1 k.1.1) k.1.2)
+  call_alike call cert input (Over l) t u d h k = over_alike call.workers h.1.0 l t u h.1.2 (subst (λ w. IsTextUpTo call.workers w l u) (one_work (work_said call.action cert input) h.1.0 k.1.0 h.1.1 k.1.1) k.1.2)
+  call_alike call cert input Arguments t u d h k = absurd h
+  call_alike call cert input (BadLine l w) t u d h k = inl (h.2 ∙ sym k.2)
+  call_alike call cert input Size t u d h k = inl (h.1 ∙ sym k.1)
+  call_alike call cert input Memory t u d h k = absurd d
+  call_alike call cert input (File i) t u d h k = absurd d
+  call_alike call cert input Write t u d h k = absurd d
 
-  alike_at : (c : Option Call) (input : List ℕ) (o : Outcome) (t u : List ℕ) → IsDecided o → EndsAt c input o t → EndsAt c input o u → (t ≡ u) ⊎ AreAlike t u
-  alike_at None input o t u d h k = inl (h.1 ∙ sym k.1)
-  alike_at (Some call) input o t u d h k = call_alike call input o t u d h k
+  alike_at : (c : Option Call) (cert input : List ℕ) (o : Outcome) (t u : List ℕ) → IsDecided o → EndsAt c cert input o t → EndsAt c cert input o u → (t ≡ u) ⊎ AreAlike t u
+  alike_at None cert input o t u d h k = inl (h.1 ∙ sym k.1)
+  alike_at (Some call) cert input o t u d h k = call_alike call cert input o t u d h k
 
-  alike : (words : List (List ℕ)) (input : List ℕ) (o : Outcome) (t u : List ℕ) → IsDecided o → Ends words input o t → Ends words input o u → (t ≡ u) ⊎ AreAlike t u
-  alike words input o t u d h k = alike_at (call_of words) input o t u d h k
+  alike : (words : List (List ℕ)) (cert input : List ℕ) (o : Outcome) (t u : List ℕ) → IsDecided o → Ends words cert input o t → Ends words cert input o u → (t ≡ u) ⊎ AreAlike t u
+  alike words cert input o t u d h k = alike_at (call_of words) cert input o t u d h k
 
-  pub differ_alone : AlikeTextsDifferInNumbers → (words : List (List ℕ)) (input : List ℕ) (o : Outcome) (t u : List ℕ) → IsDecided o → Ends words input o t → Ends words input o u → (t ≡ u) ⊎ DifferInWatchNumbers t u
-  differ_alone numbers words input o t u d h k = elim (alike words input o t u d h k) [
+  pub differ_alone : AlikeTextsDifferInNumbers → (words : List (List ℕ)) (cert input : List ℕ) (o : Outcome) (t u : List ℕ) → IsDecided o → Ends words cert input o t → Ends words cert input o u → (t ≡ u) ⊎ DifferInWatchNumbers t u
+  differ_alone numbers words cert input o t u d h k = elim (alike words cert input o t u d h k) [
     | inl same ↦ inl same
     | inr h ↦ inr (numbers t u h)
   ]

@@ -1,6 +1,6 @@
 -- The last job of an input.
-use Rattle.std.proofs.Common.{◌≡◌, ◌⊎◌, ℕ, ◌+◌, ◌<◌, ◌≤◌, ◌^◌, List, [], ◌∷◌, ◌++◌, length, Option, Some, None, refl, sym, ◌∙◌, ap, subst, arith, inl, inr}
-use Rattle.std.specs.Prelude.{All, IfSome, sum_by}
+use Rattle.std.proofs.Common.{◌≡◌, ℕ, ◌+◌, ◌<◌, ◌^◌, List, [], ◌∷◌, ◌++◌, length, Option, Some, None, refl, ◌∙◌, ap, subst, inl}
+use Rattle.std.specs.Prelude.{All, IfSome}
 use Rattle.std.proofs.lemmas.List.{append-nil}
 use Rattle.std.proofs.lemmas.List.Elements.{All-cons, All-nil}
 use Rattle.std.proofs.lemmas.List.Sums.{sum_by-cons}
@@ -16,7 +16,7 @@ use Rattle.session_rules.specs.declared.job.Job.{Job}
 use Rattle.session_rules.specs.declared.job.Job.TheVariants.{Control}
 use Rattle.mystery_cli.specs.declared.view.View.{View}
 use Rattle.mystery_cli.specs.declared.view.View.TheVariants.{Model, Paths, Slack, Report, Graph}
-use Rattle.mystery_cli.specs.Works.{Work, Jobs, jobs_with, view_command}
+use Rattle.mystery_cli.specs.Works.{Jobs, jobs_with, view_command}
 use Rattle.mystery_cli.specs.inner.LastJobs.{IsLastJob}
 
 -- a view may be the last job

@@ -2,5 +2,6 @@ pub mod DecidedLemmas
 pub mod EndingLemmas
 pub mod HexLemmas
 pub mod LastJobLemmas
+pub mod ReadingLemmas
 pub mod ReplayLemmas
 pub mod StatusLemmas

@@ -1,7 +1,7 @@
 -- The grammar of the arguments: `[--workers N] COMMAND`, where COMMAND is `session FILE...`, a view
--- as `model FILE...`, `whatif TASK START END NUM DEN FILE...`, `tail FILE...`,
--- `drill NUMBER TRACES` or `replay FILE`.
-use Rattle.std.specs.Prelude.{ℕ, ◌^◌, ◌==◌, List, [], ◌∷◌, length, codes, not, nat_lt, Bool}
+-- as `model FILE...`, `whatif TASK START END NUM DEN FILE...`, `tail FILE...`, `why FILE...`,
+-- `verify CERT FILE...`, `drill NUMBER TRACES` or `replay FILE`.
+use Rattle.std.specs.Prelude.{ℕ, ◌^◌, ◌==◌, List, [], ◌∷◌, ◌++◌, length, codes, not, nat_lt, Bool}
 use Rattle.std.specs.Prelude.{if◌then◌else◌, Option, Some, None, is_some, option_map}
 use Rattle.std.specs.Prelude.{option_and_then}
 use Rattle.std.specs.Option.{option_map_or}
@@ -16,14 +16,16 @@ use Rattle.mystery_cli.specs.declared.view.View.TheVariants.{Model, Paths, Slack
 use Rattle.mystery_cli.specs.Numbers.{number_between}
 use Rattle.session_rules.specs.declared.named_change.NamedChange.{NamedChange}
 
--- what is asked for: the control lines of these files; these and then a view, a forecast, or the
--- report on the slowest traces; a summary of so many traces that are drawn from a number; or the
--- replay of a file of steps
+-- what is asked for: the control lines of these files; these and then a view, a forecast, the
+-- report on the slowest traces, a certificate, or the check of the certificate in another file; a
+-- summary of so many traces that are drawn from a number; or the replay of a file of steps
 pub data Action : Type 0 where
   session : List (List ℕ) → Action
   view : View → List (List ℕ) → Action
   what_if : NamedChange → List (List ℕ) → Action
   tail : List (List ℕ) → Action
+  why : List (List ℕ) → Action
+  verify : List ℕ → List (List ℕ) → Action
   drill : ℕ → ℕ → Action
   replay : List ℕ → Action
 
@@ -77,6 +79,13 @@ what_if_of_words (task ∷ start ∷ end ∷ num ∷ den ∷ files) =
     (change_of_words task start end num den)
 what_if_of_words words = None
 
+-- a check of the certificate that the first of these arguments names, over the files that the
+-- others name
+abbrev pub verify_of_words : List (List ℕ) → Option Action
+verify_of_words [] = None
+verify_of_words (file ∷ files) =
+    if is_filled file then option_map (verify file) (some_files files) else None
+
 -- a drill: a number from 0 to 2,147,483,647, and from 1 to 20,000 traces
 abbrev pub drill_of_words : List (List ℕ) → Option Action
 drill_of_words (number ∷ traces ∷ []) =
@@ -89,14 +98,16 @@ abbrev pub action_over : List ℕ → List (List ℕ) → Option Action
 action_over name words =
     if bytes_eq name (codes "session") then option_map session (some_files words) else (
     if bytes_eq name (codes "tail") then option_map tail (some_files words) else (
+    if bytes_eq name (codes "why") then option_map why (some_files words) else (
     if bytes_eq name (codes "replay") then option_map replay (one_file words) else
-    option_and_then (view_of_words words) (named_view name)))
+    option_and_then (view_of_words words) (named_view name))))
 
 -- what the command with this name and these arguments after it asks for
 abbrev pub named_action : List ℕ → List (List ℕ) → Option Action
 named_action name words =
     if bytes_eq name (codes "whatif") then what_if_of_words words else (
-    if bytes_eq name (codes "drill") then drill_of_words words else action_over name words)
+    if bytes_eq name (codes "verify") then verify_of_words words else (
+    if bytes_eq name (codes "drill") then drill_of_words words else action_over name words))
 
 -- what these arguments ask for: a command and its arguments
 abbrev pub action_of_words : List (List ℕ) → Option Action
@@ -125,18 +136,41 @@ call_of words = if nat_lt (length words) (2 ^ 32) then call_of_words words else 
 abbrev pub is_in_grammar : List (List ℕ) → Bool
 is_in_grammar words = is_some (call_of words)
 
--- the files that are read for it, in order; none for a drill
+-- the files of its input, in order; none for a drill
 abbrev pub files_of_action : Action → List (List ℕ)
 files_of_action (session files) = files
 files_of_action (view v files) = files
 files_of_action (what_if change files) = files
 files_of_action (tail files) = files
+files_of_action (why files) = files
+files_of_action (verify file files) = files
 files_of_action (drill number traces) = []
 files_of_action (replay file) = file ∷ []
 
--- the file arguments, none where the arguments are outside the grammar or ask for a drill
+-- the file of the certificate that is checked, which is no part of the input; none where there is
+-- no check
+abbrev pub certificate_of_action : Action → List (List ℕ)
+certificate_of_action (session files) = []
+certificate_of_action (view v files) = []
+certificate_of_action (what_if change files) = []
+certificate_of_action (tail files) = []
+certificate_of_action (why files) = []
+certificate_of_action (verify file files) = file ∷ []
+certificate_of_action (drill number traces) = []
+certificate_of_action (replay file) = []
+
+-- the files of the input, none where the arguments are outside the grammar or ask for a drill
 abbrev pub files_of : List (List ℕ) → List (List ℕ)
 files_of words = option_map_or (λ (call : Call). files_of_action call.action) (call_of words) []
+
+-- the file of the certificate, none where the arguments are outside the grammar or ask for no check
+abbrev pub certificate_of : List (List ℕ) → List (List ℕ)
+certificate_of words =
+    option_map_or (λ (call : Call). certificate_of_action call.action) (call_of words) []
+
+-- the file arguments: that of the certificate is the first to be read
+abbrev pub all_files_of : List (List ℕ) → List (List ℕ)
+all_files_of words = certificate_of words ++ files_of words
 
 -- a parsed change, seen as the change that it is
 abbrev pub change_of : ChangeWords → NamedChange
@@ -148,6 +182,8 @@ action_of (actions.Session files) = session files.now
 action_of (actions.View v files) = view v files.now
 action_of (actions.WhatIf change files) = what_if (change_of change) files.now
 action_of (actions.Tail files) = tail files.now
+action_of (actions.Why files) = why files.now
+action_of (actions.Verify file files) = verify file.now files.now
 action_of (actions.Drill number traces) = drill number traces
 action_of (actions.Replay file) = replay file.now
 

@@ -1,8 +1,7 @@
 -- How a run ends, and the text that it has then.
-use Rattle.std.specs.Prelude.{ℕ, ◌≡◌, ◌<◌, ◌≤◌, ◌⊎◌, List, [], length, ⊤}
+use Rattle.std.specs.Prelude.{ℕ, ◌≡◌, ◌⊎◌, List, [], ⊤}
 use Rattle.std.specs.Prelude.{Option, Some, None, Ok, Err}
 use Rattle.std.specs.Io.KnownBytes.{append_known}
-use Rattle.mystery_io.specs.Input.{input_limit}
 use Rattle.mystery_io.specs.Prefixes.{AppendsPrefix}
 use Rattle.session.specs.declared.command_fault.CommandFault.{CommandFault}
 use Rattle.session.specs.declared.command_fault.CommandFault.TheVariants as faults
@@ -11,37 +10,45 @@ use Rattle.mystery_cli.specs.declared.outcome.Outcome.{Outcome}
 use Rattle.mystery_cli.specs.declared.outcome.Outcome.TheVariants.{Done, Memory, Arguments, BadLine}
 use Rattle.mystery_cli.specs.declared.outcome.Outcome.TheVariants.{File, Write, Size, Over}
 use Rattle.mystery_cli.specs.CommandLines.{Call, call_of}
+use Rattle.mystery_cli.specs.Readings.{FitsSize, PassesSize}
 use Rattle.mystery_cli.specs.Texts.{IsTextOf, IsTextUpTo, IsTextOfParts}
 use Rattle.mystery_cli.specs.Works.{Work, work_said}
 
--- the input is within the limit and has no bad line, and P holds of its work
-abbrev pub OfWork : Call → List ℕ → (Work → Type 0) → Type 0
-OfWork call input P =
-    (length input ≤ input_limit)
-    × ((work : Work) × (work_said call.action input ≡ Ok work) × P work)
+-- the certificate and the input are within the limit and have no bad line, and P holds of the work
+abbrev pub OfWork : Call → List ℕ → List ℕ → (Work → Type 0) → Type 0
+OfWork call certificate input P =
+    FitsSize certificate input
+    × ((work : Work) × (work_said call.action certificate input ≡ Ok work) × P work)
 
--- a call over this input may end so, with this text
-abbrev pub CallEnds : Call → List ℕ → Outcome → List ℕ → Type 0
-CallEnds call input Arguments text = ⊥
-CallEnds call input (File index) text = text ≡ []
-CallEnds call input Size text = (input_limit < length input) × (text ≡ [])
-CallEnds call input (BadLine line why) text = (length input ≤ input_limit)
-    × (work_said call.action input ≡ Err (record { line = line; why = why })) × (text ≡ [])
-CallEnds call input Done text = OfWork call input (λ work. IsTextOf call.workers work text)
-CallEnds call input (Over limit) text =
-    OfWork call input (λ work. IsTextUpTo call.workers work limit text)
-CallEnds call input Write text = OfWork call input (λ work. IsTextOfParts call.workers work text)
-CallEnds call input Memory text =
-    (text ≡ []) ⊎ OfWork call input (λ work. IsTextOfParts call.workers work text)
+-- a call over this certificate and this input may end so, with this text
+abbrev pub CallEnds : Call → List ℕ → List ℕ → Outcome → List ℕ → Type 0
+CallEnds call certificate input Arguments text = ⊥
+CallEnds call certificate input (File index) text = text ≡ []
+CallEnds call certificate input Size text = PassesSize certificate input × (text ≡ [])
+CallEnds call certificate input (BadLine line why) text =
+    FitsSize certificate input
+    × (work_said call.action certificate input ≡ Err (record { line = line; why = why }))
+    × (text ≡ [])
+CallEnds call certificate input Done text =
+    OfWork call certificate input (λ work. IsTextOf call.workers work text)
+CallEnds call certificate input (Over limit) text =
+    OfWork call certificate input (λ work. IsTextUpTo call.workers work limit text)
+CallEnds call certificate input Write text =
+    OfWork call certificate input (λ work. IsTextOfParts call.workers work text)
+CallEnds call certificate input Memory text =
+    (text ≡ [])
+    ⊎ OfWork call certificate input (λ work. IsTextOfParts call.workers work text)
 
 -- the same of a call that may be none: there were arguments outside the grammar
-abbrev pub EndsAt : Option Call → List ℕ → Outcome → List ℕ → Type 0
-EndsAt None input outcome text = (outcome ≡ Arguments) × (text ≡ [])
-EndsAt (Some call) input outcome text = CallEnds call input outcome text
+abbrev pub EndsAt : Option Call → List ℕ → List ℕ → Outcome → List ℕ → Type 0
+EndsAt None certificate input outcome text = (outcome ≡ Arguments) × (text ≡ [])
+EndsAt (Some call) certificate input outcome text = CallEnds call certificate input outcome text
 
--- a run with these arguments over this input may end so, with this text
-abbrev pub Ends : List (List ℕ) → List ℕ → Outcome → List ℕ → Type 0
-Ends words input outcome text = EndsAt (call_of words) input outcome text
+-- a run with these arguments over this certificate and this input may end so, with this text; the
+-- certificate is empty where the arguments name none
+abbrev pub Ends : List (List ℕ) → List ℕ → List ℕ → Outcome → List ℕ → Type 0
+Ends words certificate input outcome text =
+    EndsAt (call_of words) certificate input outcome text
 
 -- what is written of the text by a run that ends so: all of it, a prefix, or nothing
 abbrev pub Writes : Outcome → Option (List ℕ) → Option (List ℕ) → List ℕ → Type 0
@@ -54,7 +61,7 @@ Writes (BadLine line why) before now text = now ≡ before
 Writes (File index) before now text = now ≡ before
 Writes Size before now text = now ≡ before
 
--- arguments and an input alone decide this ending: no memory, file or sink failed
+-- arguments, a certificate and an input alone decide this ending: no memory, file or sink failed
 abbrev pub IsDecided : Outcome → Type 0
 IsDecided Done = ⊤
 IsDecided (Over limit) = ⊤

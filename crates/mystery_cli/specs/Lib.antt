@@ -2,6 +2,7 @@ pub mod CommandLines
 pub mod Endings
 pub mod Messages
 pub mod Numbers
+pub mod Readings
 pub mod ReplayTexts
 pub mod Runs
 pub mod Texts

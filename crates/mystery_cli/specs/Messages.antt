@@ -2,7 +2,7 @@
 use Rattle.std.specs.Prelude.{ℕ, ◌+◌, ◌++◌, List, [], codes, decimal}
 use Rattle.event_lines.specs.Reasons.{why_text}
 use Rattle.mystery_cli.specs.declared.reason.Reason.{Reason}
-use Rattle.mystery_cli.specs.declared.reason.Reason.TheVariants.{Line, Step}
+use Rattle.mystery_cli.specs.declared.reason.Reason.TheVariants.{Line, Step, Certificate}
 use Rattle.mystery_cli.specs.declared.outcome.Outcome.{Outcome}
 use Rattle.mystery_cli.specs.declared.outcome.Outcome.TheVariants.{Done, Memory, Arguments, BadLine}
 use Rattle.mystery_cli.specs.declared.outcome.Outcome.TheVariants.{File, Write, Size, Over}
@@ -24,6 +24,7 @@ status_of (Over limit) = 6
 abbrev pub reason_text : Reason → List ℕ
 reason_text (Line why) = why_text why
 reason_text Step = codes "bad step"
+reason_text Certificate = codes "bad certificate"
 
 -- how many there would be after an add that passes this limit, and of what
 abbrev pub limit_count : Limit → ℕ

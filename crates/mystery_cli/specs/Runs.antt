@@ -1,14 +1,13 @@
 -- What a run tells by its status and by what it wrote.
-use Rattle.std.specs.Prelude.{ℕ, ◌≡◌, ◌<◌, List, [], ◌∷◌, length, true, false}
-use Rattle.std.specs.Prelude.{Option, Some, IfSome, option_map}
+use Rattle.std.specs.Prelude.{ℕ, ◌≡◌, ◌<◌, List, length, true, false, Option, IfSome}
 use Rattle.std.specs.Io.KnownBytes.{IsAtEnd}
-use Rattle.mystery_io.specs.Input.{input_of}
-use Rattle.mystery_io.specs.ReadFaults.{FilesSeen, OpensFirst, FailedAt, PassedAt}
+use Rattle.mystery_io.specs.ReadFaults.{FilesSeen, OpensFirst}
 use Rattle.mystery_cli.specs.declared.outcome.Outcome.{Outcome}
 use Rattle.mystery_cli.specs.declared.outcome.Outcome.TheVariants.{Done, Memory, Arguments, BadLine}
 use Rattle.mystery_cli.specs.declared.outcome.Outcome.TheVariants.{File, Write, Size, Over}
-use Rattle.mystery_cli.specs.CommandLines.{is_in_grammar, files_of}
+use Rattle.mystery_cli.specs.CommandLines.{all_files_of, certificate_of, files_of, is_in_grammar}
 use Rattle.mystery_cli.specs.Endings.{Ends, Writes}
+use Rattle.mystery_cli.specs.Readings.{FailsAt, PassesAt, told_input}
 
 -- what a run saw: its arguments, the files, and what was written to the sink of texts, before and
 -- now
@@ -28,46 +27,46 @@ run_seen words files written old new = record {
   written_now = written new;
 }
 
--- the input of files with these names, where their contents are told; that of no file is empty
-abbrev pub told_input : Option (List ℕ → List ℕ) → List (List ℕ) → Option (List ℕ)
-told_input contents [] = Some []
-told_input contents (name ∷ names) = option_map (λ c. input_of c (name ∷ names)) contents
+-- P holds of the certificate and the input, where they are told
+abbrev pub OfInputs : Option (List ℕ → List ℕ) → List (List ℕ) → (List ℕ → List ℕ → Type 0)
+    → Type 0
+OfInputs contents words P =
+    IfSome (told_input contents (certificate_of words)) (λ certificate.
+    IfSome (told_input contents (files_of words)) (P certificate))
 
--- P holds of the input, where it is told
-abbrev pub OfInput : Option (List ℕ → List ℕ) → List (List ℕ) → (List ℕ → Type 0) → Type 0
-OfInput contents words P = IfSome (told_input contents (files_of words)) P
-
--- the run may end so over its input, with a text of which that was written which should be
+-- the run may end so over what it read, with a text of which that was written which should be
 abbrev pub EndsAs : Outcome → Seen → Type 0
 EndsAs outcome seen =
-    OfInput seen.files.contents seen.words (λ input. (text : List ℕ)
-    × Ends seen.words input outcome text
+    OfInputs seen.files.contents seen.words (λ certificate input. (text : List ℕ)
+    × Ends seen.words certificate input outcome text
     × Writes outcome seen.written_before seen.written_now text)
 
 -- the arguments are in the grammar, and each of their files was opened, one after another, and
 -- where they name a file, nothing is left of the last
 pub record ReadsAll (seen : Seen) : Type 0 where
   pub called : is_in_grammar seen.words ≡ true
-  pub opened : OpensFirst seen.files (files_of seen.words) (length (files_of seen.words))
-  pub at_end : 0 < length (files_of seen.words) → IsAtEnd seen.files.left
+  pub opened :
+      OpensFirst seen.files (all_files_of seen.words) (length (all_files_of seen.words))
+  pub at_end : 0 < length (all_files_of seen.words) → IsAtEnd seen.files.left
 
 -- which of the files that the arguments name were opened by a run that ends so, and how far they
 -- were read
 abbrev pub Reads : Outcome → Seen → Type 0
 Reads Arguments seen =
-    (is_in_grammar seen.words ≡ false) × OpensFirst seen.files (files_of seen.words) 0
+    (is_in_grammar seen.words ≡ false) × OpensFirst seen.files (all_files_of seen.words) 0
 Reads (File index) seen =
-    (is_in_grammar seen.words ≡ true) × FailedAt seen.files (files_of seen.words) index
+    (is_in_grammar seen.words ≡ true)
+    × FailsAt seen.files (certificate_of seen.words) (files_of seen.words) index
 Reads Size seen =
     (is_in_grammar seen.words ≡ true)
-    × ((index : ℕ) × PassedAt seen.files (files_of seen.words) index)
+    × ((index : ℕ) × PassesAt seen.files (certificate_of seen.words) (files_of seen.words) index)
 Reads (BadLine line why) seen = ReadsAll seen
 Reads Done seen = ReadsAll seen
 Reads (Over limit) seen = ReadsAll seen
 Reads Write seen = ReadsAll seen
 Reads Memory seen =
     (is_in_grammar seen.words ≡ true)
-    × ((count : ℕ) × OpensFirst seen.files (files_of seen.words) count)
+    × ((count : ℕ) × OpensFirst seen.files (all_files_of seen.words) count)
 
 -- a run that ended so has its cause, and wrote what it should
 pub record Explains (outcome : Outcome) (seen : Seen) : Type 0 where

@@ -1,6 +1,8 @@
--- What a call has to do with its input.
-use Rattle.std.specs.Prelude.{ℕ, ◌++◌, List, [], ◌∷◌, Option, Some, None, Result}
+-- What a call has to do with its certificate and its input.
+use Rattle.std.specs.Prelude.{ℕ, ◌++◌, List, [], ◌∷◌, Option, Some, None, Result, Ok, Err}
 use Rattle.std.specs.Result.{result_map_both}
+use Rattle.certificates.specs.Certificates.{certificate_said}
+use Rattle.certificates.specs.declared.claim.Claim.{Claim}
 use Rattle.drill_input.specs.DrillInput.{drill_input}
 use Rattle.event_lines.specs.declared.command.Command.{Command}
 use Rattle.event_lines.specs.declared.command.Command.TheVariants as commands
@@ -10,13 +12,15 @@ use Rattle.event_lines.specs.InputLines.{LineFault, lines_said}
 use Rattle.session_rules.specs.Jobs.{jobs_of}
 use Rattle.session_rules.specs.declared.job.Job.{Job}
 use Rattle.session_rules.specs.declared.job.Job.TheVariants.{Control, Summary, WhatIf, Tail}
+use Rattle.session_rules.specs.declared.job.Job.TheVariants.{Why, Verify}
 use Rattle.step_core.specs.declared.step_file.StepFile.{StepFile}
 use Rattle.step_core.specs.StepFiles.{file_said}
 use Rattle.mystery_cli.specs.declared.reason.Reason.{Reason}
 use Rattle.mystery_cli.specs.declared.reason.Reason.TheVariants as reasons
 use Rattle.mystery_cli.specs.declared.view.View.{View}
 use Rattle.mystery_cli.specs.declared.view.View.TheVariants.{Model, Paths, Slack, Report, Graph}
-use Rattle.mystery_cli.specs.CommandLines.{Action, session, view, what_if, tail, drill, replay}
+use Rattle.mystery_cli.specs.CommandLines.{Action, session, view, what_if, tail, why, verify}
+use Rattle.mystery_cli.specs.CommandLines.{drill, replay}
 
 -- jobs that a session carries out, or a file of steps that is replayed
 pub data Work : Type 0 where
@@ -28,12 +32,15 @@ pub record BadInput : Type 0 where
   pub line : ℕ
   pub why : Reason
 
--- the bad line of a log of events, or of a file of steps
+-- the bad line of a log of events, of a file of steps, or of a certificate
 abbrev pub bad_line : LineFault → BadInput
 bad_line fault = record { line = fault.line; why = reasons.Line fault.why }
 
 abbrev pub bad_step : ℕ → BadInput
 bad_step line = record { line = line; why = reasons.Step }
+
+abbrev pub bad_claim : ℕ → BadInput
+bad_claim line = record { line = line; why = reasons.Certificate }
 
 -- the command that prints a view
 abbrev pub view_command : View → Command
@@ -43,15 +50,17 @@ view_command Slack = commands.Slack
 view_command Report = commands.Report
 view_command Graph = commands.Graph
 
--- the last job that an action asks for; none where the control lines of the files are all that is
--- to be carried out, or where there are no lines
-abbrev pub last_job : Action → Option Job
-last_job (session files) = None
-last_job (view v files) = Some (Control (view_command v))
-last_job (what_if change files) = Some (WhatIf change)
-last_job (tail files) = Some Tail
-last_job (drill number traces) = Some Summary
-last_job (replay file) = None
+-- the last job that an action asks for, whose certificate makes these claims; none where the control
+-- lines of the files are all that is to be carried out, or where there are no lines
+abbrev pub last_job : Action → List Claim → Option Job
+last_job (session files) claims = None
+last_job (view v files) claims = Some (Control (view_command v))
+last_job (what_if change files) claims = Some (WhatIf change)
+last_job (tail files) claims = Some Tail
+last_job (why files) claims = Some Why
+last_job (verify file files) claims = Some (Verify claims)
+last_job (drill number traces) claims = Some Summary
+last_job (replay file) claims = None
 
 -- the jobs of lines; where there is a last job, the events since the last add are added and then it
 -- is carried out. That add has no line in the input
@@ -68,12 +77,26 @@ jobs_said last input = result_map_both (jobs_with last) bad_line (lines_said inp
 abbrev pub steps_said : List ℕ → Result Work BadInput
 steps_said input = result_map_both Steps bad_step (file_said input)
 
--- what is to be done with an input, or its first bad line; a drill makes its input itself
-abbrev pub work_said : Action → List ℕ → Result Work BadInput
-work_said (session files) input = jobs_said (last_job (session files)) input
-work_said (view v files) input = jobs_said (last_job (view v files)) input
-work_said (what_if change files) input = jobs_said (last_job (what_if change files)) input
-work_said (tail files) input = jobs_said (last_job (tail files)) input
-work_said (drill number traces) input =
-    jobs_said (last_job (drill number traces)) (drill_input number traces)
-work_said (replay file) input = steps_said input
+-- what is to be done with an input and the claims of a certificate, or the first bad line of the
+-- input; a drill makes its input itself
+abbrev pub work_with : Action → List Claim → List ℕ → Result Work BadInput
+work_with (session files) claims input = jobs_said (last_job (session files) claims) input
+work_with (view v files) claims input = jobs_said (last_job (view v files) claims) input
+work_with (what_if change files) claims input =
+    jobs_said (last_job (what_if change files) claims) input
+work_with (tail files) claims input = jobs_said (last_job (tail files) claims) input
+work_with (why files) claims input = jobs_said (last_job (why files) claims) input
+work_with (verify file files) claims input = jobs_said (last_job (verify file files) claims) input
+work_with (drill number traces) claims input =
+    jobs_said (last_job (drill number traces) claims) (drill_input number traces)
+work_with (replay file) claims input = steps_said input
+
+-- the same of what a certificate said: its first bad line comes before those of the input
+abbrev pub work_after : Action → Result (List Claim) ℕ → List ℕ → Result Work BadInput
+work_after action (Ok claims) input = work_with action claims input
+work_after action (Err line) input = Err (bad_claim line)
+
+-- what is to be done with a certificate and an input, or the first bad line of the two. Where there
+-- is no certificate it is empty, and makes no claims
+abbrev pub work_said : Action → List ℕ → List ℕ → Result Work BadInput
+work_said action certificate input = work_after action (certificate_said certificate) input

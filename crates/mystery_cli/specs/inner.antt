@@ -1,6 +1,8 @@
 -- What private contracts alone cite.
+pub mod Actions
 pub mod InputEnds
 pub mod LastJobs
 pub mod Leaving
 pub mod OutcomeFaults
+pub mod ReadingTwice
 pub mod Replaying

@@ -1,12 +1,12 @@
 ghost use Rattle.std.specs.Prelude.{◌≡◌};
-ghost use Rattle.mystery_cli.specs.CommandLines.{action_of, files_of_action};
+ghost use Rattle.mystery_cli.specs.CommandLines.{action_of, certificate_of_action, files_of_action};
 
 use crate::change_words::ChangeWords;
 use crate::view::View;
 use std::slice;
 use trace_types::Text;
 
-/// What the arguments ask for. At least one file is named, but for a drill.
+/// What the arguments ask for. At least one file of an input is named, but for a drill.
 #[derive(Clone, Copy, Debug)]
 pub(crate) enum Action<'w> {
     /// Carry out the control lines of these files.
@@ -28,6 +28,16 @@ pub(crate) enum Action<'w> {
     Tail {
         files: &'w [Text],
     },
+    /// Carry out the control lines of these files, and then print a certificate of what the traces
+    /// refute.
+    Why {
+        files: &'w [Text],
+    },
+    /// Carry out the control lines of these files, and then check the certificate in another file.
+    Verify {
+        certificate: &'w Text,
+        files: &'w [Text],
+    },
     /// Make the events of so many traces by draws from this number, add them, and print their
     /// summary.
     Drill {
@@ -41,7 +51,7 @@ pub(crate) enum Action<'w> {
 }
 
 impl<'w> Action<'w> {
-    /// Lends the names of the files that are to be read, in order.
+    /// Lends the names of the files of the input, in order.
     pub(crate) fn files(self) -> &'w [Text]
         ensures { result.now ≡ files_of_action (action_of self.entry) }
     {
@@ -50,8 +60,20 @@ impl<'w> Action<'w> {
             Action::View { files, .. } => files,
             Action::WhatIf { files, .. } => files,
             Action::Tail { files } => files,
+            Action::Why { files } => files,
+            Action::Verify { files, .. } => files,
             Action::Drill { .. } => &[],
             Action::Replay { file } => slice::from_ref(file),
+        }
+    }
+
+    /// Lends the name of the file of the certificate, if there is one.
+    pub(crate) fn certificate(self) -> &'w [Text]
+        ensures { result.now ≡ certificate_of_action (action_of self.entry) }
+    {
+        match self {
+            Action::Verify { certificate, .. } => slice::from_ref(certificate),
+            _ => &[],
         }
     }
 }

@@ -2,9 +2,9 @@ ghost use Rattle.std.specs.Prelude.{◌≡◌, ◌<◌, ◌≤◌, ◌^◌, leng
 ghost use Rattle.std.specs.List.{list_all};
 ghost use Rattle.mystery_cli.specs.CommandLines.{action_of, action_of_words, action_over};
 ghost use Rattle.mystery_cli.specs.CommandLines.{call_of, call_of_line, call_of_words};
-ghost use Rattle.mystery_cli.specs.CommandLines.{drill_of_words, files_of_action, is_filled};
-ghost use Rattle.mystery_cli.specs.CommandLines.{named_action, what_if_of_words};
-ghost use Rattle.mystery_cli.specs.inner.LastJobs.{IsInRange};
+ghost use Rattle.mystery_cli.specs.CommandLines.{drill_of_words, is_filled, named_action};
+ghost use Rattle.mystery_cli.specs.CommandLines.{verify_of_words, what_if_of_words};
+ghost use Rattle.mystery_cli.specs.inner.Actions.{IsInRange, file_count};
 
 use crate::action::Action;
 use crate::change_words::ChangeWords;
@@ -43,8 +43,7 @@ fn are_files(words: &[Text]) -> bool
 /// Finds the forecast that the arguments `TASK START END NUM DEN FILE...` ask for.
 fn find_forecast(words: &[Text]) -> Option<Action<'_>>
     ensures asked { option_map action_of result ≡ what_if_of_words words.now }
-    ensures few { IfSome result (λ a.
-        length (files_of_action (action_of a)) ≤ length words.now) }
+    ensures few { IfSome result (λ a. file_count (action_of a) ≤ length words.now) }
     ensures numbers { IfSome result (λ a. IsInRange (action_of a)) }
 {
     match words {
@@ -60,11 +59,26 @@ fn find_forecast(words: &[Text]) -> Option<Action<'_>>
     }
 }
 
+/// Finds the check that the arguments `CERT FILE...` ask for.
+fn find_check(words: &[Text]) -> Option<Action<'_>>
+    ensures asked { option_map action_of result ≡ verify_of_words words.now }
+    ensures few { IfSome result (λ a. file_count (action_of a) ≤ length words.now) }
+    ensures numbers { IfSome result (λ a. IsInRange (action_of a)) }
+{
+    let [certificate, ..] = words else {
+        return None;
+    };
+    let files = &words[1..];
+    if certificate.as_str().is_empty() || files.is_empty() || !are_files(files) {
+        return None;
+    }
+    Some(Action::Verify { certificate, files })
+}
+
 /// Finds the drill that the arguments `NUMBER TRACES` ask for.
 fn find_drill(words: &[Text]) -> Option<Action<'static>>
     ensures asked { option_map action_of result ≡ drill_of_words words.now }
-    ensures few { IfSome result (λ a.
-        length (files_of_action (action_of a)) ≤ length words.now) }
+    ensures few { IfSome result (λ a. file_count (action_of a) ≤ length words.now) }
     ensures numbers { IfSome result (λ a. IsInRange (action_of a)) }
 {
     match words {
@@ -80,14 +94,14 @@ fn find_drill(words: &[Text]) -> Option<Action<'static>>
 /// Finds what a command with this name over these files asks for.
 fn find_over_files<'w>(name: &str, files: &'w [Text]) -> Option<Action<'w>>
     ensures asked { option_map action_of result ≡ action_over name.now files.now }
-    ensures few { IfSome result (λ a.
-        length (files_of_action (action_of a)) ≤ length files.now) }
+    ensures few { IfSome result (λ a. file_count (action_of a) ≤ length files.now) }
     ensures numbers { IfSome result (λ a. IsInRange (action_of a)) }
 {
     match files {
         [file] if name == "replay" && !file.as_str().is_empty() => Some(Action::Replay { file }),
         [_, ..] if name == "session" && are_files(files) => Some(Action::Session { files }),
         [_, ..] if name == "tail" && are_files(files) => Some(Action::Tail { files }),
+        [_, ..] if name == "why" && are_files(files) => Some(Action::Why { files }),
         [_, ..] if are_files(files) => {
             let view = View::parse(name)?;
             Some(Action::View { view, files })
@@ -99,12 +113,12 @@ fn find_over_files<'w>(name: &str, files: &'w [Text]) -> Option<Action<'w>>
 /// Finds what the command with this name and the arguments after it asks for.
 fn find_named<'w>(name: &str, words: &'w [Text]) -> Option<Action<'w>>
     ensures asked { option_map action_of result ≡ named_action name.now words.now }
-    ensures few { IfSome result (λ a.
-        length (files_of_action (action_of a)) ≤ length words.now) }
+    ensures few { IfSome result (λ a. file_count (action_of a) ≤ length words.now) }
     ensures numbers { IfSome result (λ a. IsInRange (action_of a)) }
 {
     match name {
         "whatif" => find_forecast(words),
+        "verify" => find_check(words),
         "drill" => find_drill(words),
         _ => find_over_files(name, words),
     }
@@ -113,8 +127,7 @@ fn find_named<'w>(name: &str, words: &'w [Text]) -> Option<Action<'w>>
 /// Finds what a command with its arguments asks for.
 fn find_action(words: &[Text]) -> Option<Action<'_>>
     ensures asked { option_map action_of result ≡ action_of_words words.now }
-    ensures few { IfSome result (λ a.
-        length (files_of_action (action_of a)) ≤ length words.now) }
+    ensures few { IfSome result (λ a. file_count (action_of a) ≤ length words.now) }
     ensures numbers { IfSome result (λ a. IsInRange (action_of a)) }
 {
     match words {
@@ -125,14 +138,14 @@ fn find_action(words: &[Text]) -> Option<Action<'_>>
 
 impl<'w> CommandLine<'w> {
     /// Reads the arguments `[--workers N] COMMAND`, where COMMAND is `session FILE...`, a view as
-    /// `model FILE...`, `whatif TASK START END NUM DEN FILE...`, `tail FILE...`,
-    /// `drill NUMBER TRACES` or `replay FILE`; `None` if they are outside the grammar.
+    /// `model FILE...`, `whatif TASK START END NUM DEN FILE...`, `tail FILE...`, `why FILE...`,
+    /// `verify CERT FILE...`, `drill NUMBER TRACES` or `replay FILE`; `None` if they are outside
+    /// the grammar.
     pub(crate) fn parse(words: &'w [Text]) -> Option<CommandLine<'w>>
         ensures call { option_map call_of_line result ≡ call_of words.now }
         ensures workers { IfSome result (λ line. 0 < line.workers) }
         ensures most { IfSome result (λ line. line.workers ≤ 64) }
-        ensures few { IfSome result (λ line.
-            length (files_of_action (action_of line.action)) < 2 ^ 32) }
+        ensures few { IfSome result (λ line. file_count (action_of line.action) < 2 ^ 32) }
         ensures numbers { IfSome result (λ line. IsInRange (action_of line.action)) }
     {
         if u32::try_from(words.len()).is_err() {
@@ -147,7 +160,7 @@ impl<'w> CommandLine<'w> {
         ensures workers { IfSome result (λ line. 0 < line.workers) }
         ensures most { IfSome result (λ line. line.workers ≤ 64) }
         ensures few { IfSome result (λ line.
-            length (files_of_action (action_of line.action)) ≤ length words.now) }
+            file_count (action_of line.action) ≤ length words.now) }
         ensures numbers { IfSome result (λ line. IsInRange (action_of line.action)) }
     {
         match words {

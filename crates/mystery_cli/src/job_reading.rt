@@ -8,41 +8,45 @@ ghost use Rattle.mystery_io.specs.Input.{input_limit};
 ghost use Rattle.mystery_cli.specs.Works.{Jobs, jobs_said, jobs_with};
 ghost use Rattle.mystery_cli.specs.inner.LastJobs.{IsLastJob};
 
-use event_lines::{Command, Line, LineError, read_lines};
+use event_lines::{Command, Line, LineError, LineParts, read_lines};
 use job_runs::laws::jobs_are_ready;
 use session::{Job, jobs};
 use std::alloc::{AllocError, Global};
+use std::thread::Threads;
 
 /// Appends a control line that adds the events since the last add.
-fn push_add(lines: &mut Vec<Line>) -> Result<(), AllocError>
-    ensures { OnOk result (lines.new.items ≡ lines.old.items ++ Control 0 Add ∷ []) }
+fn push_add(alloc: Global, lines: &mut LineParts) -> Result<(), AllocError>
+    ensures { OnOk result (lines.new ≡ lines.old ++ Control 0 Add ∷ []) }
 {
-    lines.push(Line::Control {
+    let add = Line::Control {
         line: 0,
         command: Command::Add,
-    })?;
-    Ok(())
+    };
+    lines.append(LineParts::of(alloc, vec![in alloc; add]?)?)
 }
 
 /// Makes the jobs of lines. Where there is a last job, the events since the last add are added
 /// before it.
-fn make_jobs(alloc: Global, mut lines: Vec<Line>, last: Option<Job>) -> Result<Vec<Job>, AllocError>
-    ensures { IfOk result (λ jobs. jobs_with last lines.items ≡ Jobs jobs.items) }
+fn make_jobs(alloc: Global, mut lines: LineParts, last: Option<Job>) -> Result<Vec<Job>, AllocError>
+    ensures { IfOk result (λ jobs. jobs_with last lines ≡ Jobs jobs.items) }
 {
     let Some(job) = last else {
         return jobs(alloc, lines);
     };
-    push_add(&mut lines)?;
+    push_add(alloc, &mut lines)?;
     let mut made = jobs(alloc, lines)?;
     made.push(job)?;
     Ok(made)
 }
 
-/// Reads the jobs of the lines of an input, and the last job, which no control line asks for.
+/// Reads the jobs of the lines of an input, by up to so many workers, and the last job, which no
+/// control line asks for.
 ///
 /// The errors are an allocation failure and the first bad line of the input.
-pub(crate) fn read_jobs(
+pub(crate) fn read_jobs<R: Threads + Sync>(
+    rt: &R,
     alloc: Global,
+    workers: u32,
     input: Vec<u8>,
     last: Option<Job>,
 ) -> Result<Vec<Job>, LineError>
@@ -54,7 +58,7 @@ pub(crate) fn read_jobs(
     ensures bad { IfErr result (IsLineError (lines_said input.items)) }
 {
     jobs_are_ready();
-    let lines = read_lines(alloc, &input)?;
+    let lines = read_lines(rt, alloc, &input, workers)?;
     drop(input);
     Ok(make_jobs(alloc, lines, last)?)
 }

@@ -6,19 +6,22 @@ ghost use Rattle.mystery_cli.specs.Endings.{Ends, IsDecided};
 
 use job_runs::laws::{jobs_end_in_one_way, only_watch_numbers_differ};
 
-/// States that arguments and an input have one ending, where no memory, file or sink fails.
+/// States that arguments, a certificate and an input have one ending, where no memory, file or sink
+/// fails.
 pub fn an_input_has_one_ending()
-    ensures { (words : List (List ℕ)) (input : List ℕ) (o p : Outcome) (text other : List ℕ)
-        → IsDecided o → IsDecided p → Ends words input o text → Ends words input p other → o ≡ p }
+    ensures { (words : List (List ℕ)) (certificate input : List ℕ) (o p : Outcome)
+        (text other : List ℕ) → IsDecided o → IsDecided p → Ends words certificate input o text
+        → Ends words certificate input p other → o ≡ p }
 {
     jobs_end_in_one_way();
 }
 
-/// States that two texts of arguments, an input and an ending are one, or are texts of the same
-/// parts that differ in watch numbers alone.
+/// States that two texts of arguments, a certificate, an input and an ending are one, or are texts
+/// of the same parts that differ in watch numbers alone.
 pub fn texts_are_alike()
-    ensures { (words : List (List ℕ)) (input : List ℕ) (o : Outcome) (text other : List ℕ)
-        → IsDecided o → Ends words input o text → Ends words input o other
+    ensures { (words : List (List ℕ)) (certificate input : List ℕ) (o : Outcome)
+        (text other : List ℕ) → IsDecided o → Ends words certificate input o text
+        → Ends words certificate input o other
         → (text ≡ other) ⊎ DifferInWatchNumbers text other }
 {
     jobs_end_in_one_way();

@@ -3,6 +3,7 @@
 #![tactic(auto)]
 
 mod action;
+mod certificate;
 mod change_words;
 mod command_line;
 mod drill;
@@ -13,6 +14,7 @@ pub mod laws;
 mod numbers;
 mod outcome;
 mod program;
+mod readings;
 mod reason;
 mod replay;
 mod replaying;

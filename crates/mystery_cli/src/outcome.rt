@@ -17,13 +17,14 @@ pub enum Outcome {
     Memory,
     /// The arguments are outside the grammar.
     Arguments,
-    /// The line with this number is the first bad one of the input.
+    /// The line with this number is the first bad one: of the certificate, or else of the input.
     BadLine { line: u32, why: Reason },
-    /// The file argument with this index, from 0, could not be opened or read.
+    /// The file argument with this index, from 0, could not be opened or read. A certificate has
+    /// the index 0.
     File { index: u32 },
     /// The text could not be written to its end.
     Write,
-    /// The input has more than 67,108,864 bytes.
+    /// The certificate or the input has more than 67,108,864 bytes.
     Size,
     /// An add passes this limit. The text of the jobs before it was written.
     Over { limit: Limit },

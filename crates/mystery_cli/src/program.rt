@@ -1,42 +1,49 @@
-ghost use Rattle.std.specs.Prelude.{◌≡◌, ◌≤◌, ◌<◌, ◌==◌, ◌⊎◌, List, [], ℕ, length, not};
-ghost use Rattle.std.specs.Prelude.{if◌then◌else◌};
+ghost use Rattle.std.specs.Prelude.{◌≡◌, ◌≤◌, ◌<◌, ◌==◌, ◌⊎◌, ◌^◌, List, [], ℕ, length, not};
+ghost use Rattle.std.specs.Prelude.{if◌then◌else◌, IfOk};
 ghost use Rattle.mystery_io.specs.Counts.{counted_up};
 ghost use Rattle.mystery_io.specs.Input.{input_limit};
 ghost use Rattle.mystery_io.specs.Prefixes.{Sends};
-ghost use Rattle.mystery_io.specs.ReadFaults.{files_seen, OpensFirst, FailedAt};
+ghost use Rattle.mystery_io.specs.ReadFaults.{files_seen, OpensFirst};
 ghost use Rattle.session_rules.specs.declared.limit.Limit.{Limit};
 ghost use Rattle.mystery_cli.specs.declared.outcome.Outcome.{Outcome};
 ghost use Rattle.mystery_cli.specs.declared.outcome.Outcome.TheVariants.{BadLine, File, Over};
 ghost use Rattle.mystery_cli.specs.declared.reason.Reason.{Reason};
-ghost use Rattle.mystery_cli.specs.CommandLines.{action_of, call_of_line, is_in_grammar, files_of};
+ghost use Rattle.mystery_cli.specs.CommandLines.{action_of, all_files_of, call_of_line};
+ghost use Rattle.mystery_cli.specs.CommandLines.{certificate_of, files_of, is_in_grammar};
 ghost use Rattle.mystery_cli.specs.Endings.{Ends, IsDecided};
 ghost use Rattle.mystery_cli.specs.Messages.{status_of, message_of};
-ghost use Rattle.mystery_cli.specs.Runs.{run_seen, EndsAs, Explains, OfInput, ReadsAll};
-ghost use Rattle.mystery_cli.specs.Works.{work_said};
+ghost use Rattle.mystery_cli.specs.Readings.{FailsAt, PassesSize};
+ghost use Rattle.mystery_cli.specs.Runs.{run_seen, EndsAs, Explains, OfInputs, ReadsAll};
+ghost use Rattle.mystery_cli.specs.Works.{work_after, work_with};
+ghost use Rattle.mystery_cli.specs.inner.Actions.{IsInRange};
 ghost use Rattle.mystery_cli.specs.inner.InputEnds.{InputEnds};
-ghost use Rattle.mystery_cli.specs.inner.LastJobs.{IsInRange};
 ghost use Rattle.mystery_cli.specs.inner.Leaving.{LeavesFiles, LeavesSink};
 ghost use Rattle.mystery_cli.specs.inner.OutcomeFaults.{outcome_faults, outcome_read_faults};
+ghost use Rattle.mystery_cli.specs.inner.ReadingTwice.{said_by};
 
-use crate::Outcome;
 use crate::action::Action;
+use crate::certificate::Certificate;
 use crate::command_line::CommandLine;
 use crate::drill::run_drill;
 use crate::forecast::run_forecast;
 use crate::laws::an_input_has_one_ending;
+use crate::readings::{Readings, read_both};
 use crate::replay::replay_input;
 use crate::session_run::run_session;
-use mystery_io::{Files, Gate, ReadFault, Sink, read_all, send_text};
+use crate::{Outcome, Reason};
+use certificates::ClaimList;
+use mystery_io::{Files, Gate, ReadFault, Sink, send_text};
 use session::Job;
 use std::alloc::Global;
 use std::thread::Threads;
 use trace_types::Text;
 
-/// Does what the arguments ask for over an input that was read.
-fn perform_over<R: Threads + Sync, S: Sink, G: Gate + Sync>(
+/// Does what the arguments ask for over an input that was read and the claims of a certificate.
+fn perform_with<R: Threads + Sync, S: Sink, G: Gate + Sync>(
     rt: &R,
     alloc: Global,
     line: CommandLine<'_>,
+    claims: ClaimList,
     input: Vec<u8>,
     out: &mut S,
     gate: &G,
@@ -44,9 +51,10 @@ fn perform_over<R: Threads + Sync, S: Sink, G: Gate + Sync>(
     requires some { 0 < line.workers }
     requires most { line.workers ≤ 64 }
     requires numbers { IsInRange (action_of line.action) }
+    requires few { length claims < 2 ^ 32 }
     requires fits { length input.items ≤ input_limit }
     ensures ends { let call = call_of_line line.entry in
-        InputEnds call.workers (work_said call.action input.items) result
+        InputEnds call.workers (work_with call.action claims input.items) result
         (S.written out.old) (S.written out.new) }
     ensures leaves { LeavesSink result out.old out.new }
     ensures counted { S.faults out.new ≡ outcome_faults result (S.faults out.old) }
@@ -64,10 +72,46 @@ fn perform_over<R: Threads + Sync, S: Sink, G: Gate + Sync>(
             run_forecast(rt, alloc, workers, change, input, out, gate)
         }
         Action::Tail { .. } => run_session(rt, alloc, workers, Some(Job::Tail), input, out, gate),
+        Action::Why { .. } => run_session(rt, alloc, workers, Some(Job::Why), input, out, gate),
+        Action::Verify { .. } => {
+            let last = Job::Verify { claims };
+            run_session(rt, alloc, workers, Some(last), input, out, gate)
+        }
         Action::Drill { number, traces } => {
             run_drill(rt, alloc, workers, number, traces, out, gate)
         }
         Action::Replay { .. } => replay_input(alloc, &input, out),
+    }
+}
+
+/// Does what the arguments ask for over what was read.
+fn perform_over<R: Threads + Sync, S: Sink, G: Gate + Sync>(
+    rt: &R,
+    alloc: Global,
+    line: CommandLine<'_>,
+    readings: Readings,
+    out: &mut S,
+    gate: &G,
+) -> Outcome
+    requires some { 0 < line.workers }
+    requires most { line.workers ≤ 64 }
+    requires numbers { IsInRange (action_of line.action) }
+    requires few { IfOk (said_by readings.certificate) (λ claims. length claims < 2 ^ 32) }
+    requires fits { length readings.input.items ≤ input_limit }
+    ensures ends { let call = call_of_line line.entry in
+        InputEnds call.workers
+        (work_after call.action (said_by readings.certificate) readings.input.items) result
+        (S.written out.old) (S.written out.new) }
+    ensures leaves { LeavesSink result out.old out.new }
+    ensures counted { S.faults out.new ≡ outcome_faults result (S.faults out.old) }
+{
+    let Readings { certificate, input } = readings;
+    match certificate {
+        Certificate::Claims { claims } => perform_with(rt, alloc, line, claims, input, out, gate),
+        Certificate::Bad { line } => Outcome::BadLine {
+            line,
+            why: Reason::Certificate,
+        },
     }
 }
 
@@ -93,25 +137,21 @@ fn perform<R: Threads + Sync, F: Files, S: Sink, G: Gate + Sync>(
     let Some(line) = CommandLine::parse(words) else {
         return Outcome::Arguments;
     };
-    let names = line.action.files();
-    if names.is_empty() {
-        return perform_over(rt, alloc, line, Vec::new(alloc), out, gate);
-    }
-    match read_all(alloc, files, names) {
+    match read_both(alloc, files, line.action.certificate(), line.action.files()) {
         Err(ReadFault::Memory) => Outcome::Memory,
         Err(ReadFault::File { index }) => Outcome::File { index },
         Err(ReadFault::TooBig) => Outcome::Size,
-        Ok(input) => perform_over(rt, alloc, line, input, out, gate),
+        Ok(readings) => perform_over(rt, alloc, line, readings, out, gate),
     }
 }
 
-/// Runs the program: reads the files that the arguments `words` name, if any, writes the text to
-/// `out`, and if it ends in another way a message to `err`. The result is the exit status. Workers
-/// of an add may wait for the gate.
+/// Runs the program: reads the files that the arguments `words` name, if any, the certificate before
+/// the input, writes the text to `out`, and if it ends in another way a message to `err`. The result
+/// is the exit status. Workers of an add may wait for the gate.
 ///
 /// 0: done. 1: out of memory. 2: the arguments are outside the grammar. 3: a line is bad. 4: a file
-/// could not be read. 5: `out` could not be written. 6: the input is too big, or an add passes a
-/// limit. A fault of `err` leaves the status as it is.
+/// could not be read. 5: `out` could not be written. 6: the certificate or the input is too big, or
+/// an add passes a limit. A fault of `err` leaves the status as it is.
 pub fn run<R: Threads + Sync, F: Files, S: Sink, E: Sink, G: Gate + Sync>(
     rt: &R,
     alloc: Global,
@@ -139,28 +179,28 @@ pub fn run<R: Threads + Sync, F: Files, S: Sink, E: Sink, G: Gate + Sync>(
     ensures read_fault { F.faults files.new
         ≡ (if result == 4 then counted_up (F.faults files.old) else F.faults files.old) }
     ensures named_file { result ≡ 4 → (index : ℕ)
-        × FailedAt (files_seen F.contents F.left F.is_open F.names F.opens files.old files.new)
-        (files_of words.now) index
+        × FailsAt (files_seen F.contents F.left F.is_open F.names F.opens files.old files.new)
+        (certificate_of words.now) (files_of words.now) index
         × Sends E.written E.faults err.old err.new (message_of (File index)) }
     ensures write_fault { S.faults out.new
         ≡ (if result == 5 then counted_up (S.faults out.old) else S.faults out.old) }
     ensures limit { result ≡ 6 →
         ((out.new ≡ out.old)
-        × OfInput (F.contents files.old) words.now (λ input. input_limit < length input)
+        × OfInputs (F.contents files.old) words.now PassesSize
         × Sends E.written E.faults err.old err.new (message_of Outcome.Size))
         ⊎ ((limit : Limit)
         × EndsAs (Over limit) (run_seen words.now
         (files_seen F.contents F.left F.is_open F.names F.opens files.old files.new)
         S.written out.old out.new)
         × Sends E.written E.faults err.old err.new (message_of (Over limit))) }
-    ensures decided { OfInput (F.contents files.old) words.now (λ input.
-        (o : Outcome) (text : List ℕ) → IsDecided o → Ends words.now input o text
+    ensures decided { OfInputs (F.contents files.old) words.now (λ certificate input.
+        (o : Outcome) (text : List ℕ) → IsDecided o → Ends words.now certificate input o text
         → (result ≡ status_of o) ⊎ (result ≡ 1) ⊎ (result ≡ 4) ⊎ (result ≡ 5)) }
 
     // Which files were opened, and how far they were read.
     ensures opened { (count : ℕ)
         × OpensFirst (files_seen F.contents F.left F.is_open F.names F.opens files.old files.new)
-        (files_of words.now) count }
+        (all_files_of words.now) count }
     ensures read_all { (result ≡ 0) ⊎ (result ≡ 3) ⊎ (result ≡ 5)
         → ReadsAll (run_seen words.now
         (files_seen F.contents F.left F.is_open F.names F.opens files.old files.new)

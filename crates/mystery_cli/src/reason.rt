@@ -3,13 +3,15 @@ ghost use Rattle.mystery_cli.specs.Messages.{reason_text};
 
 use event_lines::Why;
 
-/// Why a line of the input is bad.
+/// Why a line is bad.
 #[derive(Clone, Copy, Debug, PartialEq, Eq)]
 pub enum Reason {
     /// It is no good event line or control line, for this reason.
     Line { why: Why },
     /// It is outside the form of a file of steps.
     Step,
+    /// It is outside the form of a certificate, whose line it is.
+    Certificate,
 }
 
 impl Reason {
@@ -21,6 +23,7 @@ impl Reason {
         match self {
             Reason::Line { why } => why.as_str(),
             Reason::Step => "bad step",
+            Reason::Certificate => "bad certificate",
         }
     }
 }

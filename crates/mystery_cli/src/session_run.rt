@@ -59,7 +59,7 @@ pub(crate) fn run_session<R: Threads + Sync, S: Sink, G: Gate + Sync>(
     ensures leaves { LeavesSink result out.old out.new }
     ensures counted { S.faults out.new ≡ outcome_faults result (S.faults out.old) }
 {
-    match read_jobs(alloc, input, last) {
+    match read_jobs(rt, alloc, workers, input, last) {
         Ok(jobs) => carry_out(rt, alloc, workers, jobs, out, gate),
         Err(LineError::Memory) => Outcome::Memory,
         Err(LineError::Bad { line, why }) => Outcome::BadLine {

@@ -1,5 +1,7 @@
 mod bad_lines;
+mod certificate_checks;
 mod drills;
+mod fault_tables;
 mod faults;
 mod forecasts;
 mod limits;
@@ -44,27 +46,81 @@ pub(crate) fn mem_file(alloc: Global, name: &str, bytes: &[u8]) -> Result<MemFil
 }
 
 /// What a run meets: its arguments, the files `f` and `g`, the calls on files, on `out` and on
-/// `err` that fail, and how many bytes a write to `out` takes.
+/// `err` that fail, how many bytes a call gives or takes, and how many `out` takes in all.
 #[derive(Clone, Copy)]
 pub(crate) struct Setting<'t> {
     pub(crate) words: &'t [&'t str],
     pub(crate) f: &'t [u8],
     pub(crate) g: &'t [u8],
+    pub(crate) most: usize,
     pub(crate) failing: u32,
     pub(crate) out_failing: u32,
     pub(crate) out_most: usize,
+    pub(crate) out_room: usize,
     pub(crate) err_failing: u32,
+    pub(crate) err_most: usize,
 }
 
 pub(crate) const SETTING: Setting<'static> = Setting {
     words: &["model", "f"],
     f: b"",
     g: b"",
+    most: 4096,
     failing: 0,
     out_failing: 0,
     out_most: ROOM,
+    out_room: ROOM,
     err_failing: 0,
+    err_most: ROOM,
 };
+
+/// How a run ended: its status, and the sinks with what was written.
+#[derive(Drop)]
+pub(crate) struct Ending {
+    pub(crate) status: u8,
+    pub(crate) out: MemSink,
+    pub(crate) err: MemSink,
+}
+
+/// Runs with these arguments over files and sinks in memory.
+fn run_words<R: Threads + Sync + Abort>(
+    rt: &R,
+    alloc: Global,
+    words: &[Text],
+    setting: Setting<'_>,
+) -> Result<Ending, Fail> {
+    let mut all = Vec::new(alloc);
+    all.push(mem_file(alloc, "f", setting.f)?)?;
+    all.push(mem_file(alloc, "g", setting.g)?)?;
+    assert!(rt; setting.most > 0);
+    assert!(rt; setting.out_most > 0);
+    assert!(rt; setting.err_most > 0);
+    let mut files = MemFiles::new(all, setting.most, [setting.failing].to_vec(alloc)?);
+    let mut out = MemSink::new(
+        alloc,
+        setting.out_most,
+        [setting.out_failing].to_vec(alloc)?,
+        setting.out_room,
+    )?;
+    let mut err = MemSink::new(
+        alloc,
+        setting.err_most,
+        [setting.err_failing].to_vec(alloc)?,
+        ROOM,
+    )?;
+    let status = run(rt, alloc, words, &mut files, &mut out, &mut err, &OpenGate);
+    Ok(Ending { status, out, err })
+}
+
+/// Runs with the arguments of the setting over files and sinks in memory.
+pub(crate) fn run_setting<R: Threads + Sync + Abort>(
+    rt: &R,
+    alloc: Global,
+    setting: Setting<'_>,
+) -> Result<Ending, Fail> {
+    let words = texts(alloc, setting.words)?;
+    run_words(rt, alloc, &words, setting)
+}
 
 /// Runs with the arguments of the setting and compares the status and what was written.
 pub(crate) fn expect<R: Threads + Sync + Abort>(
@@ -90,30 +146,10 @@ fn expect_run<R: Threads + Sync + Abort>(
     out: &[u8],
     err: &[u8],
 ) -> Result<(), Fail> {
-    let mut all = Vec::new(alloc);
-    all.push(mem_file(alloc, "f", setting.f)?)?;
-    all.push(mem_file(alloc, "g", setting.g)?)?;
-    assert!(rt; setting.out_most > 0);
-    let mut files = MemFiles::new(all, 4096, [setting.failing].to_vec(alloc)?);
-    let mut to_out = MemSink::new(
-        alloc,
-        setting.out_most,
-        [setting.out_failing].to_vec(alloc)?,
-        ROOM,
-    )?;
-    let mut to_err = MemSink::new(alloc, ROOM, [setting.err_failing].to_vec(alloc)?, ROOM)?;
-    let got = run(
-        rt,
-        alloc,
-        words,
-        &mut files,
-        &mut to_out,
-        &mut to_err,
-        &OpenGate,
-    );
-    assert_eq!(rt; to_err.bytes(), err);
-    assert_eq!(rt; got, status);
-    assert_eq!(rt; to_out.bytes(), out);
+    let ending = run_words(rt, alloc, words, setting)?;
+    assert_eq!(rt; ending.err.bytes(), err);
+    assert_eq!(rt; ending.status, status);
+    assert_eq!(rt; ending.out.bytes(), out);
     Ok(())
 }
 

@@ -28,7 +28,7 @@ fn blank_input_has_the_empty_model(rt: HostRuntime) -> Result<(), Fail> {
     Ok(())
 }
 
-const OUTSIDE_THE_GRAMMAR: [&[&str]; 46] = [
+const OUTSIDE_THE_GRAMMAR: [&[&str]; 53] = [
     &[],
     &[""],
     &["model"],
@@ -63,6 +63,13 @@ const OUTSIDE_THE_GRAMMAR: [&[&str]; 46] = [
     &["whatif", "", "s", "e", "1", "2", "f"],
     &["whatif", "b", "", "e", "1", "2", "f"],
     &["whatif", "b", "s", "", "1", "2", "f"],
+    &["why"],
+    &["why", "f", ""],
+    &["verify"],
+    &["verify", "f"],
+    &["verify", "", "f"],
+    &["verify", "f", ""],
+    &["verify", "f", "g", ""],
     &["drill"],
     &["drill", "1"],
     &["drill", "1", "0"],

@@ -23,7 +23,7 @@ fn put_days(alloc: Global, bytes: &mut Vec<u8>, days: u8, each: bool) -> Result<
 }
 
 /// Appends so many events of one task of this request, each with a name of its own.
-fn put_events(
+pub(crate) fn put_events(
     alloc: Global,
     bytes: &mut Vec<u8>,
     request: &str,
@@ -40,7 +40,7 @@ fn put_events(
 }
 
 /// Appends two events of each of so many tasks.
-fn put_tasks(alloc: Global, bytes: &mut Vec<u8>, count: u32) -> Result<(), AllocError> {
+pub(crate) fn put_tasks(alloc: Global, bytes: &mut Vec<u8>, count: u32) -> Result<(), AllocError> {
     for n in 0..count {
         let task = format!(in alloc; "t{n}")?;
         put_event(bytes, "r1", "m", task.as_str(), "s", "0")?;

@@ -1,9 +1,9 @@
 use super::expect_texts;
-use super::rows::Row::Table;
+use super::rows::Row::{self, Table};
 use std::test::Fail;
 
-/// Two requests for a page, over a phone, a web server and a server of advertisements.
-const PAGE_LOAD: &str = "\
+/// A request for a page, over a phone, a web server and a server of advertisements.
+const FIRST_LOAD: &str = "\
 req 4711|phone-17|browser request|tap|1710720000000000||
 req 4711|phone-17|browser request|request sent|1710720000001200|m1|
 req 4711|web-03|web accept|request received|1710720000031450||m1
@@ -22,6 +22,10 @@ req 4711|phone-17|download|first byte@html|1710720000063500||m5
 req 4711|phone-17|download|last byte|1710720000079100||m4
 req 4711|phone-17|browser render|paint start|1710720000079100||
 req 4711|phone-17|browser render|paint end|1710720000084100||
+";
+
+/// Another one, over another phone.
+const SECOND_LOAD: &str = "\
 req 4712|phone-22|browser request|tap|1710720001000000||
 req 4712|phone-22|browser request|request sent|1710720001000900|m1|
 req 4712|web-03|web accept|request received|1710720001019900||m1
@@ -42,7 +46,13 @@ req 4712|phone-22|browser render|paint start|1710720001064000||
 req 4712|phone-22|browser render|paint end|1710720001067000||
 ";
 
-const PAGE_LOAD_MODEL: &[u8] =
+/// The first request.
+pub(crate) const FIRST: [Row<'static>; 1] = [Table(FIRST_LOAD)];
+
+/// The second request.
+pub(crate) const SECOND: [Row<'static>; 1] = [Table(SECOND_LOAD)];
+
+pub(crate) const PAGE_LOAD_MODEL: &[u8] =
     b"model\ttraces=2\tdays=1\tsegments=9\ttasks=9\thb=29\tmx=0\tpipe=1\n\
         hb\tads call\tcall start\tcall end\tbrowser render\tpaint start\tpaint end\n\
         hb\tads call\tcall start\tcall end\tdownload\tfirst byte@html\tlast byte\n\
@@ -75,7 +85,8 @@ const PAGE_LOAD_MODEL: &[u8] =
         hb\tweb accept\trequest received\tparsed\tuser query\tquery start\tquery end\n\
         pipe\tpage head\tdownload\n";
 
-const PAGE_LOAD_PATHS: &[u8] = b"paths\ttraces=2\npath\treq 4711\t19800\t84100000\t37700000\t5\n\
+pub(crate) const PAGE_LOAD_PATHS: &[u8] =
+    b"paths\ttraces=2\npath\treq 4711\t19800\t84100000\t37700000\t5\n\
         step\tbrowser request\ttap\trequest sent\t1200000\n\
         step\tweb accept\trequest received\tparsed\t800000\n\
         step\tads call\tcall start\tcall end\t15100000\n\
@@ -88,7 +99,7 @@ const PAGE_LOAD_PATHS: &[u8] = b"paths\ttraces=2\npath\treq 4711\t19800\t8410000
         step\tdownload\tfirst byte@html\tlast byte\t21500000\n\
         step\tbrowser render\tpaint start\tpaint end\t3000000\n";
 
-const PAGE_LOAD_REPORT: &[u8] = b"report\ttraces=2\tcritical=83700000\n\
+pub(crate) const PAGE_LOAD_REPORT: &[u8] = b"report\ttraces=2\tcritical=83700000\n\
         latency\t2\t151100000\t67000000\t84100000\n\
         segment\tads call\tcall start\tcall end\t2\t27300000\t12200000\t15100000\t1\t15100000\n\
         segment\tads ranking\trank start\trank end\t2\t26900000\t12000000\t14900000\t0\t0\n\
@@ -101,7 +112,7 @@ const PAGE_LOAD_REPORT: &[u8] = b"report\ttraces=2\tcritical=83700000\n\
         segment\tuser query\tquery start\tquery end\t2\t27000000\t7000000\t20000000\t1\t20000000\n\
         segment\tweb accept\trequest received\tparsed\t2\t1400000\t600000\t800000\t2\t1400000\n";
 
-const PAGE_LOAD_TAIL: &[u8] = b"tail\ttraces=2\tslow=1\tfloor=84100000\n\
+pub(crate) const PAGE_LOAD_TAIL: &[u8] = b"tail\ttraces=2\tslow=1\tfloor=84100000\n\
         segment\tads call\tcall start\tcall end\t1\t15100000\t0\t0\n\
         segment\tads ranking\trank start\trank end\t0\t0\t0\t0\n\
         segment\tbrowser render\tpaint start\tpaint end\t1\t5000000\t1\t3000000\n\
@@ -120,10 +131,10 @@ fn the_page_load_prints_the_same_with_any_number_of_workers(rt: HostRuntime) -> 
             rt.alloc(),
             workers,
             &[
-                ("model", &[&[Table(PAGE_LOAD)]], PAGE_LOAD_MODEL),
-                ("paths", &[&[Table(PAGE_LOAD)]], PAGE_LOAD_PATHS),
-                ("report", &[&[Table(PAGE_LOAD)]], PAGE_LOAD_REPORT),
-                ("tail", &[&[Table(PAGE_LOAD)]], PAGE_LOAD_TAIL),
+                ("model", &[&FIRST, &SECOND], PAGE_LOAD_MODEL),
+                ("paths", &[&FIRST, &SECOND], PAGE_LOAD_PATHS),
+                ("report", &[&FIRST, &SECOND], PAGE_LOAD_REPORT),
+                ("tail", &[&FIRST, &SECOND], PAGE_LOAD_TAIL),
             ],
         )?;
     }

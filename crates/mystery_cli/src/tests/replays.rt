@@ -52,7 +52,7 @@ closed\t0\tfffffffffffffffe\tfffffffffffffffe
 ";
 
 /// A reading that misses an entry, a note, and the reading that has it: the steps.
-const NOTE: &[u8] = b"open 2 2\n\nsplit 0 1\nclear 0 0:1 1:4\nload 1 0\nload 1 1\n \t\r
+pub(crate) const NOTE: &[u8] = b"open 2 2\n\nsplit 0 1\nclear 0 0:1 1:4\nload 1 0\nload 1 1\n \t\r
 clear 0 0:1 1:4\nsplit 0 0\njoin 1 2\nload 1 1\njoin 0 1\nclose 0";
 
 /// Their rows.

@@ -3,7 +3,7 @@ use super::{Printed, SETTING, Setting, expect, expect_texts};
 use Row::{Event, Line, Table};
 use std::test::Fail;
 
-const LATER_OVERLAP: [Row<'static>; 4] = [
+pub(crate) const LATER_OVERLAP: [Row<'static>; 4] = [
     Event("r3", "a", "s", "86400000000"),
     Event("r3", "a", "e", "86400000010"),
     Event("r3", "b", "s", "86400000009"),

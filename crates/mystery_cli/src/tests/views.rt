@@ -17,7 +17,7 @@ const NEVER_TOGETHER: [Row<'static>; 4] = [
     Event("r2", "b", "e", "10"),
 ];
 
-const PIPELINE: [Row<'static>; 6] = [
+pub(crate) const PIPELINE: [Row<'static>; 6] = [
     Event("r1", "t", "x@d", "0"),
     Event("r1", "t", "x@e", "10"),
     Event("r1", "t", "z", "20"),

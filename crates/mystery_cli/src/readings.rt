@@ -1,0 +1,129 @@
+ghost use Rattle.std.specs.Prelude.{◌≡◌, ◌<◌, ◌≤◌, ◌+◌, ◌^◌, ◌++◌, [], length, IfErr, IfOk, IfSome};
+ghost use Rattle.std.specs.Prelude.{OnOk};
+ghost use Rattle.std.specs.Io.KnownBytes.{IsAtEnd};
+ghost use Rattle.certificates.specs.Certificates.{certificate_said};
+ghost use Rattle.mystery_io.specs.Input.{input_limit};
+ghost use Rattle.mystery_io.specs.ReadFaults.{files_seen, HasReadCause, OpensFirst, read_faults};
+ghost use Rattle.mystery_cli.specs.Readings.{told_input};
+ghost use Rattle.mystery_cli.specs.inner.ReadingTwice.{HasReadingCause, said_by};
+
+use crate::certificate::Certificate;
+use certificates::{CertificateError, ClaimList, read_certificate};
+use mystery_io::{Files, ReadFault, read_all};
+use std::alloc::Global;
+use trace_types::Text;
+
+/// What was read for a call.
+#[derive(Debug, Drop)]
+pub(crate) struct Readings {
+    /// What the certificate says.
+    pub(crate) certificate: Certificate,
+    /// The bytes of the input.
+    pub(crate) input: Vec<u8>,
+}
+
+/// Reads the files of these names as one input. That of no file is empty and takes no call.
+fn read_input<F: Files>(alloc: Global, files: &mut F, names: &[Text]) -> Result<Vec<u8>, ReadFault>
+    requires { length names.now < 2 ^ 32 }
+    ensures input { IfOk result (λ v.
+        IfSome (told_input (F.contents files.old) names.now) (λ input. v.items ≡ input)) }
+    ensures fits { IfOk result (λ v. length v.items ≤ input_limit) }
+    ensures end { OnOk result (0 < length names.now → IsAtEnd (F.left files.new)) }
+    ensures opened { OnOk result
+        (OpensFirst (files_seen F.contents F.left F.is_open F.names F.opens files.old files.new)
+        names.now (length names.now)) }
+    ensures cause { IfErr result
+        (HasReadCause (files_seen F.contents F.left F.is_open F.names F.opens files.old files.new)
+        names.now) }
+    ensures unread { names.now ≡ [] → files.new ≡ files.old }
+    ensures contents { F.contents files.new ≡ F.contents files.old }
+    ensures tallied { F.faults files.new ≡ read_faults result (F.faults files.old) }
+{
+    if names.is_empty() {
+        return Ok(Vec::new(alloc));
+    }
+    read_all(alloc, files, names)
+}
+
+/// Reads the file of a certificate and drops its bytes. Without a name there are no claims.
+fn read_claims<F: Files>(
+    alloc: Global,
+    files: &mut F,
+    names: &[Text],
+) -> Result<Certificate, ReadFault>
+    requires { length names.now < 2 ^ 32 }
+    ensures said { IfOk result (λ read. IfSome (told_input (F.contents files.old) names.now)
+        (λ certificate. certificate_said certificate ≡ said_by read)) }
+    ensures fits { OnOk result (IfSome (told_input (F.contents files.old) names.now)
+        (λ certificate. length certificate ≤ input_limit)) }
+    ensures few { IfOk result (λ read. IfOk (said_by read) (λ claims. length claims < 2 ^ 32)) }
+    ensures end { OnOk result (0 < length names.now → IsAtEnd (F.left files.new)) }
+    ensures opened { OnOk result
+        (OpensFirst (files_seen F.contents F.left F.is_open F.names F.opens files.old files.new)
+        names.now (length names.now)) }
+    ensures cause { IfErr result
+        (HasReadCause (files_seen F.contents F.left F.is_open F.names F.opens files.old files.new)
+        names.now) }
+    ensures unread { names.now ≡ [] → files.new ≡ files.old }
+    ensures contents { F.contents files.new ≡ F.contents files.old }
+    ensures tallied { F.faults files.new ≡ read_faults result (F.faults files.old) }
+{
+    let bytes = read_input(alloc, files, names)?;
+    match read_certificate(alloc, &bytes) {
+        Ok(claims) => Ok(Certificate::Claims {
+            claims: ClaimList::of(claims),
+        }),
+        Err(CertificateError::Bad { line }) => Ok(Certificate::Bad { line }),
+        Err(CertificateError::Memory) => Err(ReadFault::Memory),
+    }
+}
+
+/// Reads the file of a certificate, if one is named, and then the files of an input, each reading
+/// within the limit of size by itself.
+///
+/// The error says why not all was read; it counts files over both readings.
+pub(crate) fn read_both<F: Files>(
+    alloc: Global,
+    files: &mut F,
+    certificate: &[Text],
+    names: &[Text],
+) -> Result<Readings, ReadFault>
+    requires { length certificate.now + length names.now < 2 ^ 32 }
+    ensures said { IfOk result (λ read.
+        IfSome (told_input (F.contents files.old) certificate.now)
+        (λ bytes. certificate_said bytes ≡ said_by read.certificate)) }
+    ensures certificate_fits { OnOk result
+        (IfSome (told_input (F.contents files.old) certificate.now)
+        (λ bytes. length bytes ≤ input_limit)) }
+    ensures few { IfOk result (λ read.
+        IfOk (said_by read.certificate) (λ claims. length claims < 2 ^ 32)) }
+    ensures input { IfOk result (λ read.
+        IfSome (told_input (F.contents files.old) names.now)
+        (λ input. read.input.items ≡ input)) }
+    ensures fits { IfOk result (λ read. length read.input.items ≤ input_limit) }
+    ensures end { OnOk result
+        (0 < length (certificate.now ++ names.now) → IsAtEnd (F.left files.new)) }
+    ensures opened { OnOk result
+        (OpensFirst (files_seen F.contents F.left F.is_open F.names F.opens files.old files.new)
+        (certificate.now ++ names.now) (length (certificate.now ++ names.now))) }
+    ensures cause { IfErr result
+        (HasReadingCause
+        (files_seen F.contents F.left F.is_open F.names F.opens files.old files.new)
+        certificate.now names.now) }
+    ensures unread { certificate.now ++ names.now ≡ [] → files.new ≡ files.old }
+    ensures contents { F.contents files.new ≡ F.contents files.old }
+    ensures tallied { F.faults files.new ≡ read_faults result (F.faults files.old) }
+{
+    let said = read_claims(alloc, files, certificate)?;
+    match read_input(alloc, files, names) {
+        Ok(input) => Ok(Readings {
+            certificate: said,
+            input,
+        }),
+        Err(ReadFault::Memory) => Err(ReadFault::Memory),
+        Err(ReadFault::File { index }) => Err(ReadFault::File {
+            index: certificate.len() as u32 + index,
+        }),
+        Err(ReadFault::TooBig) => Err(ReadFault::TooBig),
+    }
+}
