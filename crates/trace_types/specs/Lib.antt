@@ -16,3 +16,4 @@ pub mod SegmentLists
 pub mod Segments
 pub mod Surviving
 pub mod Times
+pub mod inner

@@ -16,6 +16,7 @@ mod named_trace_list;
 mod raw_trace;
 mod segment;
 mod segment_list;
+mod short_text;
 #[cfg(test)]
 mod tests;
 mod text;

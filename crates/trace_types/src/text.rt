@@ -1,22 +1,33 @@
 ghost use Rattle.std.specs.Prelude.{◌≡◌, IfOk};
 
+use crate::short_text::{MOST_SHORT, ShortText};
 use std::alloc::{AllocError, Global};
 use std::cmp::Ordering;
+use std::fmt;
 use std::hash::{Hash, Hasher};
 use std::marker::Model;
 
-/// A UTF-8 text, seen as its list of bytes and ordered by them.
-#[derive(Debug, Drop)]
+/// A UTF-8 text, seen as its list of bytes and ordered by them. One of at most 30 bytes takes no
+/// memory besides its value.
+#[derive(Drop)]
 pub struct Text {
-    text: String,
+    held: Held,
+}
+
+/// The bytes of a text: in the value, or in memory of their own.
+#[derive(Drop)]
+enum Held {
+    Short(ShortText),
+    Long(String),
 }
 
 impl Model for Text {
-    ghost use Rattle.std.specs.Prelude.{List, ℕ, string_bytes};
+    ghost use Rattle.std.specs.Prelude.{List, ℕ};
+    ghost use Rattle.trace_types.specs.inner.Texts.{held_bytes};
 
     ghost Value = { List ℕ };
 
-    ghost view = { λ a. string_bytes a.text };
+    ghost view = { λ a. held_bytes a.held };
 }
 
 impl Text {
@@ -24,16 +35,22 @@ impl Text {
     pub fn new(alloc: Global, text: &str) -> Result<Text, AllocError>
         ensures { IfOk result (λ t. t ≡ text.now) }
     {
-        Ok(Text {
-            text: String::from_str(alloc, text)?,
-        })
+        let held = if text.len() <= MOST_SHORT {
+            Held::Short(ShortText::new(text))
+        } else {
+            Held::Long(String::from_str(alloc, text)?)
+        };
+        Ok(Text { held })
     }
 
     /// Lends the text.
     pub fn as_str(&self) -> &str
         ensures { result.now ≡ self.now }
     {
-        self.text.as_str()
+        match &self.held {
+            Held::Short(text) => text.as_str(),
+            Held::Long(text) => text.as_str(),
+        }
     }
 
     /// Makes a second text with the same bytes. The only error is out of memory.
@@ -41,6 +58,12 @@ impl Text {
         ensures { IfOk result (λ t. t ≡ self.now) }
     {
         Text::new(alloc, self.as_str())
+    }
+}
+
+impl fmt::Debug for Text {
+    fn fmt<W: fmt::Write>(&self, f: &mut fmt::Formatter<W>) -> fmt::Result {
+        fmt::Debug::fmt(self.as_str(), f)
     }
 }
 
