@@ -1,4 +1,5 @@
 ghost use Rattle.std.specs.Prelude.{◌≡◌, ◌<◌, ◌≤◌};
+ghost use Rattle.hypothesis_index.specs.declared.relation.Relation.TheVariants.{Exclusive};
 ghost use Rattle.hypothesis_index.specs.Places.{IsRelation, place_in, place_of, width_of};
 
 use crate::pairs::count_pairs;
@@ -22,6 +23,14 @@ fn place_in(begin: u32, low: u32, high: u32, kind: u32) -> BitPlace
     }
 }
 
+/// Finds the place of the mutual exclusion of two names, the lesser first. It takes no memory.
+pub fn exclusion_place(low: u32, high: u32) -> BitPlace
+    requires { IsRelation (Exclusive low high) }
+    ensures { result ≡ place_of (Exclusive low high) }
+{
+    place_in(TASK_WORDS, low, high, 2)
+}
+
 /// The place of a relation. It takes no memory.
 pub fn place(relation: Relation) -> BitPlace
     requires { IsRelation relation }
@@ -35,7 +44,7 @@ pub fn place(relation: Relation) -> BitPlace
                 place_in(TASK_WORDS, second, first, 1)
             }
         }
-        Relation::Exclusive { low, high } => place_in(TASK_WORDS, low, high, 2),
+        Relation::Exclusive { low, high } => exclusion_place(low, high),
         Relation::Apart { low, high } => place_in(TASK_WORDS, low, high, 3),
         Relation::Pipe { from, to } => {
             if from < to {

@@ -13,6 +13,6 @@ mod relation;
 mod tests;
 
 pub use bit_place::BitPlace;
-pub use layout::{place, width};
+pub use layout::{exclusion_place, place, width};
 pub use reading::unplace;
 pub use relation::Relation;

@@ -4,7 +4,7 @@ use crate::counts::{Counts, count_names, count_pipes};
 use crate::laws::words_tell;
 use crate::pair_lines::lines_between;
 use hypothesis_index::laws::places_fit;
-use hypothesis_index::{Relation, place};
+use hypothesis_index::{Relation, exclusion_place, place};
 use trace_types::laws::relations_are_symmetric;
 use trace_types::{NamedSegment, NamedTrace};
 
@@ -90,6 +90,22 @@ impl<'a> Model<'a> {
         (words[place.word as usize] >> place.bit) & 1
     }
 
+    /// Reads the bit of the mutual exclusion of two names below the model's, the lesser first.
+    fn exclusion_bit(&self, low: u32, high: u32) -> u64
+        requires rises { low < high }
+        requires names { high < self.now.names }
+        ensures value { result ≡ relation_bit self.now.words (Exclusive low high) }
+        ensures told { (traces : List NamedTrace) → AreSurvivors traces self.now.words
+            → TellsOf self.now.words traces (Exclusive low high) }
+    {
+        words_tell();
+        places_fit();
+        let words = self.words;
+        let place = exclusion_place(low, high);
+        let word = words[place.word as usize];
+        (word >> place.bit) & 1
+    }
+
     /// Tells whether no trace refutes that the first of two names happens before the second. Also
     /// true where no trace has both; see `lists_order`. It takes no memory.
     pub fn happens_before(&self, first: u32, second: u32) -> bool
@@ -127,7 +143,7 @@ impl<'a> Model<'a> {
     {
         relations_are_symmetric::<NamedTrace, NamedSegment, u32, u32, u32>();
         let (low, high) = rising(a, b);
-        self.bit(Relation::Exclusive { low, high }) == 1
+        self.exclusion_bit(low, high) == 1
     }
 
     /// Tells whether some trace has both names. It takes no memory.
