@@ -1,17 +1,20 @@
 -- The four bits of a pair of names, as one mask.
-use Rattle.std.proofs.Common.{◌≡◌, ℕ, zero, suc, ◌+◌, ◌-◌, ◌*◌, ◌/◌, ◌%◌, ◌^◌, ◌<◌, ◌≤◌, Bool, true, false, ◌&&◌, ◌||◌, ◌==◌, nat_lt, refl, sym, ap, ◌∙◌, ⊎_elim, arith}
+use Rattle.std.proofs.Common.{◌≡◌, ℕ, zero, suc, ◌+◌, ◌-◌, ◌*◌, ◌/◌, ◌%◌, ◌^◌, ◌<◌, ◌≤◌, Bool, true, false, ◌&&◌, ◌||◌, ◌==◌, nat_lt, max, bit_or, List, refl, sym, ap, ◌∙◌, ⊎_elim, arith}
 use Rattle.std.proofs.Math.Nat.{mod-eq_of_lt, mul-le-mul_left}
 use Rattle.std.proofs.Math.Pow.{pow_mono}
 use Rattle.std.proofs.lemmas.Bool.{cases_eq, cases_lt, cond-true, cond-false, eq-eqb, ne_eqb, lt-ltb, le-ltb}
 use Rattle.std.proofs.lemmas.Nat.{pow_pos}
-use Rattle.std.proofs.lemmas.Nat.Bits.{bit_at_above, bit_at_cat_low, bit_at_cat_high, bit_at-zero}
+use Rattle.std.proofs.lemmas.Nat.Bits.{bit_at_above, bit_at_cat_low, bit_at_cat_high, bit_at_or, bit_at-lt, bit_at-zero}
 use Rattle.std.specs.Int.{bit_at}
-use Rattle.hypothesis_index.specs.Places.{place_of, place_in, pair_number}
+use Rattle.hypothesis_index.specs.Places.{place_of, place_in, pair_number, pairs_below}
 use Rattle.hypothesis_index.specs.declared.bit_place.BitPlace.{BitPlace}
 use Rattle.hypothesis_index.specs.declared.relation.Relation.TheVariants.{Before}
 use Rattle.refute_tests.specs.Clearing.{early, is_at}
-use Rattle.refute_tests.specs.inner.Hits.{hits, kinds_of, word_of}
+use Rattle.refute_tests.proofs.StepLemmas.{PairsFollow}
+use Rattle.refute_tests.specs.inner.Hits.{clears_with, hits, kinds_of, word_of}
 use Rattle.trace_types.specs.declared.named_segment.NamedSegment.{NamedSegment}
+use Rattle.word_rows.specs.Rows.{clears}
+use Rattle.word_rows.specs.declared.entries.Entry.{Entry}
 
 kinds_small : (f g : Bool) → kinds_of f g < 16
 kinds_small true true = omega arith
@@ -112,12 +115,49 @@ module _ (low high : ℕ) (rises : low < high) where
       at : BitPlace → Bool
       at p = (p.word == i) && (p.bit == b)
 
--- the mask of a pair, at its place, has the bits that the pair refutes
-pub pair_mask : (grace : ℕ) (s t : NamedSegment) → s.name < t.name → (place : BitPlace) → place ≡ place_of (Before s.name t.name) → (i b : ℕ)
-    → ((place.word == i) && (bit_at (kinds_of (early grace s t) (early grace t s) * 2 ^ place.bit % 2 ^ 64) b == 1)) ≡ hits grace s t i b
-pair_mask grace s t rises place is i b =
-    ap (λ (p : BitPlace). (p.word == i) && (bit_at (kinds_of (early grace s t) (early grace t s) * 2 ^ p.bit % 2 ^ 64) b == 1)) (is ∙ upward s.name t.name rises)
+-- the mask of a pair, at its slot, has the bits that the pair refutes
+pub pair_mask : (grace : ℕ) (s t : NamedSegment) → s.name < t.name → (slot : ℕ) → slot ≡ 2016 + pairs_below t.name + s.name → (i b : ℕ)
+    → ((slot / 16 == i) && (bit_at (kinds_of (early grace s t) (early grace t s) * 2 ^ (4 * (slot % 16)) % 2 ^ 64) b == 1)) ≡ hits grace s t i b
+pair_mask grace s t rises slot is i b =
+    let word : slot / 16 ≡ word_of s.name t.name = omega arith in
+    let bit : 4 * (slot % 16) ≡ 4 * (pair_number s.name t.name % 16) + 0 = omega arith in
+    (λ j. (word j == i) && (bit_at (kinds_of (early grace s t) (early grace t s) * 2 ^ bit j % 2 ^ 64) b == 1))
     ∙ mask_bits s.name t.name rises (early grace s t) (early grace t s) i b
 
-pub pair_word : (low high : ℕ) → low < high → (place : BitPlace) → place ≡ place_of (Before low high) → place.word ≡ word_of low high
-pair_word low high rises place is = ap (λ (p : BitPlace). p.word) (is ∙ upward low high rises)
+-- ---- the place of a pair that gives the slots of its row
+pub slot_of : (low high : ℕ) → low < high → (place : BitPlace) → place ≡ place_of (Before low high) → 16 * place.word + place.bit / 4 ≡ 2016 + pairs_below high + low
+slot_of low high rises place is =
+    let at : place ≡ place_in 126 low high 0 = is ∙ upward low high rises in
+    let word : place.word ≡ word_of low high = ap (λ (p : BitPlace). p.word) at in
+    let bit : place.bit ≡ 4 * (pair_number low high % 16) + 0 = ap (λ (p : BitPlace). p.bit) at in
+    omega arith
+
+pairs_below-512 : pairs_below 512 ≡ 130816
+unfolding pairs_below
+pairs_below-512 = refl
+
+pub slots_end : PairsFollow → (high : ℕ) → high < 512 → pairs_below high + high ≤ 130816
+slots_end follow high small = let most = follow high 512 small in omega (arith, pairs_below-512)
+
+-- ---- masks of one word
+-- a bit of two masks together
+either_bit : (mask more b : ℕ) → (bit_at (bit_or mask more) b == 1) ≡ ((bit_at mask b == 1) || (bit_at more b == 1))
+either_bit mask more b = ap (λ (k : ℕ). k == 1) (bit_at_or mask more b) ∙ by (bit_at mask b) (bit_at more b) (bit_at-lt mask b) (bit_at-lt more b)
+  where
+    by : (x y : ℕ) → x < 2 → y < 2 → (max x y == 1) ≡ ((x == 1) || (y == 1))
+    by zero zero h l = refl
+    by zero (suc zero) h l = refl
+    by (suc zero) zero h l = refl
+    by (suc zero) (suc zero) h l = refl
+    by (suc (suc x)) y h l = absurd (omega arith)
+    by zero (suc (suc y)) h l = absurd (omega arith)
+    by (suc zero) (suc (suc y)) h l = absurd (omega arith)
+
+spread : (c w p q : Bool) → (c || (w && (p || q))) ≡ ((c || (w && p)) || (w && q))
+spread true w p q = refl
+spread false true p q = refl
+spread false false p q = refl
+
+-- a mask with more bits clears those too
+pub more_bits : (row : List Entry) (word mask more i b : ℕ) → clears_with row word (bit_or mask more) i b ≡ (clears_with row word mask i b || ((word == i) && (bit_at more b == 1)))
+more_bits row word mask more i b = ap (λ (y : Bool). clears row i b || ((word == i) && y)) (either_bit mask more b) ∙ spread (clears row i b) (word == i) (bit_at mask b == 1) (bit_at more b == 1)

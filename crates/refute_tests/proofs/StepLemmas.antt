@@ -5,8 +5,8 @@ use Rattle.std.proofs.lemmas.List.Folds.{list_any_more}
 use Rattle.std.proofs.lemmas.Option.{slice_get_read}
 use Rattle.std.specs.List.{list_any}
 use Rattle.std.specs.Option.{option_map}
-use Rattle.hypothesis_index.specs.Places.{pairs_below, width_of}
-use Rattle.refute_tests.specs.inner.Hits.{NamesRise, word_of, row_start, any_below, hits, row_hits, all_hits}
+use Rattle.hypothesis_index.specs.Places.{pairs_below}
+use Rattle.refute_tests.specs.inner.Hits.{row_start, any_below, hits, row_hits, all_hits}
 use Rattle.trace_types.specs.declared.named_segment.NamedSegment.{NamedSegment}
 use Rattle.word_rows.specs.declared.entries.Entry.{Entry}
 use Rattle.word_rows.specs.Meeting.{BelowWider}
@@ -55,26 +55,6 @@ more_rows grace segments k t i b new old first h at e f =
     e ∙ (λ j. f j || sym r j) ∙ or-assoc first (all_hits grace segments k i b) (row_hits grace segments k i b) ∙ ap (λ (c : Bool). first || c) (sym (any_below-step k (λ y. row_hits grace segments y i b)))
 
 module _ (wider : BelowWider) (follow : PairsFollow) (row : List Entry) where
-  first_pair : (i j : ℕ) → i < j → below (row_start j + 1) row ≡ true → below (word_of i j + 1) row ≡ true
-  first_pair i j l t = wider (row_start j + 1) (word_of i j + 1) row (omega arith) t
-
-  pub starts : (before : List NamedSegment) (name : ℕ) → ((k : ℕ) (d : NamedSegment) → k < length before → (get_or before k d).name < name) → below (row_start name + 1) row ≡ true
-      → (d : NamedSegment) → 0 < length before → below (word_of (get_or before 0 d).name name + 1) row ≡ true
-  starts before name less t d h = first_pair (get_or before 0 d).name name (less 0 d h) t
-
-  pub ends_empty : (name : ℕ) → below (row_start name + 1) row ≡ true → below (row_start (name + 1) + 1) row ≡ true
-  ends_empty name t = let s = follow name (name + 1) (omega arith) in wider (row_start name + 1) (row_start (name + 1) + 1) row (omega arith) t
-
-  pub next_pair : (i i' j : ℕ) → i < i' → below (word_of i j + 1) row ≡ true → below (word_of i' j + 1) row ≡ true
-  next_pair i i' j l t = wider (word_of i j + 1) (word_of i' j + 1) row (omega arith) t
-
-  pub ends_pair : (i j : ℕ) → i < j → below (word_of i j + 1) row ≡ true → below (row_start (j + 1) + 1) row ≡ true
-  ends_pair i j l t = let s = follow j (j + 1) (omega arith) in wider (word_of i j + 1) (row_start (j + 1) + 1) row (omega arith) t
-
-  -- names below n have their pairs in the words of n names
-  pub pair_fits : (i j n : ℕ) → i < j → j < n → below (word_of i j + 1) row ≡ true → below (width_of n) row ≡ true
-  pair_fits i j n l m t = let s = follow j n m in wider (word_of i j + 1) (width_of n) row (omega arith) t
-
   pub next_row : (j j' : ℕ) → j < j' → below (row_start (j + 1) + 1) row ≡ true → below (row_start j' + 1) row ≡ true
   next_row j j' l t = ⊎_elim
       (λ (e : j + 1 ≡ j'). subst (λ (n : ℕ). below (row_start n + 1) row ≡ true) e t)

@@ -12,7 +12,7 @@ use word_rows::RowMaker;
 pub fn starts_early(first: &NamedSegment, second: &NamedSegment, grace: u64) -> bool
     ensures { result ≡ early grace first.now second.now }
 {
-    i128::from(second.start) + i128::from(grace) < i128::from(first.end)
+    second.start.saturating_add_unsigned(grace) < first.end
 }
 
 /// Clears the place of a relation that is refuted, no later word having been begun. The only error

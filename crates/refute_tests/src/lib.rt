@@ -2,6 +2,7 @@
 #![tactic(auto)]
 
 mod clearing;
+mod margins;
 mod pairs;
 mod segments;
 mod sorting;

@@ -8,7 +8,8 @@ ghost use Rattle.refute_tests.specs.inner.Hits.{NamesRise, all_hits, hits, row_s
 ghost use Rattle.trace_types.specs.declared.named_segment.NamedSegment.{NamedSegment};
 ghost use Rattle.word_rows.specs.Rows.{below, clears};
 
-use crate::pairs::clear_pair;
+use crate::margins::{end_limit, start_limit};
+use crate::pairs::{pair_kinds, row_slot, turn_to};
 use crate::sorting::by_name;
 use hypothesis_index::laws::pairs_follow;
 use std::alloc::{AllocError, Global};
@@ -35,9 +36,21 @@ fn clear_below(
 {
     below_wider();
     pairs_follow();
+    let Some(first) = before.first() else {
+        return Ok(());
+    };
+    let row = row_slot(segment.name);
+    let end_limit = end_limit(segment, grace);
+    let start_limit = start_limit(segment, grace);
+    let mut word = row / 16;
+    let mut mask = 0;
     for other in before {
-        clear_pair(maker, grace, other, segment)?;
+        let slot = row + other.name;
+        mask = turn_to(maker, word, mask, slot / 16)?;
+        word = slot / 16;
+        mask |= pair_kinds(other, end_limit, start_limit) << (4 * (slot % 16));
     }
+    maker.clear_mask(word, mask)?;
     Ok(())
 }
 
