@@ -1,5 +1,7 @@
 ghost use Rattle.std.specs.Prelude.{◌≡◌, ◌<◌, ◌≤ℤ◌, IfOk, All, length};
 ghost use Rattle.std.specs.List.{AllZip};
+ghost use Rattle.clock_offsets.specs.FirstEvents.{AreFirstEvents};
+ghost use Rattle.clock_offsets.specs.declared.first_events.Field.TheVariants.{Task};
 ghost use Rattle.trace_types.specs.Events.{named_events};
 ghost use Rattle.trace_types.specs.Repeats.{AreDistinct};
 ghost use Rattle.segment_cut.specs.AdjustedTimes.{adjusted_at};
@@ -10,7 +12,6 @@ ghost use Rattle.segment_cut.specs.inner.Keys.{ArePlacesInOrder};
 use crate::elements::copy_element;
 use crate::neighbours::pair_neighbours;
 use crate::ordering::sort_keys;
-use clock_offsets::{Field, find_first_events};
 use std::alloc::{AllocError, Global};
 use trace_types::{Event, Segment};
 
@@ -63,14 +64,15 @@ fn make_segments(
 pub(crate) fn list_segments(
     alloc: Global,
     events: &[Event],
+    tasks: &[usize],
     times: &[i64],
 ) -> Result<Vec<Segment>, AllocError>
+    requires tasks { AreFirstEvents Task events.now tasks.now }
     requires each { length times.now ≡ length events.now }
     requires named { AreDistinct (named_events events.now) }
     ensures { IfOk result (λ segments. AreListed events.now times.now segments.items) }
 {
-    let tasks = find_first_events(alloc, events, Field::Task)?;
-    let keys = sort_keys(alloc, &tasks, times)?;
+    let keys = sort_keys(alloc, tasks, times)?;
     let pairs = pair_neighbours(alloc, &keys)?;
     make_segments(alloc, events, times, &pairs)
 }

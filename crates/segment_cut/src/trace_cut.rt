@@ -2,7 +2,9 @@ ghost use Rattle.std.specs.Prelude.{◌≢◌, ◌^◌, ◌<◌, ◌≤◌, IfOk
 ghost use Rattle.trace_types.specs.Times.{AreTimely};
 ghost use Rattle.trace_types.specs.Events.{named_events};
 ghost use Rattle.trace_types.specs.Repeats.{AreDistinct};
+ghost use Rattle.clock_offsets.specs.FirstEvents.{AreFirstEvents};
 ghost use Rattle.clock_offsets.specs.Offsets.{AreOffsets};
+ghost use Rattle.clock_offsets.specs.declared.first_events.Field.TheVariants.{Task};
 ghost use Rattle.clock_offsets.specs.Faults.{AreMessagesOnce};
 ghost use Rattle.segment_cut.specs.declared.trace_fault.TraceFault.TheVariants.{Memory};
 ghost use Rattle.segment_cut.specs.Cutting.{IsShort, IsCut};
@@ -13,7 +15,7 @@ use crate::repeats::find_repeated_event;
 use crate::segments::list_segments;
 use crate::span::span;
 use crate::times::adjust_times;
-use clock_offsets::offsets;
+use clock_offsets::{Field, find_first_events, offsets};
 use std::alloc::Global;
 use trace_types::{Event, RawTrace, SegmentList, Trace};
 
@@ -23,9 +25,11 @@ const MOST_EVENTS: usize = 4096;
 /// A day of 86,400 seconds, in nanoseconds.
 const NANOSECONDS_PER_DAY: u64 = 86_400_000_000_000;
 
-/// Checks that the trace is short and that each task has each of its events once.
-fn check_events(alloc: Global, events: &[Event]) -> Result<(), TraceFault>
+/// Checks that the trace is short and that each task has each of its events once, and finds the
+/// first event of each event's task.
+fn check_events(alloc: Global, events: &[Event]) -> Result<Vec<usize>, TraceFault>
     requires { length events.now < 2 ^ 32 }
+    ensures tasks { IfOk result (λ tasks. AreFirstEvents Task events.now tasks.items) }
     ensures short { OnOk result (IsShort events.now) }
     ensures once { OnOk result (AreDistinct (named_events events.now)) }
     ensures err { IfErr result (λ fault. fault ≢ Memory → IsTraceFault events.now fault) }
@@ -35,14 +39,22 @@ fn check_events(alloc: Global, events: &[Event]) -> Result<(), TraceFault>
             count: events.len() as u32,
         });
     }
-    match find_repeated_event(alloc, events)? {
+    let tasks = find_first_events(alloc, events, Field::Task)?;
+    match find_repeated_event(alloc, events, &tasks)? {
         Some(line) => Err(TraceFault::RepeatedEvent { line }),
-        None => Ok(()),
+        None => Ok(tasks),
     }
 }
 
-/// Cuts the trace by these offsets, once the earlier checks have passed.
-fn cut_by(alloc: Global, raw: &RawTrace, by_event: &[i128]) -> Result<Trace, TraceFault>
+/// Cuts the trace by these offsets, once the earlier checks have passed and the first event of each
+/// task is known.
+fn cut_by(
+    alloc: Global,
+    raw: &RawTrace,
+    tasks: &[usize],
+    by_event: &[i128],
+) -> Result<Trace, TraceFault>
+    requires tasks { AreFirstEvents Task raw.now.events tasks.now }
     requires timely { AreTimely raw.now.events }
     requires short { IsShort raw.now.events }
     requires named { AreDistinct (named_events raw.now.events) }
@@ -58,7 +70,7 @@ fn cut_by(alloc: Global, raw: &RawTrace, by_event: &[i128]) -> Result<Trace, Tra
         Ok(times) => times,
         Err(line) => return Err(TraceFault::ClockRange { line }),
     };
-    let segments = list_segments(alloc, events, &times)?;
+    let segments = list_segments(alloc, events, tasks, &times)?;
     Ok(Trace {
         request: raw.request.copy(alloc)?,
         day: (events[0].time / NANOSECONDS_PER_DAY) as u32,
@@ -91,7 +103,7 @@ pub fn cut(alloc: Global, raw: &RawTrace) -> Result<Trace, TraceFault>
     ensures few { IfOk result (λ t. length t.segments ≤ length raw.now.events) }
     ensures err { IfErr result (λ fault. fault ≢ Memory → IsTraceFault raw.now.events fault) }
 {
-    check_events(alloc, raw.events.items())?;
+    let tasks = check_events(alloc, raw.events.items())?;
     let by_event = offsets(alloc, raw)?;
-    cut_by(alloc, raw, &by_event)
+    cut_by(alloc, raw, &tasks, &by_event)
 }

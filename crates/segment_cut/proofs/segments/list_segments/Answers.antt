@@ -9,14 +9,14 @@ use Rattle.segment_cut.proofs.segments.list_segments.Goals as goal
 
 pub make_segments-requires-clause-pairs : goal.make_segments-requires-clause-pairs
 make_segments-requires-clause-pairs c =
-    let keys : AreKeys c.in_ok-tasks.tasks.items c.args.times.now c.in_ok-keys.keys.items = subst (λ (ts : List ℕ). AreKeys ts c.args.times.now c.in_ok-keys.keys.items) c.deref.ensures.value c.in_ok-keys.ensures in
-    let pairs : c.in_ok-pairs.pairs.items ≡ adjacent_pairs c.in_ok-keys.keys.items = c.in_ok-pairs.ensures ∙ ap adjacent_pairs c.deref-2.ensures.value in
-    rw c.deref-3.ensures.value (adjacent_in_order c.args.events.now c.in_ok-tasks.tasks.items c.args.times.now c.in_ok-keys.keys.items c.in_ok-pairs.pairs.items c.in_ok-tasks.ensures keys pairs)
+    let keys : AreKeys c.args.tasks.now c.args.times.now c.in_ok-keys.keys.items = c.in_ok-keys.ensures in
+    let pairs : c.in_ok-pairs.pairs.items ≡ adjacent_pairs c.in_ok-keys.keys.items = c.in_ok-pairs.ensures ∙ ap adjacent_pairs c.deref.ensures.value in
+    rw c.deref-2.ensures.value (adjacent_in_order c.args.events.now c.args.tasks.now c.args.times.now c.in_ok-keys.keys.items c.in_ok-pairs.pairs.items c.requires.tasks keys pairs)
 
 pub returns : goal.returns
 returns c =
-    let keys : AreKeys c.in_ok-tasks.tasks.items c.args.times.now c.in_ok-keys.keys.items = subst (λ (ts : List ℕ). AreKeys ts c.args.times.now c.in_ok-keys.keys.items) c.deref.ensures.value c.in_ok-keys.ensures in
-    let pairs : c.in_ok-pairs.pairs.items ≡ adjacent_pairs c.in_ok-keys.keys.items = c.in_ok-pairs.ensures ∙ ap adjacent_pairs c.deref-2.ensures.value in
-    IfOk-weaker c.make_segments.result (λ s. AllZip (IsSegment c.args.events.now c.args.times.now) c.deref-3.result.now s.items) (λ s. AreListed c.args.events.now c.args.times.now s.items)
-    (λ s zip. listed_are c.args.events.now c.in_ok-tasks.tasks.items c.args.times.now c.in_ok-keys.keys.items c.in_ok-pairs.pairs.items s.items c.in_ok-tasks.ensures keys pairs c.requires.named
-    (subst (λ (ps : List (ℕ × ℕ)). AllZip (IsSegment c.args.events.now c.args.times.now) ps s.items) c.deref-3.ensures.value zip)) c.make_segments.ensures
+    let keys : AreKeys c.args.tasks.now c.args.times.now c.in_ok-keys.keys.items = c.in_ok-keys.ensures in
+    let pairs : c.in_ok-pairs.pairs.items ≡ adjacent_pairs c.in_ok-keys.keys.items = c.in_ok-pairs.ensures ∙ ap adjacent_pairs c.deref.ensures.value in
+    IfOk-weaker c.make_segments.result (λ s. AllZip (IsSegment c.args.events.now c.args.times.now) c.deref-2.result.now s.items) (λ s. AreListed c.args.events.now c.args.times.now s.items)
+    (λ s zip. listed_are c.args.events.now c.args.tasks.now c.args.times.now c.in_ok-keys.keys.items c.in_ok-pairs.pairs.items s.items c.requires.tasks keys pairs c.requires.named
+    (subst (λ (ps : List (ℕ × ℕ)). AllZip (IsSegment c.args.events.now c.args.times.now) ps s.items) c.deref-2.ensures.value zip)) c.make_segments.ensures

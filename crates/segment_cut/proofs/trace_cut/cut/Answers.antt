@@ -10,9 +10,9 @@ use Rattle.segment_cut.proofs.trace_cut.cut.Goals as goal
 pub returns-in_err-by_event-clause-err : goal.returns-in_err-by_event-clause-err
 returns-in_err-by_event-clause-err c =
     let p = err_from_is_err_and c.from_residual-in_err-by_event.result c.from_residual-in_err-by_event.ensures.1 in
-    let short : IsShort c.args.raw.now.events = subst (λ (es : List Event). IsShort es) c.items.ensures c.in_ok-check_events.ensures.short in
-    let once : AreDistinct (named_events c.args.raw.now.events) = subst (λ (es : List Event). AreDistinct (named_events es)) c.items.ensures c.in_ok-check_events.ensures.once in
+    let short : IsShort c.args.raw.now.events = subst (λ (es : List Event). IsShort es) c.items.ensures c.in_ok-tasks.ensures.short in
+    let once : AreDistinct (named_events c.args.raw.now.events) = subst (λ (es : List Event). AreDistinct (named_events es)) c.items.ensures c.in_ok-tasks.ensures.once in
     rw (p.1, p.2) (clock_fault c.args.raw.now.events c.in_err-by_event.field-0.0 short once c.in_err-by_event.ensures.err)
 
 pub cut_by-requires-clause-named : goal.cut_by-requires-clause-named
-cut_by-requires-clause-named c = subst (λ (es : List Event). AreDistinct (named_events es)) c.items.ensures c.in_ok-check_events.ensures.once
+cut_by-requires-clause-named c = subst (λ (es : List Event). AreDistinct (named_events es)) c.items.ensures c.in_ok-tasks.ensures.once
