@@ -9,12 +9,12 @@ ghost use Rattle.batch_sheets.specs.Named.{HasFewSegments};
 ghost use Rattle.batch_sheets.specs.inner.Judging.{Judges, AreJudgedSoFar};
 
 use crate::parts::LEAST_PART;
-use event_lines::gather;
+use event_lines::{EventParts, gather};
 use segment_cut::{TraceFault, cut};
 use session_rules::Refused;
 use std::alloc::{AllocError, Global};
 use std::thread::{Threads, join};
-use trace_types::{Event, RawTrace, Trace};
+use trace_types::{RawTrace, Trace};
 
 /// The traces of a batch: the valid ones, cut into their segments, and those that are refused.
 #[derive(Debug, Drop)]
@@ -104,22 +104,22 @@ fn judge_parts<R: Threads + Sync>(
     join_parts(front?, back?)
 }
 
-/// Gathers the traces of a batch of events, and cuts them by up to so many workers, in parallel. The
-/// only error is that memory ran out.
+/// Gathers the traces of a batch of events, and cuts them, both by up to so many workers, in
+/// parallel. The only error is that memory ran out.
 pub fn judge_batch<R: Threads + Sync>(
     rt: &R,
     alloc: Global,
-    events: Vec<Event>,
+    events: EventParts,
     workers: u32,
 ) -> Result<JudgedTraces, AllocError>
-    requires rising { LinesRise events.items }
-    requires timely { AreTimely events.items }
-    requires few { length events.items < 2 ^ 32 }
+    requires rising { LinesRise events }
+    requires timely { AreTimely events }
+    requires few { length events < 2 ^ 32 }
     ensures judged { IfOk result
-        (λ j. AreJudged (traces_of events.items) j.valid.items j.refused.items) }
+        (λ j. AreJudged (traces_of events) j.valid.items j.refused.items) }
     ensures few { IfOk result (λ j. All HasFewSegments j.valid.items) }
 {
-    let raws = gather(alloc, events)?;
+    let raws = gather(rt, alloc, events, workers)?;
     let parts = (workers as usize).min(raws.len() / LEAST_PART);
     judge_parts(rt, alloc, raws, parts)
 }

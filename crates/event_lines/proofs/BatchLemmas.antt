@@ -21,7 +21,7 @@ with_text [] text = text ∷ []
 with_text (first ∷ texts) text = if bytes_eq text first then first ∷ texts else first ∷ with_text texts text
 
 -- each text once
-abbrev AreApart : List (List ℕ) → Type 0
+abbrev pub AreApart : List (List ℕ) → Type 0
 AreApart [] = Unit {0}
 AreApart (text ∷ texts) = (list_any (bytes_eq text) texts ≡ false) × AreApart texts
 
@@ -94,7 +94,7 @@ apart-without text (first ∷ texts) apart = by (bytes_eq text first) refl (apar
     by true e rest = rw e rest
     by false e rest = rw e (none-without_more text first texts apart.0, rest)
 
-requests_apart : (batch : List Event) → AreApart (requests_of batch)
+pub requests_apart : (batch : List Event) → AreApart (requests_of batch)
 requests_apart [] = tt
 requests_apart (first ∷ batch) = (none-without first.request (requests_of batch), apart-without first.request (requests_of batch) (requests_apart batch))
 
@@ -133,7 +133,7 @@ events_of-none request (first ∷ batch) none = by (bytes_eq request first.reque
 -- ---- the traces
 
 -- a text like one that is none of these is none of them
-none_like : (text like : List ℕ) (texts : List (List ℕ)) → bytes_eq like text ≡ true → list_any (bytes_eq text) texts ≡ false → list_any (bytes_eq like) texts ≡ false
+pub none_like : (text like : List ℕ) (texts : List (List ℕ)) → bytes_eq like text ≡ true → list_any (bytes_eq text) texts ≡ false → list_any (bytes_eq like) texts ≡ false
 none_like text like [] same none = refl
 none_like text like (first ∷ texts) same none = by (bytes_eq text first) refl (none_like text like texts same)
   where

@@ -2,13 +2,17 @@ pub mod BatchLemmas
 pub mod CommandLemmas
 pub mod ConvertingLemmas
 pub mod CutLemmas
+pub mod EntryLemmas
+pub mod FirstPlaceLemmas
 pub mod FlatEventLemmas
 pub mod FlatReadingLemmas
 pub mod GoodLineLemmas
 pub mod InputLineLemmas
 pub mod JsonValueLemmas
 pub mod LineRowLemmas
+pub mod MergeLemmas
 pub mod PieceLemmas
+pub mod PlaceLemmas
 pub mod ReadingLemmas
 pub mod RiseLemmas
 pub mod TableLemmas

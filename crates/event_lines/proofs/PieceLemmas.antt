@@ -2,8 +2,6 @@
 use Rattle.std.proofs.Common.{◌≡◌, ℕ, ◌+◌, ◌<◌, List, [], ◌∷◌, ◌++◌, length, Bool, true, false, Result, Ok, Err, arith, refl, sym, ap, subst, ◌∙◌, append_assoc}
 use Rattle.std.specs.List.{slice_split, onto_first}
 use Rattle.std.proofs.lemmas.List.Splits.{slice_split-cons_yes, slice_split-cons_no, length-slice_split}
-use Rattle.memchr.specs.Find.{is_byte, places}
-use Rattle.memchr.proofs.lemmas.CallerLemmas.{length-places}
 use Rattle.event_lines.specs.declared.line.Line.{Line}
 use Rattle.event_lines.specs.declared.line_error.LineError.{LineError}
 use Rattle.event_lines.specs.Cut.{is_line_feed, input_lines}
@@ -29,9 +27,6 @@ slice_split-append p (x ∷ xs) y ys is = by (p x) refl (slice_split-append p xs
 
 pub input_lines-cut : (front back : List ℕ) → input_lines (front ++ 10 ∷ back) ≡ input_lines front ++ input_lines back
 input_lines-cut front back = slice_split-append is_line_feed front 10 back refl
-
-pub lines_counted : (bytes : List ℕ) → length (places (is_byte 10) bytes) + 1 ≡ length (input_lines bytes)
-lines_counted bytes = ap (λ n. n + 1) (length-places (is_byte 10) bytes) ∙ sym (length-slice_split is_line_feed bytes)
 
 -- ---- what a front says and then what the back after it says
 

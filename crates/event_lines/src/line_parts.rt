@@ -1,47 +1,63 @@
-ghost use Rattle.std.specs.Prelude.{◌≡◌, ◌++◌, IfOk, OnOk};
-ghost use Rattle.event_lines.specs.LineParts.{lines_of_parts};
+ghost use Rattle.std.specs.Prelude.{◌≡◌, ◌∷◌, [], ◌++◌, OnOk};
+ghost use Rattle.event_lines.specs.declared.line.Line.TheVariants.{Control};
+ghost use Rattle.event_lines.specs.LineParts.{lines_of_runs};
 
-use crate::Line;
+use crate::{Command, ControlLine, LineRun};
 use std::alloc::{AllocError, Global};
 use std::marker::Model;
 
-/// Lines in several lists, one after another, seen as one list.
+/// Lines in several runs, one after another, seen as one list.
 #[derive(Debug, Drop)]
 pub struct LineParts {
-    parts: Vec<Vec<Line>>,
+    runs: Vec<LineRun>,
 }
 
 impl Model for LineParts {
     ghost use Rattle.std.specs.Prelude.{List};
     ghost use Rattle.event_lines.specs.declared.line.Line.{Line};
-    ghost use Rattle.event_lines.specs.LineParts.{lines_of_parts};
+    ghost use Rattle.event_lines.specs.LineParts.{lines_of_runs};
 
     ghost Value = { List Line };
 
-    ghost view = { λ a. lines_of_parts a.parts.items };
+    ghost view = { λ a. lines_of_runs a.runs.items };
 }
 
 impl LineParts {
-    /// Makes one part of these lines. The only error is out of memory.
-    pub fn of(alloc: Global, lines: Vec<Line>) -> Result<LineParts, AllocError>
-        ensures { IfOk result (λ parts. parts ≡ lines.items) }
+    /// Makes lines of these runs. Takes no memory.
+    pub(crate) fn of(runs: Vec<LineRun>) -> LineParts
+        ensures { result ≡ lines_of_runs runs.items }
     {
-        Ok(LineParts {
-            parts: vec![in alloc; lines]?,
-        })
+        LineParts { runs }
     }
 
-    /// Appends the parts of later lines; no line is moved. The only error is out of memory.
+    /// Appends later lines; no event is moved. The only error is out of memory.
     pub fn append(&mut self, mut later: LineParts) -> Result<(), AllocError>
         ensures { OnOk result (self.new ≡ self.old ++ later) }
     {
-        self.parts.append(&mut later.parts)
+        self.runs.append(&mut later.runs)
     }
 
-    /// Gives the parts, in order. Takes no memory.
-    pub fn into_parts(self) -> Vec<Vec<Line>>
-        ensures { lines_of_parts result.items ≡ self }
+    /// Appends a control line. The only error is out of memory.
+    pub fn push_control(
+        &mut self,
+        alloc: Global,
+        line: u32,
+        command: Command,
+    ) -> Result<(), AllocError>
+        ensures { OnOk result (self.new ≡ self.old ++ Control line command ∷ []) }
     {
-        self.parts
+        Ok(
+            self.runs.push(LineRun {
+                events: Vec::new(alloc),
+                control: Some(ControlLine { line, command }),
+            })?,
+        )
+    }
+
+    /// Gives the runs, in order. Takes no memory.
+    pub fn into_runs(self) -> Vec<LineRun>
+        ensures { lines_of_runs result.items ≡ self }
+    {
+        self.runs
     }
 }

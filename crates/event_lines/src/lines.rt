@@ -7,7 +7,8 @@ ghost use Rattle.event_lines.specs.inner.Readings.{IsReading};
 
 use crate::blank_lines::is_blank_line;
 use crate::line_reading::read_line;
-use crate::{Line, LineError, LineParts};
+use crate::run_builder::RunBuilder;
+use crate::{LineError, LineParts};
 use json::Scratch;
 use memchr::memchr;
 use std::alloc::Global;
@@ -30,17 +31,17 @@ fn add_line(
     number: u32,
     line: &[u8],
     scratch: &mut Scratch,
-    lines: &mut Vec<Line>,
+    lines: &mut RunBuilder,
 ) -> Result<(), LineError>
     ensures ok { OnOk result (IsOkAnd (lines_said_from number (line.now ∷ []))
-        (λ said. lines.new.items ≡ lines.old.items ++ said)) }
+        (λ said. lines.new ≡ lines.old ++ said)) }
     ensures err { IfErr result (IsLineError (lines_said_from number (line.now ∷ []))) }
 {
     if is_blank_line(line) {
         return Ok(());
     }
     match read_line(alloc, number, line, scratch)? {
-        Ok(said) => Ok(lines.push(said)?),
+        Ok(said) => Ok(lines.push(alloc, said)?),
         Err(why) => Err(LineError::Bad { line: number, why }),
     }
 }
@@ -50,14 +51,14 @@ fn add_line(
 ///
 /// The errors are `Memory`, and `Bad` with the number of the first bad line and the first reason
 /// that holds of it.
-fn read_in_turn(alloc: Global, first: u32, bytes: &[u8]) -> Result<Vec<Line>, LineError>
+fn read_in_turn(alloc: Global, first: u32, bytes: &[u8]) -> Result<RunBuilder, LineError>
     requires { first + length bytes.now < 2 ^ 32 }
     ensures lines_read { IfOk result (λ v.
-        lines_said_from first (input_lines bytes.now) ≡ Ok v.items) }
+        lines_said_from first (input_lines bytes.now) ≡ Ok v) }
     ensures first_bad { IfErr result
         (IsLineError (lines_said_from first (input_lines bytes.now))) }
 {
-    let mut lines = Vec::new(alloc);
+    let mut lines = RunBuilder::new(alloc);
     let mut scratch = Scratch::new(alloc);
     let mut start = 0;
     let mut number = first;
@@ -78,5 +79,5 @@ pub(crate) fn read_piece(alloc: Global, first: u32, bytes: &[u8]) -> Result<Line
     ensures { IsReading (lines_said_from first (input_lines bytes.now)) result }
 {
     let lines = read_in_turn(alloc, first, bytes)?;
-    Ok(LineParts::of(alloc, lines)?)
+    Ok(lines.into_parts()?)
 }

@@ -1,14 +1,14 @@
 ghost use Rattle.std.specs.Prelude.{◌≡◌, ◌≤◌, ◌<◌, ◌+◌, ◌^◌, ◌∷◌, ◌++◌, length};
-ghost use Rattle.std.specs.Prelude.{List, Result, IfSome};
+ghost use Rattle.std.specs.Prelude.{List, Result, IfSome, filter};
 ghost use Rattle.std.specs.Thread.{IsSync};
 ghost use Rattle.event_lines.specs.declared.line.Line.{Line};
-ghost use Rattle.event_lines.specs.Cut.{input_lines};
+ghost use Rattle.event_lines.specs.Cut.{input_lines, is_line_feed};
 ghost use Rattle.event_lines.specs.InputLines.{LineFault, both_said, lines_said_from};
 ghost use Rattle.event_lines.specs.inner.Readings.{IsReading};
 
 use crate::lines::read_piece;
 use crate::{LineError, LineParts};
-use memchr::{memchr, memchr_iter};
+use memchr::memchr;
 use std::alloc::Global;
 use std::thread::{Threads, join};
 
@@ -30,12 +30,26 @@ fn cut_at_line_feed(bytes: &[u8], from: usize) -> Option<(&[u8], &[u8])>
     Some((&bytes[..feed], &bytes[feed + 1..]))
 }
 
+/// Counts the line feeds of bytes. It loops by index, which the compiler vectorizes.
+fn count_line_feeds(bytes: &[u8]) -> u32
+    requires { length bytes.now < 2 ^ 32 }
+    ensures count { result ≡ length (filter is_line_feed bytes.now) }
+    ensures few { result ≤ length bytes.now }
+{
+    let mut count = 0;
+    for at in 0..bytes.len() {
+        count += u32::from(bytes[at] == b'\n');
+    }
+    count
+}
+
 /// Counts the lines of bytes, blank ones too.
 fn count_lines(bytes: &[u8]) -> usize
+    requires { length bytes.now < 2 ^ 32 }
     ensures count { result ≡ length (input_lines bytes.now) }
     ensures few { result ≤ length bytes.now + 1 }
 {
-    memchr_iter(b'\n', bytes).count() + 1
+    count_line_feeds(bytes) as usize + 1
 }
 
 /// Joins what was read of the first part of bytes and of the second. The error is that of the first

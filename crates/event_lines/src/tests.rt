@@ -1,12 +1,14 @@
+ghost use Rattle.std.specs.Prelude.{◌≡◌, ◌≤◌, ◌++◌, length, OnOk};
+
 mod both_ways;
 mod control_lines;
 mod pieces;
 
-use crate::{Line, LineError, gather, lines_rise, read_lines};
-use std::alloc::Global;
+use crate::{EventParts, LineError, gather, lines_rise, read_lines};
+use std::alloc::{AllocError, Global};
 use std::test::Fail;
 use std::thread::Threads;
-use trace_types::{Event, Text};
+use trace_types::{Event, RawTrace, Text};
 
 /// Finds the first bad line of a short input, and its printed reason.
 pub(crate) fn fault_of<R: Threads + Sync>(
@@ -29,11 +31,9 @@ fn times_of<R: Threads + Sync>(rt: &R, alloc: Global, bytes: &[u8]) -> Result<Ve
     if bytes.len() > 1000 {
         return Ok(times);
     }
-    for part in read_lines(rt, alloc, bytes, 1)?.into_parts() {
-        for line in part {
-            if let Line::Event { event } = line {
-                times.push(event.time)?;
-            }
+    for run in read_lines(rt, alloc, bytes, 1)?.into_runs() {
+        for event in &run.events {
+            times.push(event.time)?;
         }
     }
     Ok(times)
@@ -168,22 +168,72 @@ fn event_on(alloc: Global, line: u32, request: &str) -> Result<Event, Fail> {
     })
 }
 
+/// Appends events in two parts, the first with so many events.
+fn push_in_two(
+    parts: &mut EventParts,
+    mut events: Vec<Event>,
+    first: usize,
+) -> Result<(), AllocError>
+    requires { first ≤ length events.items }
+    ensures { OnOk result (parts.new ≡ parts.old ++ events.items) }
+{
+    let later = events.split_off(first)?;
+    parts.push_part(events)?;
+    parts.push_part(later)
+}
+
+/// Gathers events in four parts, the first two with so many events together; nothing where their
+/// lines do not rise.
+fn gather_parts<R: Threads + Sync>(
+    rt: &R,
+    alloc: Global,
+    mut events: Vec<Event>,
+    first: usize,
+    workers: u32,
+) -> Result<Vec<RawTrace>, AllocError> {
+    if events.len() < first || !lines_rise(&events) {
+        return Ok(Vec::new(alloc));
+    }
+    let later = events.split_off(first)?;
+    let (half, half_of_later) = (events.len() / 2, later.len() / 2);
+    let mut parts = EventParts::new(alloc);
+    push_in_two(&mut parts, events, half)?;
+    push_in_two(&mut parts, later, half_of_later)?;
+    gather(rt, alloc, parts, workers)
+}
+
+/// Lines of events and their requests.
+const EVENTS: [(u32, &str); 8] = [
+    (3, "b"),
+    (5, "a"),
+    (6, "b"),
+    (9, "c"),
+    (12, "a"),
+    (13, "d"),
+    (15, "b"),
+    (20, "c"),
+];
+
 #[test]
 fn a_trace_has_all_events_of_a_request_and_traces_stand_by_their_first(
     rt: HostRuntime,
 ) -> Result<(), Fail> {
-    let mut events = Vec::new(rt.alloc());
-    for (line, request) in [(3, "b"), (5, "a"), (6, "b"), (9, "c"), (12, "a")] {
-        events.push(event_on(rt.alloc(), line, request)?)?;
-    }
-    assert!(rt; lines_rise(events.as_slice()));
-    let mut gathered = Vec::new(rt.alloc());
-    for trace in gather(rt.alloc(), events)? {
-        for event in trace.events.items() {
-            gathered.push(format!(in rt.alloc(); "{} {}", trace.request.as_str(), event.line)?)?;
+    for workers in [0, 1, 2, 64] {
+        for first in 0..9 {
+            let mut events = Vec::new(rt.alloc());
+            for (line, request) in EVENTS {
+                events.push(event_on(rt.alloc(), line, request)?)?;
+            }
+            let mut gathered = Vec::new(rt.alloc());
+            for trace in gather_parts(&rt, rt.alloc(), events, first, workers)? {
+                for event in trace.events.items() {
+                    let request = trace.request.as_str();
+                    gathered.push(format!(in rt.alloc(); "{request} {}", event.line)?)?;
+                }
+            }
+            let gathered = gathered.join(rt.alloc(), ",")?;
+            assert_eq!(rt; gathered.as_str(), "b 3,b 6,b 15,a 5,a 12,c 9,c 20,d 13");
         }
     }
-    let gathered = gathered.join(rt.alloc(), ",")?;
-    assert_eq!(rt; gathered.as_str(), "b 3,b 6,a 5,a 12,c 9");
     Ok(())
 }

@@ -19,8 +19,8 @@ fn has_control_character(text: &str) -> bool
     text.bytes().any(is_control_character)
 }
 
-/// Tells whether a text is empty, too long, or has a control character.
-pub(crate) fn is_bad_text(text: &str) -> bool
+/// Tells whether a text is empty, longer than 64 bytes, or has an ASCII control character.
+pub fn is_bad_text(text: &str) -> bool
     ensures { result ≡ is_bad_text text.now }
 {
     text.is_empty() || text.len() > LONGEST || has_control_character(text)

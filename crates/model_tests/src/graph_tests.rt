@@ -7,14 +7,20 @@ use slack::slacks;
 use std::alloc::Global;
 use std::rt::HostRuntime;
 use std::test::Fail;
+use std::thread::Threads;
 use trace_graph::{OrderedGraph, graph};
 use weighted_dag::reduce;
 
 /// Makes the graph of the only trace of these events, which has this grace, in nanoseconds.
-fn graph_of(alloc: Global, events: &[(&str, &str, u64)], grace: u64) -> Option<OrderedGraph> {
+fn graph_of<R: Threads + Sync>(
+    rt: &R,
+    alloc: Global,
+    events: &[(&str, &str, u64)],
+    grace: u64,
+) -> Option<OrderedGraph> {
     let mut all = Vec::new(alloc);
     push_request(&mut all, alloc, "r1", events).ok()?;
-    let traces = cut_traces(alloc, all)?;
+    let traces = cut_traces(rt, alloc, all)?;
     let (catalogue, named) = name_traces(alloc, traces, grace)?;
     let count = catalogue.names();
     if count > 512 || !are_below(&named, count) {
@@ -44,7 +50,7 @@ const TWO_WAYS: [(&str, &str, u64); 8] = [
 #[test]
 fn longer_of_two_ways_is_critical(rt: HostRuntime) -> Result<(), Fail> {
     let alloc = rt.alloc();
-    let graph = graph_of(alloc, &TWO_WAYS, 0).expect(&rt, "graph");
+    let graph = graph_of(&rt, alloc, &TWO_WAYS, 0).expect(&rt, "graph");
     assert!(rt; graph.order.items() == [0, 2, 1, 3].as_slice());
     assert!(rt; graph.dag.weights() == [5000, 4000, 10000, 3000].as_slice());
     let chain = critical(alloc, &graph.dag)?;
@@ -63,7 +69,7 @@ fn longer_of_two_ways_is_critical(rt: HostRuntime) -> Result<(), Fail> {
 fn equal_segments_stand_by_index(rt: HostRuntime) -> Result<(), Fail> {
     let alloc = rt.alloc();
     let events = [("a", "s", 5), ("a", "e", 5), ("b", "s", 5), ("b", "e", 5)];
-    let graph = graph_of(alloc, &events, 0).expect(&rt, "graph");
+    let graph = graph_of(&rt, alloc, &events, 0).expect(&rt, "graph");
     assert!(rt; graph.dag.weights() == [0, 0].as_slice());
     assert!(rt; graph.order.items() == [0, 1].as_slice());
     assert!(rt; graph.dag.successors(0) == [1].as_slice());
@@ -75,9 +81,9 @@ fn equal_segments_stand_by_index(rt: HostRuntime) -> Result<(), Fail> {
 fn grace_lets_segments_overlap(rt: HostRuntime) -> Result<(), Fail> {
     let alloc = rt.alloc();
     let events = [("a", "s", 0), ("a", "e", 100), ("b", "s", 1), ("b", "e", 5)];
-    let with = graph_of(alloc, &events, 10_000).expect(&rt, "graph");
+    let with = graph_of(&rt, alloc, &events, 10_000).expect(&rt, "graph");
     assert!(rt; critical(alloc, &with.dag)?.length == 104_000);
-    let without = graph_of(alloc, &events, 0).expect(&rt, "graph");
+    let without = graph_of(&rt, alloc, &events, 0).expect(&rt, "graph");
     assert!(rt; critical(alloc, &without.dag)?.length == 100_000);
     Ok(())
 }

@@ -3,18 +3,25 @@ ghost use Rattle.refute_tests.specs.Clearing.{HaveNamesBelow};
 ghost use Rattle.trace_types.specs.Parts.{by_text, segments_of};
 ghost use Rattle.trace_types.specs.declared.named_segment.NamedSegment.{NamedSegment};
 
-use event_lines::{gather, lines_rise};
+use event_lines::{EventParts, gather, lines_rise};
 use segment_cut::cut;
 use segment_names::Catalogue;
 use std::alloc::Global;
+use std::thread::Threads;
 use trace_types::{Event, NamedSegment, NamedTrace, Trace, are_timely};
 
 /// Gathers and cuts the traces of events; none where a trace is refused.
-pub(crate) fn cut_traces(alloc: Global, events: Vec<Event>) -> Option<Vec<Trace>> {
+pub(crate) fn cut_traces<R: Threads + Sync>(
+    rt: &R,
+    alloc: Global,
+    events: Vec<Event>,
+) -> Option<Vec<Trace>> {
     if !lines_rise(&events) {
         return None;
     }
-    let raws = gather(alloc, events).ok()?;
+    let mut parts = EventParts::new(alloc);
+    parts.push_part(events).ok()?;
+    let raws = gather(rt, alloc, parts, 4).ok()?;
     let mut traces = Vec::with_capacity(alloc, raws.len()).ok()?;
     for raw in &raws {
         let events = raw.events.items();

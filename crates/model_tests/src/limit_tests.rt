@@ -5,6 +5,7 @@ use pipeline_tests::DaySheet;
 use std::alloc::{AllocError, Global};
 use std::rt::HostRuntime;
 use std::test::Fail;
+use std::thread::Threads;
 use trace_types::Event;
 
 /// Makes a trace of one task with so many events, a microsecond apart.
@@ -18,8 +19,8 @@ fn one_task(alloc: Global, count: u64) -> Result<Vec<Event>, AllocError> {
 }
 
 /// Counts the lines of the model of events; none where a trace is refused or a limit is passed.
-fn count_lines(alloc: Global, events: Vec<Event>) -> Option<Counts> {
-    let traces = cut_traces(alloc, events)?;
+fn count_lines<R: Threads + Sync>(rt: &R, alloc: Global, events: Vec<Event>) -> Option<Counts> {
+    let traces = cut_traces(rt, alloc, events)?;
     let (catalogue, named) = name_traces(alloc, traces, 0)?;
     let count = catalogue.names();
     if count > 512 || !are_below(&named, count) {
@@ -33,13 +34,13 @@ fn count_lines(alloc: Global, events: Vec<Event>) -> Option<Counts> {
 #[test]
 fn one_task_has_513_events_at_most(rt: HostRuntime) -> Result<(), Fail> {
     let alloc = rt.alloc();
-    let most = count_lines(alloc, one_task(alloc, 513)?);
+    let most = count_lines(&rt, alloc, one_task(alloc, 513)?);
     let all = Counts {
         hb: 130_816,
         mx: 0,
         pipe: 0,
     };
     assert!(rt; most == Some(all));
-    assert!(rt; count_lines(alloc, one_task(alloc, 514)?) == None);
+    assert!(rt; count_lines(&rt, alloc, one_task(alloc, 514)?) == None);
     Ok(())
 }

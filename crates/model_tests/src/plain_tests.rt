@@ -59,7 +59,7 @@ fn words_tell_what_the_traces_do(rt: HostRuntime) -> Result<(), Fail> {
     let alloc = rt.alloc();
     for seed in 0..20u32 {
         let events = drawn_events(alloc, seed, &["r1", "r2", "r3"]).expect(&rt, "events");
-        let traces = cut_traces(alloc, events).expect(&rt, "traces");
+        let traces = cut_traces(&rt, alloc, events).expect(&rt, "traces");
         let plain = told_by_traces(alloc, &traces).expect(&rt, "plain");
         let told = told_by_words(alloc, traces).expect(&rt, "words");
         assert!(rt; told == plain);

@@ -5,6 +5,7 @@ use pipeline_tests::DaySheet;
 use std::alloc::Global;
 use std::rt::HostRuntime;
 use std::test::Fail;
+use std::thread::Threads;
 use trace_types::Event;
 
 /// The names of the page load's segments by their codes, each with tabs between its fields.
@@ -54,8 +55,13 @@ const ORDERS: [(&str, &str); 29] = [
 ];
 
 /// Tells the relations that the traces of events leave, each trace with this grace.
-fn relations_of(alloc: Global, events: Vec<Event>, grace: u64) -> Option<String> {
-    let traces = cut_traces(alloc, events)?;
+fn relations_of<R: Threads + Sync>(
+    rt: &R,
+    alloc: Global,
+    events: Vec<Event>,
+    grace: u64,
+) -> Option<String> {
+    let traces = cut_traces(rt, alloc, events)?;
     let (catalogue, named) = name_traces(alloc, traces, grace)?;
     let count = catalogue.names();
     if count > 512 || !are_below(&named, count) {
@@ -85,7 +91,7 @@ fn page_load_has_its_relations(rt: HostRuntime) -> Result<(), Fail> {
         }
     }
     expected.push_str("pipe\tpage head\tdownload\n")?;
-    let text = relations_of(alloc, page_load(alloc)?, 0);
+    let text = relations_of(&rt, alloc, page_load(alloc)?, 0);
     assert!(rt; text == Some(expected));
     Ok(())
 }
@@ -95,7 +101,7 @@ fn pipelines_stand_until_elements_are_turned(rt: HostRuntime) -> Result<(), Fail
     let alloc = rt.alloc();
     let mut one = Vec::new(alloc);
     push_request(&mut one, alloc, "r1", &IN_ORDER)?;
-    let first = relations_of(alloc, one, 0);
+    let first = relations_of(&rt, alloc, one, 0);
     let rows = "hb\tt\tx@d\tx@e\tt\tx@e\tz\nhb\tt\tx@d\tx@e\tu\ty@d\ty@e\n\
         hb\tt\tx@d\tx@e\tu\ty@e\tw\nhb\tt\tx@e\tz\tu\ty@d\ty@e\nhb\tt\tx@e\tz\tu\ty@e\tw\n\
         hb\tu\ty@d\ty@e\tu\ty@e\tw\npipe\tt\tu\n";
@@ -103,7 +109,7 @@ fn pipelines_stand_until_elements_are_turned(rt: HostRuntime) -> Result<(), Fail
     let mut two = Vec::new(alloc);
     push_request(&mut two, alloc, "r1", &IN_ORDER)?;
     push_request(&mut two, alloc, "r2", &TURNED)?;
-    let both = relations_of(alloc, two, 0);
+    let both = relations_of(&rt, alloc, two, 0);
     let rows = "hb\tt\tx@d\tx@e\tt\tx@e\tz\nhb\tt\tx@d\tx@e\tu\ty@d\tw\n\
         hb\tt\tx@d\tx@e\tu\ty@d\ty@e\nhb\tt\tx@d\tx@e\tu\ty@e\tw\n\
         hb\tt\tx@d\tx@e\tu\ty@e\ty@d\nhb\tt\tx@e\tz\tu\ty@d\tw\nhb\tt\tx@e\tz\tu\ty@d\ty@e\n\

@@ -8,7 +8,7 @@ ghost use Rattle.mystery_io.specs.Input.{input_limit};
 ghost use Rattle.mystery_cli.specs.Works.{Jobs, jobs_said, jobs_with};
 ghost use Rattle.mystery_cli.specs.inner.LastJobs.{IsLastJob};
 
-use event_lines::{Command, Line, LineError, LineParts, read_lines};
+use event_lines::{Command, LineError, LineParts, read_lines};
 use job_runs::laws::jobs_are_ready;
 use session::{Job, jobs};
 use std::alloc::{AllocError, Global};
@@ -18,11 +18,7 @@ use std::thread::Threads;
 fn push_add(alloc: Global, lines: &mut LineParts) -> Result<(), AllocError>
     ensures { OnOk result (lines.new ≡ lines.old ++ Control 0 Add ∷ []) }
 {
-    let add = Line::Control {
-        line: 0,
-        command: Command::Add,
-    };
-    lines.append(LineParts::of(alloc, vec![in alloc; add]?)?)
+    lines.push_control(alloc, 0, Command::Add)
 }
 
 /// Makes the jobs of lines. Where there is a last job, the events since the last add are added

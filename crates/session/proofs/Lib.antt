@@ -4,5 +4,6 @@ mod CarryLemmas
 mod ControlLemmas
 mod CountLemmas
 mod KnownLemmas
+mod RunLemmas
 mod SheetLemmas
 mod SplitLemmas

@@ -16,10 +16,11 @@ use crate::laws::{
 };
 use crate::{Session, record_batch};
 use batch_sheets::{DayLines, judge_batch};
+use event_lines::EventParts;
 use mystery_io::Gate;
 use session_rules::Refused;
 use std::thread::Threads;
-use trace_types::{EventList, Trace};
+use trace_types::Trace;
 
 /// A session after an add, and what is printed of the add.
 #[derive(Drop)]
@@ -100,7 +101,7 @@ impl Session {
     pub(crate) fn add_batch<R: Threads + Sync, G: Gate + Sync>(
         self,
         rt: &R,
-        events: EventList,
+        events: EventParts,
         gate: &G,
     ) -> Result<AddedBatch, AddFault>
         requires rising { LinesRise events }
@@ -120,7 +121,7 @@ impl Session {
         add_leads_on();
         add_passes_days();
         add_is_told();
-        let judged = judge_batch(rt, self.alloc, events.into_items(), self.workers)?;
+        let judged = judge_batch(rt, self.alloc, events, self.workers)?;
         let mut session = self.add_names(&judged.valid)?;
         let watched = session.add_days(rt, judged.valid, gate)?;
         Ok(AddedBatch {

@@ -8,12 +8,12 @@ ghost use Rattle.session.specs.inner.Steps.{IsNoAdd};
 
 use crate::added_text::print_added;
 use crate::{CommandFault, Job, Session};
+use event_lines::EventParts;
 use mystery_io::{Gate, Sink};
 use session_rules::SessionPart;
 use std::thread::Threads;
 use text_rows::laws::{flush_ends_a_text, flush_ends_parts};
 use text_rows::{RowBuffer, flush};
-use trace_types::EventList;
 
 impl Session {
     /// Carries out a job other than an add, and writes its text. After an error the session is
@@ -48,7 +48,7 @@ impl Session {
     fn add<R: Threads + Sync, S: Sink, G: Gate + Sync>(
         self,
         rt: &R,
-        events: EventList,
+        events: EventParts,
         out: &mut S,
         gate: &G,
     ) -> Result<Session, CommandFault>

@@ -4,13 +4,13 @@ ghost use Rattle.trace_types.specs.Times.{AreTimely};
 
 use crate::{CommandFault, Job, Session};
 use certificates::{Claim, ClaimList, Matter};
-use event_lines::{Command, lines_rise};
+use event_lines::{Command, EventParts, lines_rise};
 use mystery_io::{MemSink, OpenGate, Sink};
 use session_rules::NamedChange;
 use std::alloc::{AllocError, Global};
 use std::test::Fail;
 use std::thread::Threads;
-use trace_types::{Event, EventList, NameText, Text};
+use trace_types::{Event, NameText, Text};
 
 /// A day in nanoseconds.
 const DAY: u64 = 86_400_000_000_000;
@@ -61,8 +61,11 @@ fn add<R: Threads + Sync, S: Sink>(
     if !lines_rise(&events) || !are_timely(&events) {
         return Err(CommandFault::Memory);
     }
-    let events = EventList::of(events);
-    session.command(rt, Job::Add { events }, out, &OpenGate)
+    let mut parts = EventParts::new(session.alloc);
+    let Ok(()) = parts.push_part(events) else {
+        return Err(CommandFault::Memory);
+    };
+    session.command(rt, Job::Add { events: parts }, out, &OpenGate)
 }
 
 /// Carries out a job that adds nothing, or answers `Memory` where there are many traces.

@@ -1,7 +1,6 @@
 use crate::NamedChange;
 use certificates::ClaimList;
-use event_lines::Command;
-use trace_types::EventList;
+use event_lines::{Command, EventParts};
 
 /// What a session is asked to do.
 #[derive(Debug, Drop)]
@@ -9,7 +8,7 @@ pub enum Job {
     /// Add the traces of a batch of events.
     Add {
         /// The events, by line.
-        events: EventList,
+        events: EventParts,
     },
     /// Carry out the command of another control line than `add`.
     Control {

@@ -1,5 +1,5 @@
 use super::fault_of;
-use crate::{Command, Line, is_blank_line, read_lines};
+use crate::{Command, is_blank_line, read_lines};
 use std::alloc::Global;
 use std::test::Fail;
 use std::thread::Threads;
@@ -84,12 +84,12 @@ fn command_of<R: Threads + Sync>(rt: &R, alloc: Global, bytes: &[u8]) -> Option<
     if bytes.len() > 1000 {
         return None;
     }
-    let parts = read_lines(rt, alloc, bytes, 1).ok()?.into_parts();
-    match parts.as_slice() {
-        [lines] => match lines.as_slice() {
-            [Line::Control { line, command }] => Some((*line, *command)),
-            _ => None,
-        },
+    let runs = read_lines(rt, alloc, bytes, 1).ok()?.into_runs();
+    match runs.as_slice() {
+        [first, last] if first.events.is_empty() && last.events.is_empty() => {
+            let control = first.control?;
+            Some((control.line, control.command))
+        }
         _ => None,
     }
 }

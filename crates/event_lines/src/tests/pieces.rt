@@ -1,7 +1,7 @@
 ghost use Rattle.std.specs.Prelude.{◌<◌};
 
 use crate::input_reading::read_shared;
-use crate::{Line, LineError, read_lines};
+use crate::{LineError, LineRun, read_lines};
 use std::alloc::{AllocError, Global};
 use std::test::Fail;
 use std::thread::Threads;
@@ -46,13 +46,15 @@ const INPUTS: [(&str, &str); 11] = [
     ),
 ];
 
-/// Prints the number of a line with the name of its event or its command.
-fn print_line(alloc: Global, line: &Line) -> Result<String, AllocError> {
-    let number = line.number();
-    match line {
-        Line::Event { event } => format!(in alloc; "{number} {}", event.event.as_str()),
-        Line::Control { command, .. } => format!(in alloc; "{number} {command:?}"),
+/// Prints the number of each line of a run with the name of its event or its command.
+fn print_run(alloc: Global, run: &LineRun, printed: &mut Vec<String>) -> Result<(), AllocError> {
+    for event in &run.events {
+        printed.push(format!(in alloc; "{} {}", event.line, event.event.as_str())?)?;
     }
+    if let Some(control) = run.control {
+        printed.push(format!(in alloc; "{} {:?}", control.line, control.command)?)?;
+    }
+    Ok(())
 }
 
 /// Prints what a short input says that so many workers share in pieces of about this length or
@@ -76,10 +78,8 @@ fn print_shared<R: Threads + Sync>(
             printed.push(format!(in alloc; "{line} {}", why.as_str())?)?;
         }
         Ok(lines) => {
-            for part in lines.into_parts() {
-                for line in &part {
-                    printed.push(print_line(alloc, line)?)?;
-                }
+            for run in lines.into_runs() {
+                print_run(alloc, &run, &mut printed)?;
             }
         }
     }
@@ -99,8 +99,8 @@ fn an_input_says_the_same_in_any_number_of_pieces(rt: HostRuntime) -> Result<(),
     Ok(())
 }
 
-/// Counts the parts of the lines of an input that so many workers read.
-fn count_parts<R: Threads + Sync>(
+/// Counts the runs of the lines of an input that so many workers read.
+fn count_runs<R: Threads + Sync>(
     rt: &R,
     alloc: Global,
     bytes: &[u8],
@@ -110,14 +110,15 @@ fn count_parts<R: Threads + Sync>(
         return None;
     }
     let lines = read_lines(rt, alloc, bytes, workers).ok()?;
-    Some(lines.into_parts().len())
+    Some(lines.into_runs().len())
 }
 
+/// A piece of fewer than 2,048 lines is one run.
 #[test]
 fn a_long_input_is_read_in_a_piece_for_each_worker(rt: HostRuntime) -> Result<(), Fail> {
     let blanks = " ".repeat(rt.alloc(), 99)?;
     let line = format!(in rt.alloc(); "{blanks}\n")?;
-    for (lines, workers, parts) in [
+    for (lines, workers, runs) in [
         (1310, 64, 1),
         (1311, 64, 2),
         (2000, 0, 1),
@@ -127,8 +128,8 @@ fn a_long_input_is_read_in_a_piece_for_each_worker(rt: HostRuntime) -> Result<()
         (2000, 64, 3),
     ] {
         let input = line.repeat(rt.alloc(), lines)?;
-        let counted = count_parts(&rt, rt.alloc(), input.as_str().as_bytes(), workers);
-        assert_eq!(rt; counted, Some(parts), "{lines} lines, {workers} workers");
+        let counted = count_runs(&rt, rt.alloc(), input.as_str().as_bytes(), workers);
+        assert_eq!(rt; counted, Some(runs), "{lines} lines, {workers} workers");
     }
     Ok(())
 }

@@ -1,4 +1,4 @@
-use Rattle.std.proofs.Common.{rules, ◌≡◌, ◌≤◌, ◌<◌, ◌-◌, ◌/◌, length, arith, take, drop}
+use Rattle.std.proofs.Common.{rules, arith}
 use Rattle.batch_sheets.specs.inner.Judging.{AreJudgedSoFar}
 use Rattle.batch_sheets.proofs.JudgeLemmas.{joined_parts, few_front, few_back, timely_front, timely_back}
 use Rattle.batch_sheets.proofs.judging.+fn-judge_parts-join+arg3+judge_parts.Goals as goal

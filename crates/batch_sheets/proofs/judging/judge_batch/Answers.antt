@@ -7,7 +7,7 @@ judge_parts-requires g c = (
   search rules,
   (
     omega (arith, c.in_ok-raws.ensures.all, c.requires.few),
-    traces_timely c.args.events.items c.in_ok-raws.raws.items c.requires.timely c.in_ok-raws.ensures.within,
+    traces_timely c.args.events c.in_ok-raws.raws.items c.requires.timely c.in_ok-raws.ensures.within,
   ),
 )
 

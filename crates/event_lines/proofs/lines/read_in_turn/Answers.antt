@@ -10,14 +10,14 @@ lines-preserved c =
     let cut = cut_from c.args.bytes.now c.lines.start c.line_end.result c.line_end.ensures.first c.lines.invariant.within (omega arith) in record {
       within = omega arith;
       few = omega arith;
-      told = first_added c.lines.number _ _ _ _ _ cut c.lines.invariant.told c.add_line.new.lines.items c.in_ok-add_line.ensures.ok;
+      told = first_added c.lines.number _ _ _ _ _ cut c.lines.invariant.told c.add_line.new.lines c.in_ok-add_line.ensures.ok;
     }
 
 pub returns-then-end-bytes-clause-lines_read : goal.returns-then-end-bytes-clause-lines_read
 returns-then-end-bytes-clause-lines_read c =
     let cut = cut_end c.args.bytes.now c.lines.start c.line_end.result c.line_end.ensures.first c.lines.invariant.within c.if-end-bytes.true in
-    sym (first_added c.lines.number _ _ _ _ _ cut c.lines.invariant.told c.add_line.new.lines.items c.in_ok-add_line.ensures.ok)
-    ∙ ap Ok (append-nil c.add_line.new.lines.items)
+    sym (first_added c.lines.number _ _ _ _ _ cut c.lines.invariant.told c.add_line.new.lines c.in_ok-add_line.ensures.ok)
+    ∙ ap Ok (append-nil c.add_line.new.lines)
 
 pub returns-in_err-add_line-clause-first_bad : goal.returns-in_err-add_line-clause-first_bad
 returns-in_err-add_line-clause-first_bad c =

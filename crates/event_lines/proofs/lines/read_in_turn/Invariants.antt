@@ -8,7 +8,7 @@ abbrev pub invariant-lines : goal.invariant-lines
 invariant-lines l = record {
   within : l.start ≤ length l.bytes;
   few : l.number ≤ l.start + l.first;
-  told : both_said (Ok l.lines.items) (lines_said_from l.number (input_lines (drop l.start l.bytes))) ≡ lines_said_from l.first (input_lines l.bytes);
+  told : both_said (Ok l.lines) (lines_said_from l.number (input_lines (drop l.start l.bytes))) ≡ lines_said_from l.first (input_lines l.bytes);
 }
 
 abbrev pub decreases-lines : goal.decreases-lines

@@ -4,6 +4,6 @@ use Rattle.model_meet.specs.ModelStates.{ModelState}
 use Rattle.model_tests.proofs.graph_tests.graph_of.Goals as goal
 
 pub graph-requires : goal.graph-requires
-graph-requires c =
+graph-requires g c =
     let names = ap (λ (m : ModelState). m.names) c.new-model.ensures in
     subst (λ (n : ℕ). HaveNamesBelow n c.in_ok-trace.trace.now) (sym names) (c.is_below.ensures c.if-not-is_below.false)

@@ -2,9 +2,6 @@ use Rattle.std.proofs.Common.{List, All, sym, ap, subst}
 use Rattle.std.proofs.lemmas.Result.{err_from_is_err_and}
 use Rattle.batch_sheets.specs.Named.{IsKnownTrace}
 use Rattle.segment_names.specs.Known.{Known}
-use Rattle.session_rules.specs.Batches.{AreJudged}
-use Rattle.trace_types.specs.Batch.{traces_of}
-use Rattle.trace_types.specs.declared.event.Event.{Event}
 use Rattle.trace_types.specs.declared.trace.Trace.{Trace}
 use Rattle.session.specs.SessionStates.{SessionState}
 use Rattle.session.specs.inner.AddFaults.{HasNamesCause}
@@ -16,7 +13,7 @@ pub returns-in_err-session-clause-cause : goal.returns-in_err-session-clause-cau
 returns-in_err-session-clause-cause g c =
     let valid = c.in_ok-judged.judged.valid.items in
     let refused = c.in_ok-judged.judged.refused.items in
-    let judged = subst (λ (es : List Event). AreJudged (traces_of es) valid refused) c.into_items.ensures c.in_ok-judged.ensures.judged in
+    let judged = c.in_ok-judged.ensures.judged in
     let fault = c.in_err-session.field-0.0 in
     let cause = subst (λ (ts : List Trace). HasNamesCause c.args.self.known ts fault) c.deref.ensures.value c.in_err-session.ensures.cause in
     let p = err_from_is_err_and c.from_residual-in_err-session.result c.from_residual-in_err-session.ensures.1 in
@@ -32,7 +29,7 @@ pub returns-in_err-watched-clause-cause : goal.returns-in_err-watched-clause-cau
 returns-in_err-watched-clause-cause g c =
     let valid = c.in_ok-judged.judged.valid.items in
     let refused = c.in_ok-judged.judged.refused.items in
-    let judged = subst (λ (es : List Event). AreJudged (traces_of es) valid refused) c.into_items.ensures c.in_ok-judged.ensures.judged in
+    let judged = c.in_ok-judged.ensures.judged in
     let named = subst (λ (ts : List Trace). AreNamed c.args.self ts c.in_ok-session.session) c.deref.ensures.value c.in_ok-session.ensures.named in
     let fault = c.in_err-watched.field-0.0 in
     let p = err_from_is_err_and c.from_residual-in_err-watched.result c.from_residual-in_err-watched.ensures.1 in
@@ -42,6 +39,6 @@ pub returns-clause-added : goal.returns-clause-added
 returns-clause-added g c =
     let valid = c.in_ok-judged.judged.valid.items in
     let refused = c.in_ok-judged.judged.refused.items in
-    let judged = subst (λ (es : List Event). AreJudged (traces_of es) valid refused) c.into_items.ensures c.in_ok-judged.ensures.judged in
+    let judged = c.in_ok-judged.ensures.judged in
     let named = subst (λ (ts : List Trace). AreNamed c.args.self ts c.in_ok-session.session) c.deref.ensures.value c.in_ok-session.ensures.named in
     λ s shown. add_of c.args.self valid c.in_ok-session.session named c.add_leads_on.ensures c.add_is_told.ensures s c.args.events refused c.add_days.new.self c.in_ok-watched.watched.items shown judged c.in_ok-watched.ensures.booked
