@@ -7,7 +7,7 @@ use Rattle.std.specs.Str.{is_utf8}
 use Rattle.std.proofs.lemmas.Bool.{or_parts}
 use Rattle.std.proofs.lemmas.List.Elements.{All-contains, All-head, All-tail}
 use Rattle.certificates.specs.Claims.{are_header_fields, claim_of_fields, claim_said, is_header}
-use Rattle.certificates.specs.Texts.{name_of}
+use Rattle.certificates.specs.Texts.{name_of_texts}
 use Rattle.certificates.specs.declared.claim.Claim.{Claim}
 use Rattle.certificates.specs.declared.matter.Matter.{Matter}
 use Rattle.certificates.specs.declared.matter.Matter.TheVariants.{Before, Exclusive, Pipe}
@@ -117,7 +117,7 @@ row_not_blank (Before a b) k index = refl
 row_not_blank (Exclusive a b) k index = refl
 row_not_blank (Pipe t u) k index = refl
 
-name_back : (a : SegmentName) → IsPrintableName a → name_of a.0 a.1 a.2 ≡ Some a
+name_back : (a : SegmentName) → IsPrintableName a → name_of_texts a.0 a.1 a.2 ≡ Some a
 name_back a p =
     let task : IsPrintableText a.0 = p.task in
     let start : IsPrintableText a.1 = p.start in

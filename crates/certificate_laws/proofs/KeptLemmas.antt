@@ -1,6 +1,6 @@
 -- The traces that a session keeps are printable, and few.
-use Rattle.std.proofs.Common.{◌≡◌, ℕ, ◌+◌, ◌*◌, ◌≤◌, not, List, [], ◌∷◌, ◌++◌, Bool, true, false, length, map, refl, sym, ap, subst, arith, length-append}
-use Rattle.std.specs.Prelude.{All, filter, nat_le, nat_lt, if◌then◌else◌}
+use Rattle.std.proofs.Common.{◌≡◌, ℕ, ◌+◌, ◌*◌, ◌≤◌, not, List, [], ◌∷◌, ◌++◌, Bool, length, map, refl, sym, ap, subst, arith, length-append}
+use Rattle.std.specs.Prelude.{All, filter, nat_lt}
 use Rattle.std.proofs.lemmas.List.{length-map}
 use Rattle.std.proofs.lemmas.List.Elements.{All-append, All-cons, All-filter, All-head, All-nil, All-push, All-tail, All-weaker}
 use Rattle.event_lines.specs.declared.command.Command.{Command}
@@ -8,7 +8,7 @@ use Rattle.event_lines.specs.declared.command.Command.TheVariants as commands
 use Rattle.event_lines.specs.declared.line.Line.{Line}
 use Rattle.event_lines.specs.declared.line.Line.TheVariants as lines
 use Rattle.session_rules.specs.Jobs.{batch_after, job_of, jobs_from, jobs_of}
-use Rattle.session_rules.specs.KeptTraces.{Kept, day_of, greater_days, is_of_day, kept_with, taken_in, with_taken}
+use Rattle.session_rules.specs.KeptTraces.{Kept, day_of, greater_days, is_of_day, kept_with}
 use Rattle.session_rules.specs.Parts.{Part}
 use Rattle.session_rules.specs.Sessions.{Adds, Commands, Does, Leads, State, first_state, graced}
 use Rattle.session_rules.specs.declared.job.Job.{Job}
@@ -18,33 +18,8 @@ use Rattle.trace_types.specs.declared.trace.Trace.{Trace}
 use Rattle.certificate_laws.specs.Printable.{IsPrintable}
 use Rattle.certificate_laws.specs.PrintableLaws.{IsControl, IsLastState, IsNoAdd}
 use Rattle.certificate_laws.proofs.EventLemmas.{IsGoodEvent, IsGoodLine, lines_good}
+use Rattle.certificate_laws.proofs.TakenLemmas.{all_taken, length-with_taken}
 use Rattle.certificate_laws.proofs.TraceLemmas.{IsPrintableTrace, no_more, valid_few, valid_printable}
-
--- ---- traces that are taken in
-
-taken_by : (before : Bool) (k t : Kept) (kept more : List Kept) → All IsPrintable (k ∷ kept) → IsPrintable t → All IsPrintable more → All IsPrintable (if before then k ∷ more else t ∷ k ∷ kept)
-taken_by true k t kept more h p q = All-cons IsPrintable k more (All-head IsPrintable k kept h) q
-taken_by false k t kept more h p q = All-cons IsPrintable t (k ∷ kept) p h
-
-taken_printable : (kept : List Kept) (t : Kept) → All IsPrintable kept → IsPrintable t → All IsPrintable (taken_in kept t)
-taken_printable [] t h p = All-cons IsPrintable t [] p h
-taken_printable (k ∷ kept) t h p = taken_by (nat_le (day_of k) (day_of t)) k t kept (taken_in kept t) h p (taken_printable kept t (All-tail IsPrintable k kept h) p)
-
-all_taken_printable : (kept ts : List Kept) → All IsPrintable kept → All IsPrintable ts → All IsPrintable (with_taken kept ts)
-all_taken_printable kept [] h p = h
-all_taken_printable kept (t ∷ ts) h p = all_taken_printable (taken_in kept t) ts (taken_printable kept t h (All-head IsPrintable t ts p)) (All-tail IsPrintable t ts p)
-
-length-taken_by : (before : Bool) (k t : Kept) (kept more : List Kept) → length more ≡ length kept + 1 → length (if before then k ∷ more else t ∷ k ∷ kept) ≡ length kept + 2
-length-taken_by true k t kept more e = omega arith
-length-taken_by false k t kept more e = omega arith
-
-length-taken_in : (kept : List Kept) (t : Kept) → length (taken_in kept t) ≡ length kept + 1
-length-taken_in [] t = omega arith
-length-taken_in (k ∷ kept) t = omega (arith, length-taken_by (nat_le (day_of k) (day_of t)) k t kept (taken_in kept t) (length-taken_in kept t))
-
-length-with_taken : (kept ts : List Kept) → length (with_taken kept ts) ≡ length kept + length ts
-length-with_taken kept [] = omega arith
-length-with_taken kept (t ∷ ts) = omega (arith, length-with_taken (taken_in kept t) ts, length-taken_in kept t)
 
 -- ---- jobs
 
@@ -84,7 +59,7 @@ added n workers events s next parts h good a =
     let few : length a.valid ≤ length events = omega (arith, ap (λ (ts : List Trace). length ts) a.judged.valid_are, valid_few events verdicts a.judged.each) in
     let now = ap (λ (t : State). t.kept) a.after in
     record {
-      printable = subst (All IsPrintable) (sym now) (all_taken_printable s.kept more h.printable (graced_printable (1000 * s.grace) a.valid valid));
+      printable = subst (All IsPrintable) (sym now) (all_taken IsPrintable s.kept more h.printable (graced_printable (1000 * s.grace) a.valid valid));
       few = omega (arith, ap (λ (ks : List Kept). length ks) now, length-with_taken s.kept more, length-map a.valid (kept_with (1000 * s.grace)), h.few);
     }
   where

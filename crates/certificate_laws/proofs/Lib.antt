@@ -2,11 +2,15 @@ pub mod ClaimLemmas
 pub mod ContentLemmas
 pub mod DecimalLemmas
 pub mod EventLemmas
+pub mod FewLemmas
 pub mod JsonLemmas
 pub mod KeptLemmas
+pub mod KnownLemmas
+pub mod ListLemmas
 pub mod ReadingLemmas
 pub mod RowLemmas
 pub mod SurvivingLemmas
+pub mod TakenLemmas
 pub mod TokenLemmas
 pub mod TraceLemmas
 pub mod VerifyingLemmas

@@ -5,7 +5,7 @@ use Rattle.std.specs.List.{join_with_byte, list_any}
 use Rattle.std.proofs.lemmas.Bool.{or_parts, ltb-false, ne_eqb}
 use Rattle.std.proofs.lemmas.List.Elements.{All-append, All-cons, All-nil}
 use Rattle.std.proofs.lemmas.List.Splits.{slice_split_at, slice_split_none}
-use Rattle.certificates.specs.Claims.{fields_of, is_tab}
+use Rattle.certificates.specs.Claims.{line_fields, is_tab}
 use Rattle.event_lines.specs.Cut.{input_lines, is_line_feed}
 use Rattle.event_lines.specs.EventFaults.{is_control_character}
 use Rattle.text_rows.specs.Rows.{row_of}
@@ -32,7 +32,7 @@ lacks c low (b ∷ bytes) h =
     All-cons (λ b. (b == c) ≡ false) b bytes (other b c p.0 low) (lacks c low bytes p.1)
 
 -- fields that are joined by tabs are cut at them
-pub fields_back : (field : List ℕ) (fields : List (List ℕ)) → AreClean (field ∷ fields) → fields_of (join_with_byte 9 (field ∷ fields)) ≡ field ∷ fields
+pub fields_back : (field : List ℕ) (fields : List (List ℕ)) → AreClean (field ∷ fields) → line_fields (join_with_byte 9 (field ∷ fields)) ≡ field ∷ fields
 fields_back field [] h = slice_split_none is_tab field (lacks 9 (omega arith) field h.0)
 fields_back field (next ∷ fields) h =
     slice_split_at is_tab field 9 (join_with_byte 9 (next ∷ fields)) (lacks 9 (omega arith) field h.0) refl

@@ -1,11 +1,11 @@
 -- What a certificate leaves out survives.
-use Rattle.std.proofs.Common.{◌≡◌, ◌≢◌, ℕ, ◌<◌, List, length, map, refl, sym, ap, ◌∙◌, Ordering, arith}
+use Rattle.std.proofs.Common.{◌≡◌, ◌≢◌, ℕ, ◌<◌, List, length, map, refl, sym, ap, ◌∙◌, Ordering}
 use Rattle.std.specs.declared.cmp.Ordering.TheVariants.{Less, Equal, Greater}
 use Rattle.std.specs.Prelude.{Contains, slice_index_or}
 use Rattle.std.specs.Cmp.{IsTotalOrder}
 use Rattle.std.specs.Cmp.Lexicographic.{slice_cmp}
 use Rattle.std.specs.Ordering.{is_eq, nat_cmp, ordering_reverse, ordering_then}
-use Rattle.std.proofs.lemmas.List.{get_or-map, get_or_default, length-map}
+use Rattle.std.proofs.lemmas.List.{get_or_default}
 use Rattle.std.proofs.lemmas.List.Elements.{Contains-append_left, Contains-append_right}
 use Rattle.std.proofs.lemmas.Map.Text.{is_eq-slice_cmp}
 use Rattle.std.proofs.lemmas.Slice.Eq.{bytes_eq-Decides}
@@ -17,6 +17,7 @@ use Rattle.trace_types.specs.NameOrder.{name_cmp}
 use Rattle.trace_types.specs.Segments.{SegmentName}
 use Rattle.trace_types.specs.Surviving.{IsRefuted, Survives}
 use Rattle.certificate_laws.specs.SurvivingLaws.{HasNoLine}
+use Rattle.certificate_laws.proofs.ListLemmas.{contains_map}
 
 -- ---- names in order
 
@@ -42,11 +43,6 @@ name_exact a b e =
 -- one trace that refutes is enough
 refuted_by : {A : Type 0} (refutes : A → Type 0) (traces : List A) (k : ℕ) (d : A) → k < length traces → refutes (slice_index_or traces k d) → IsRefuted refutes traces
 refuted_by refutes traces k d within h = (k, slice_index_or traces k d, within, get_or_default traces k (slice_index_or traces k d) d within, h)
-
-contains_map : {X Y : Type 0} (f : X → Y) (xs : List X) (x : X) → Contains xs x → Contains (map f xs) (f x)
-contains_map f xs x c =
-    let within : c.0 < length xs = c.1 in
-    (c.0, omega (arith, length-map xs f), get_or-map f xs c.0 x (f x) within ∙ ap f c.2)
 
 module _ (kept : List Kept) (refuted : Refutations) (are : AreRefutations kept refuted) where
   before_listed : (a b : SegmentName) → IsRefuted (RefutesMatter (Before a b)) kept → Contains (matters_of refuted) (Before a b)

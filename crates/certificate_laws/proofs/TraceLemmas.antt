@@ -100,7 +100,7 @@ valid_printable batch verdicts h each = valid_by (traces_of batch) verdicts (tra
 pub no_more : {X : Type 0} (p : X → Bool) (xs : List X) → length (filter p xs) ≤ length xs
 no_more p xs = omega (arith, length-filter_both p (λ x. not (p x)) (λ x. refl) xs)
 
-firsts_few : {X : Type 0} (same : X → X → Bool) (xs : List X) → length (firsts_of same xs) ≤ length xs
+pub firsts_few : {X : Type 0} (same : X → X → Bool) (xs : List X) → length (firsts_of same xs) ≤ length xs
 firsts_few same [] = omega arith
 firsts_few same (x ∷ xs) = omega (arith, firsts_few same xs, no_more (λ y. not (same x y)) (firsts_of same xs))
 

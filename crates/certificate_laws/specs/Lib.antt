@@ -3,3 +3,4 @@ pub mod PrintableLaws
 pub mod ReadingLaws
 pub mod SurvivingLaws
 pub mod VerifyingLaws
+pub mod WhyLaws

@@ -1,10 +1,12 @@
--- The traces that a session keeps of an input are printable: statements that laws prove.
-use Rattle.std.specs.Prelude.{◌≡◌, ℕ, ◌≤◌, List, ◌++◌, All, Ok, length, ⊤}
+-- The traces that a session keeps of an input are printable, and refute few relations: statements
+-- that laws prove.
+use Rattle.std.specs.Prelude.{◌≡◌, ℕ, ◌<◌, ◌≤◌, ◌^◌, List, ◌++◌, All, Ok, length, ⊤}
 use Rattle.event_lines.specs.InputLines.{lines_said}
 use Rattle.event_lines.specs.declared.line.Line.{Line}
 use Rattle.event_lines.specs.declared.line.Line.TheVariants.{Control, Event}
 use Rattle.session_rules.specs.Jobs.{jobs_of}
 use Rattle.session_rules.specs.Parts.{Part}
+use Rattle.session_rules.specs.Refutations.{AreRefutations, Refutations, matters_of}
 use Rattle.session_rules.specs.Sessions.{Leads, State, first_state}
 use Rattle.session_rules.specs.declared.job.Job.{Job}
 use Rattle.session_rules.specs.declared.job.Job.TheVariants as jobs
@@ -46,3 +48,10 @@ KeptTracesArePrintable = (input : List ℕ) (lines : List Line) (last : State)
 abbrev pub FewTracesAreKept : Type 0
 FewTracesAreKept = (input : List ℕ) (lines : List Line) (last : State)
     → IsLastState input lines last → length last.kept ≤ length lines
+
+-- the kept traces refute fewer than 2^32 relations
+abbrev pub FewRelationsAreRefuted : Type 0
+FewRelationsAreRefuted = (input : List ℕ) (lines : List Line) (last : State)
+    (refuted : Refutations)
+    → IsLastState input lines last → AreRefutations last.kept refuted
+    → length (matters_of refuted) < 2 ^ 32

@@ -11,7 +11,7 @@ use Rattle.std.proofs.lemmas.Slice.Eq.{bytes_eq-Decides}
 use Rattle.certificates.specs.declared.claim.Claim.{Claim}
 use Rattle.certificates.specs.declared.matter.Matter.{Matter}
 use Rattle.certificates.specs.declared.matter.Matter.TheVariants.{Before, Exclusive, Pipe}
-use Rattle.counterexamples.specs.ShownClaims.{IsShownClaim, numbers_of, relation_between, relation_of}
+use Rattle.counterexamples.specs.ShownClaims.{IsShownClaim, matter_numbers, relation_between, relation_of}
 use Rattle.day_partitions.specs.Books.{BookState, IsBook, all_traces, traces_of}
 use Rattle.hypothesis_index.specs.Refuting.{Refutes}
 use Rattle.hypothesis_index.specs.declared.relation.Relation.{Relation}
@@ -81,12 +81,12 @@ both_found : (o p : Option ℕ) (m n : ℕ) → o ≡ Some m → p ≡ Some n �
 both_found o p m n e f = rw (e, f) refl
 
 module _ (known : Known) (laws : AreLaws known) where
-  numbers_told : (matter : Matter) (m n : ℕ) → numbers_of known matter ≡ Some (m, n) → AreNumbers known matter m n
+  numbers_told : (matter : Matter) (m n : ℕ) → matter_numbers known matter ≡ Some (m, n) → AreNumbers known matter m n
   numbers_told (Before a b) m n e = let s = both_told (name_number known a) (name_number known b) m n e in (place_told same_name name_means name_itself known.names a m s.0, place_told same_name name_means name_itself known.names b n s.1)
   numbers_told (Exclusive a b) m n e = let s = both_told (name_number known a) (name_number known b) m n e in (place_told same_name name_means name_itself known.names a m s.0, place_told same_name name_means name_itself known.names b n s.1)
   numbers_told (Pipe a b) m n e = let s = both_told (task_number known a) (task_number known b) m n e in (place_told bytes_eq text_means text_itself known.tasks a m s.0, place_told bytes_eq text_means text_itself known.tasks b n s.1)
 
-  numbers_found : (matter : Matter) (m n : ℕ) → AreNumbers known matter m n → numbers_of known matter ≡ Some (m, n)
+  numbers_found : (matter : Matter) (m n : ℕ) → AreNumbers known matter m n → matter_numbers known matter ≡ Some (m, n)
   numbers_found (Before a b) m n at = both_found (name_number known a) (name_number known b) m n (place_found same_name name_means name_itself known.names laws.fits.names_differ a m at.0) (place_found same_name name_means name_itself known.names laws.fits.names_differ b n at.1)
   numbers_found (Exclusive a b) m n at = both_found (name_number known a) (name_number known b) m n (place_found same_name name_means name_itself known.names laws.fits.names_differ a m at.0) (place_found same_name name_means name_itself known.names laws.fits.names_differ b n at.1)
   numbers_found (Pipe a b) m n at = both_found (task_number known a) (task_number known b) m n (place_found bytes_eq text_means text_itself known.tasks laws.fits.tasks_differ a m at.0) (place_found bytes_eq text_means text_itself known.tasks laws.fits.tasks_differ b n at.1)
@@ -100,9 +100,9 @@ module _ (known : Known) (laws : AreLaws known) where
     pub is : relation_between matter m n ≡ r
 
   relation_told : (matter : Matter) (r : Relation) → relation_of known matter ≡ Some r → IsNumbered matter r
-  relation_told matter r e = by (numbers_of known matter) refl e
+  relation_told matter r e = by (matter_numbers known matter) refl e
     where
-      by : (o : Option (ℕ × ℕ)) → numbers_of known matter ≡ o → option_and_then (λ (p : ℕ × ℕ). cond (p.0 == p.1) None (Some (relation_between matter p.0 p.1))) o ≡ Some r → IsNumbered matter r
+      by : (o : Option (ℕ × ℕ)) → matter_numbers known matter ≡ o → option_and_then (λ (p : ℕ × ℕ). cond (p.0 == p.1) None (Some (relation_between matter p.0 p.1))) o ≡ Some r → IsNumbered matter r
       by None none f = absurd (none-some r f)
       by (Some p) some f = elim (cases_eq p.0 p.1) [
         | inl same ↦ absurd (none-some r (sym (cond-true (p.0 == p.1) None (Some (relation_between matter p.0 p.1)) (eq-eqb p.0 p.1 same)) ∙ f))

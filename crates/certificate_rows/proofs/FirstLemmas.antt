@@ -10,7 +10,7 @@ use Rattle.counterexamples.specs.Findings as findings
 use Rattle.counterexamples.specs.Findings.{StandsAt}
 use Rattle.counterexamples.specs.ShownClaims as claims
 use Rattle.counterexamples.specs.declared.finding.Finding.{Finding}
-use Rattle.counterexamples.specs.declared.word_refuters.WordRefuters.{WordRefuters}
+use Rattle.counterexamples.specs.FirstRefuters.{FindingTable}
 use Rattle.day_partitions.specs.Books.{AreOfDay, BookState, IsBook, KeptDay, all_traces}
 use Rattle.hypothesis_index.specs.Refuting.{Refutes}
 use Rattle.hypothesis_index.specs.declared.relation.Relation.{Relation}
@@ -26,7 +26,7 @@ use Rattle.trace_types.specs.Surviving.{IsRefuted}
 use Rattle.trace_types.specs.declared.named_trace.NamedTrace.{NamedTrace}
 use Rattle.certificate_rows.specs.declared.kind.Kind.{Kind}
 use Rattle.certificate_rows.specs.inner.Numbered.{matter_between, pair_row, row_at, row_of_finding, trace_at, trace_row}
-use Rattle.certificate_rows.specs.inner.Pairs.{refuted_pairs, refuter_between, relation_between}
+use Rattle.certificate_rows.specs.inner.Pairs.{refuted_pairs, refuter_between, relation_of_kind}
 use Rattle.certificate_rows.specs.inner.Sources.{HasRefuters, count_of}
 use Rattle.certificate_rows.proofs.BridgeLemmas.{AreLaws, AreNumbers, refuted_numbers, refutes_alike}
 use Rattle.certificate_rows.proofs.DayLemmas.{all_split, before_counted, before_in, book_days, is_of, stands_before}
@@ -88,12 +88,12 @@ stands_there : (days : List KeptDay) (f : Finding) (t : NamedTrace) → StandsAt
 stands_there days f t stands = ap (option_and_then (λ (k : KeptDay). slice_get k.traces f.index)) stands.kept ∙ stands.trace
 
 -- ---- one kind of relations, between texts of a catalogue
-module _ {X : Type 0} (known : Known) (laws : AreLaws known) (b : BookState) (words : List WordRefuters) (has : HasRefuters known b words) (kept : List Kept) (shown : AreShown known (all_traces b.days) kept)
+module _ {X : Type 0} (known : Known) (laws : AreLaws known) (b : BookState) (table : FindingTable) (has : HasRefuters known b table) (kept : List Kept) (shown : AreShown known (all_traces b.days) kept)
     (kind : Kind) (texts : List X) (none : X) (matter_of : X → X → Matter)
     (counts : count_of known kind ≡ length texts)
     (between : (m n : ℕ) → matter_between known kind m n ≡ matter_of (get_or texts m none) (get_or texts n none))
     (numbers : (x y : X) (m n : ℕ) → AreNumbers known (matter_of x y) m n ↔ ((slice_get texts m ≡ Some x) × (slice_get texts n ≡ Some y)))
-    (relation : (x y : X) (m n : ℕ) → claims.relation_between (matter_of x y) m n ≡ relation_between kind m n) where
+    (relation : (x y : X) (m n : ℕ) → claims.relation_between (matter_of x y) m n ≡ relation_of_kind kind m n) where
   abbrev text : ℕ → X
   text m = get_or texts m none
 
@@ -107,22 +107,22 @@ module _ {X : Type 0} (known : Known) (laws : AreLaws known) (b : BookState) (wo
     below_n : n < count_of known kind
     below_n = subst (λ (c : ℕ). n < c) (sym counts) ln
 
-    found : (f : Finding) → refuter_between words kind m n ≡ Some f → findings.IsFirstRefuter b.days (claims.relation_between (matter_of (text m) (text n)) m n) f
-    found f e = subst (λ (r : Relation). findings.IsFirstRefuter b.days r f) (sym (relation (text m) (text n) m n)) (refuter_found known b words has kind m n below_m below_n f e)
+    found : (f : Finding) → refuter_between table kind m n ≡ Some f → findings.IsFirstRefuter b.days (claims.relation_between (matter_of (text m) (text n)) m n) f
+    found f e = subst (λ (r : Relation). findings.IsFirstRefuter b.days r f) (sym (relation (text m) (text n) m n)) (refuter_found known b table has kind m n below_m below_n f e)
 
-    first : (f : Finding) (e : refuter_between words kind m n ≡ Some f) → IsShownFirst known kept (matter_of (text m) (text n)) (found f e).trace f.index
-    first f e = first_shown known laws b kept has.book shown (matter_of (text m) (text n)) m n (text_numbers m n lm ln) (refuter_differs words kind m n f e) f (found f e)
+    first : (f : Finding) (e : refuter_between table kind m n ≡ Some f) → IsShownFirst known kept (matter_of (text m) (text n)) (found f e).trace f.index
+    first f e = first_shown known laws b kept has.book shown (matter_of (text m) (text n)) m n (text_numbers m n lm ln) (refuter_differs table kind m n f e) f (found f e)
 
     -- a pair that has a refuter is refuted
-    pub refuted_told : is_some (refuter_between words kind m n) ≡ true → IsRefuted (RefutesMatter (matter_of (text m) (text n))) kept
-    refuted_told some = by (refuter_between words kind m n) refl some
+    pub refuted_told : is_some (refuter_between table kind m n) ≡ true → IsRefuted (RefutesMatter (matter_of (text m) (text n))) kept
+    refuted_told some = by (refuter_between table kind m n) refl some
       where
-        by : (o : Option Finding) → refuter_between words kind m n ≡ o → is_some o ≡ true → IsRefuted (RefutesMatter (matter_of (text m) (text n))) kept
+        by : (o : Option Finding) → refuter_between table kind m n ≡ o → is_some o ≡ true → IsRefuted (RefutesMatter (matter_of (text m) (text n))) kept
         by None e s = absurd (false≢true s)
         by (Some f) e s = let s = first f e in refuted_there kept (matter_of (text m) (text n)) s.k f.index s.first
 
     -- its row is that of its first refuter
-    pub row_told : (f : Finding) → refuter_between words kind m n ≡ Some f → IsRefutedText kept (matter_of (text m) (text n)) (row_of_finding b.days (matter_of (text m) (text n)) (Some f))
+    pub row_told : (f : Finding) → refuter_between table kind m n ≡ Some f → IsRefutedText kept (matter_of (text m) (text n)) (row_of_finding b.days (matter_of (text m) (text n)) (Some f))
     row_told f e =
         let s = first f e in
         record {
@@ -133,16 +133,16 @@ module _ {X : Type 0} (known : Known) (laws : AreLaws known) (b : BookState) (wo
         }
 
   -- ---- what is refuted has a refuter
-  pub refuted_found : (x y : X) → IsRefuted (RefutesMatter (matter_of x y)) kept → (m : ℕ) × (n : ℕ) × (slice_get texts m ≡ Some x) × (slice_get texts n ≡ Some y) × (is_some (refuter_between words kind m n) ≡ true)
+  pub refuted_found : (x y : X) → IsRefuted (RefutesMatter (matter_of x y)) kept → (m : ℕ) × (n : ℕ) × (slice_get texts m ≡ Some x) × (slice_get texts n ≡ Some y) × (is_some (refuter_between table kind m n) ≡ true)
   refuted_found x y (i, k, lt, at, refutes) =
       let t = zip_right (IsShown known) (all_traces b.days) kept shown k (i, lt, at) in
       let r = refuted_numbers known laws t.0 k t.2 (matter_of x y) refutes in
       let is = (numbers x y r.0 r.1).0 r.2 in
       let lm : r.0 < count_of known kind = subst (λ (c : ℕ). r.0 < c) (sym counts) (slice_get_within texts r.0 x is.0) in
       let ln : r.1 < count_of known kind = subst (λ (c : ℕ). r.1 < c) (sym counts) (slice_get_within texts r.1 y is.1) in
-      let told = refuter_told known b words has kind r.0 r.1 lm ln r.3 in
+      let told = refuter_told known b table has kind r.0 r.1 lm ln r.3 in
       let alike = refutes_alike known laws (matter_of x y) r.0 r.1 r.2 r.3 t.0 k t.2 in
-      (r.0, r.1, is.0, is.1, some_there (relation_between kind r.0 r.1) t.0 t.1 (subst (λ (q : Relation). Refutes q t.0) (relation x y r.0 r.1) (alike.1 refutes)) (refuter_between words kind r.0 r.1) told.none)
+      (r.0, r.1, is.0, is.1, some_there (relation_of_kind kind r.0 r.1) t.0 t.1 (subst (λ (q : Relation). Refutes q t.0) (relation x y r.0 r.1) (alike.1 refutes)) (refuter_between table kind r.0 r.1) told.none)
     where
       some_there : (r : Relation) (t : NamedTrace) → Contains (all_traces b.days) t → Refutes r t → (o : Option Finding) → (o ≡ None) ↔ All (λ u. Refutes r u → ⊥) (all_traces b.days) → is_some o ≡ true
       some_there r t c refutes None tells = absurd (All-contains (λ u. Refutes r u → ⊥) (all_traces b.days) t (tells.0 refl) c refutes)
@@ -150,16 +150,16 @@ module _ {X : Type 0} (known : Known) (laws : AreLaws known) (b : BookState) (wo
 
   -- ---- the rows of pairs
   pub rows_told : (pairs : List (ℕ × ℕ)) → All (λ (p : ℕ × ℕ). (p.0 < length texts) × (p.1 < length texts)) pairs
-      → AreTexts IsPart (map (RefutedOf kept) (map (λ (p : ℕ × ℕ). matter_of (text p.0) (text p.1)) (refuted_pairs words kind pairs))) (flat_map (pair_row known b.days words kind) pairs)
+      → AreTexts IsPart (map (RefutedOf kept) (map (λ (p : ℕ × ℕ). matter_of (text p.0) (text p.1)) (refuted_pairs table kind pairs))) (flat_map (pair_row known b.days table kind) pairs)
   rows_told [] below = refl
   rows_told (p ∷ pairs) below =
       let here = All-head (λ (q : ℕ × ℕ). (q.0 < length texts) × (q.1 < length texts)) p pairs below in
       let rest = rows_told pairs (All-tail (λ (q : ℕ × ℕ). (q.0 < length texts) × (q.1 < length texts)) p pairs below) in
-      by (refuter_between words kind p.0 p.1) refl here rest
+      by (refuter_between table kind p.0 p.1) refl here rest
     where
-      by : (o : Option Finding) → refuter_between words kind p.0 p.1 ≡ o → (p.0 < length texts) × (p.1 < length texts)
-          → AreTexts IsPart (map (RefutedOf kept) (map (λ (q : ℕ × ℕ). matter_of (text q.0) (text q.1)) (refuted_pairs words kind pairs))) (flat_map (pair_row known b.days words kind) pairs)
-          → AreTexts IsPart (map (RefutedOf kept) (map (λ (q : ℕ × ℕ). matter_of (text q.0) (text q.1)) (refuted_pairs words kind (p ∷ pairs)))) (flat_map (pair_row known b.days words kind) (p ∷ pairs))
+      by : (o : Option Finding) → refuter_between table kind p.0 p.1 ≡ o → (p.0 < length texts) × (p.1 < length texts)
+          → AreTexts IsPart (map (RefutedOf kept) (map (λ (q : ℕ × ℕ). matter_of (text q.0) (text q.1)) (refuted_pairs table kind pairs))) (flat_map (pair_row known b.days table kind) pairs)
+          → AreTexts IsPart (map (RefutedOf kept) (map (λ (q : ℕ × ℕ). matter_of (text q.0) (text q.1)) (refuted_pairs table kind (p ∷ pairs)))) (flat_map (pair_row known b.days table kind) (p ∷ pairs))
       by None e here rest = rw e rest
       by (Some f) e here rest = rw e
-          (row_of_finding b.days (matter_of (text p.0) (text p.1)) (Some f), flat_map (pair_row known b.days words kind) pairs, row_told p.0 p.1 here.0 here.1 f e, rest, ap (λ (mt : Matter). row_of_finding b.days mt (Some f) ++ flat_map (pair_row known b.days words kind) pairs) (between p.0 p.1))
+          (row_of_finding b.days (matter_of (text p.0) (text p.1)) (Some f), flat_map (pair_row known b.days table kind) pairs, row_told p.0 p.1 here.0 here.1 f e, rest, ap (λ (mt : Matter). row_of_finding b.days mt (Some f) ++ flat_map (pair_row known b.days table kind) pairs) (between p.0 p.1))

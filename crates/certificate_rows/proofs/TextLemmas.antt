@@ -1,6 +1,7 @@
 -- A text that is printed piece by piece, by the laws of calls, and a text as parts.
-use Rattle.std.proofs.Common.{◌≡◌, ℕ, List, [], ◌∷◌, ◌++◌, Option, refl, sym, ◌∙◌, ap, subst}
-use Rattle.std.specs.Prelude.{Result, Ok, Err}
+use Rattle.std.proofs.Common.{◌≡◌, ℕ, List, [], ◌∷◌, ◌++◌, Option, Some, get_or, refl, sym, ◌∙◌, ap, subst}
+use Rattle.std.specs.Prelude.{Result, Ok, Err, slice_get}
+use Rattle.std.proofs.lemmas.Option.{get_or_from_slice_get}
 use Rattle.std.proofs.lemmas.List.{append-nil, append_assoc}
 use Rattle.session_rules.specs.Parts.{IsPart, Part}
 use Rattle.text_rows.specs.PartsFollow.{CallPrintsOnePart, NoPartIsPrinted, PartCallGoesOn, PartCallsFollow}
@@ -8,6 +9,10 @@ use Rattle.text_rows.specs.Printing.{PrintsText}
 use Rattle.text_rows.specs.TextsFollow.{CallGoesOn, CallsFollow, NothingIsPrinted}
 use Rattle.text_rows.specs.TextsOfParts.{AreTexts, PrintsTexts}
 use Rattle.text_rows.specs.declared.print_fault.PrintFault.{PrintFault}
+
+-- what holds of two texts holds of what stands at their numbers
+pub at_numbers : {X : Type 0} (P : X → X → Type 0) (texts : List X) (none : X) (m n : ℕ) (x y : X) → slice_get texts m ≡ Some x → slice_get texts n ≡ Some y → P x y → P (get_or texts m none) (get_or texts n none)
+at_numbers P texts none m n x y first second holds = rw (get_or_from_slice_get texts m x none first, get_or_from_slice_get texts n y none second) holds
 
 -- nothing went wrong
 abbrev pub done : Result (Unit {0}) PrintFault

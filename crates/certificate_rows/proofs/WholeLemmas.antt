@@ -12,7 +12,7 @@ use Rattle.std.proofs.lemmas.List.Elements.{Contains-get_or}
 use Rattle.std.proofs.lemmas.Option.{get_or_from_slice_get, slice_get_within}
 use Rattle.certificates.specs.declared.matter.Matter.{Matter}
 use Rattle.certificates.specs.declared.matter.Matter.TheVariants as matter
-use Rattle.counterexamples.specs.declared.word_refuters.WordRefuters.{WordRefuters}
+use Rattle.counterexamples.specs.FirstRefuters.{FindingTable}
 use Rattle.day_partitions.specs.Books.{BookState, all_traces}
 use Rattle.kept_books.specs.Shown.{AreShown, IsShown}
 use Rattle.segment_names.specs.Known.{Known}
@@ -63,19 +63,19 @@ asked_all cmp total text kind all P rising holds both i d lt =
     let h = both p.0 p.1 (asked_to cmp total text kind all rising p.0 p.1 (Contains-get_or (pairs_of kind all all) i d lt)) in
     (holds p.0 h.0, holds p.1 h.1)
 
-module _ (known : Known) (laws : AreLaws known) (b : BookState) (words : List WordRefuters) (has : HasRefuters known b words) (kept : List Kept) (shown : AreShown known (all_traces b.days) kept)
+module _ (known : Known) (laws : AreLaws known) (b : BookState) (table : FindingTable) (has : HasRefuters known b table) (kept : List Kept) (shown : AreShown known (all_traces b.days) kept)
     (names tasks : List ℕ) (ns : ListsExactly (name_number_cmp known) (λ n. n < length known.names) names) (ts : ListsExactly (task_number_cmp known) (λ n. n < length known.tasks) tasks)
     (refuted : Refutations) (are : AreRefutations kept refuted) (one_name : AreListedInOneWay (SegmentName × SegmentName)) (one_task : AreListedInOneWay (List ℕ × List ℕ)) where
   -- ---- names
   name_within : (n : ℕ) (x : SegmentName) → slice_get known.names n ≡ Some x → Contains names n × (name_at known n ≡ x)
   name_within n x at = ((ns.exactly n).1 (slice_get_within known.names n x at), get_or_from_slice_get known.names n x ([], [], []) at)
 
-  before_listed : map (texts_of name_cmp name_total (name_at known)) (refuted_pairs words Before (pairs_of Before names names)) ≡ refuted.before
+  before_listed : map (texts_of name_cmp name_total (name_at known)) (refuted_pairs table Before (pairs_of Before names names)) ≡ refuted.before
   before_listed =
-      let told = refuted_told known laws b words has kept shown Before known.names ([], [], []) matter.Before refl (λ m n. refl) (λ x y m n. ((λ h. h), (λ h. h))) (λ x y m n. refl) in
-      let found = refuted_found known laws b words has kept shown Before known.names ([], [], []) matter.Before refl (λ m n. refl) (λ x y m n. ((λ h. h), (λ h. h))) (λ x y m n. refl) in
+      let told = refuted_told known laws b table has kept shown Before known.names ([], [], []) matter.Before refl (λ m n. refl) (λ x y m n. ((λ h. h), (λ h. h))) (λ x y m n. refl) in
+      let found = refuted_found known laws b table has kept shown Before known.names ([], [], []) matter.Before refl (λ m n. refl) (λ x y m n. ((λ h. h), (λ h. h))) (λ x y m n. refl) in
       one_way (pair_cmp name_cmp) (λ pair. IsRefuted (RefutesMatter (matter.Before pair.0 pair.1)) kept) one_name (pair_total name_cmp name_total) _ refuted.before
-      (pairs_listed name_cmp name_total (name_at known) Before names (λ p. is_some (refuter_between words Before p.0 p.1)) (λ pair. IsRefuted (RefutesMatter (matter.Before pair.0 pair.1)) kept) ns.rising
+      (pairs_listed name_cmp name_total (name_at known) Before names (λ p. is_some (refuter_between table Before p.0 p.1)) (λ pair. IsRefuted (RefutesMatter (matter.Before pair.0 pair.1)) kept) ns.rising
       (λ m n asked test. told m n ((ns.exactly m).0 asked.0) ((ns.exactly n).0 asked.1) test)
       (λ x r.
       let f = found x.0 x.1 r in
@@ -84,13 +84,13 @@ module _ (known : Known) (laws : AreLaws known) (b : BookState) (words : List Wo
       (f.0, f.1, (one.0, other.0), f.4, one.1, other.1)))
       are.before
 
-  exclusive_listed : map (texts_of name_cmp name_total (name_at known)) (refuted_pairs words Exclusive (pairs_of Exclusive names names)) ≡ refuted.exclusive
+  exclusive_listed : map (texts_of name_cmp name_total (name_at known)) (refuted_pairs table Exclusive (pairs_of Exclusive names names)) ≡ refuted.exclusive
   exclusive_listed =
-      let told = refuted_told known laws b words has kept shown Exclusive known.names ([], [], []) matter.Exclusive refl (λ m n. refl) (λ x y m n. ((λ h. h), (λ h. h))) (λ x y m n. refl) in
-      let found = refuted_found known laws b words has kept shown Exclusive known.names ([], [], []) matter.Exclusive refl (λ m n. refl) (λ x y m n. ((λ h. h), (λ h. h))) (λ x y m n. refl) in
+      let told = refuted_told known laws b table has kept shown Exclusive known.names ([], [], []) matter.Exclusive refl (λ m n. refl) (λ x y m n. ((λ h. h), (λ h. h))) (λ x y m n. refl) in
+      let found = refuted_found known laws b table has kept shown Exclusive known.names ([], [], []) matter.Exclusive refl (λ m n. refl) (λ x y m n. ((λ h. h), (λ h. h))) (λ x y m n. refl) in
       let P : SegmentName × SegmentName → Type 0 = λ pair. (name_cmp pair.0 pair.1 ≡ Less) × IsRefuted (RefutesMatter (matter.Exclusive pair.0 pair.1)) kept in
       one_way (pair_cmp name_cmp) P one_name (pair_total name_cmp name_total) _ refuted.exclusive
-      (pairs_listed name_cmp name_total (name_at known) Exclusive names (λ p. is_some (refuter_between words Exclusive p.0 p.1)) P ns.rising
+      (pairs_listed name_cmp name_total (name_at known) Exclusive names (λ p. is_some (refuter_between table Exclusive p.0 p.1)) P ns.rising
       (λ m n asked test. (asked.2, told m n ((ns.exactly m).0 asked.0) ((ns.exactly n).0 asked.1) test))
       (λ x r.
       let f = found x.0 x.1 r.1 in
@@ -104,12 +104,12 @@ module _ (known : Known) (laws : AreLaws known) (b : BookState) (words : List Wo
   task_within : (n : ℕ) (x : List ℕ) → slice_get known.tasks n ≡ Some x → Contains tasks n × (task_at known n ≡ x)
   task_within n x at = ((ts.exactly n).1 (slice_get_within known.tasks n x at), get_or_from_slice_get known.tasks n x [] at)
 
-  pipe_listed : map (texts_of (slice_cmp nat_cmp) text_total (task_at known)) (refuted_pairs words Pipe (pairs_of Pipe tasks tasks)) ≡ refuted.pipe
+  pipe_listed : map (texts_of (slice_cmp nat_cmp) text_total (task_at known)) (refuted_pairs table Pipe (pairs_of Pipe tasks tasks)) ≡ refuted.pipe
   pipe_listed =
-      let told = refuted_told known laws b words has kept shown Pipe known.tasks [] matter.Pipe refl (λ m n. refl) (λ x y m n. ((λ h. h), (λ h. h))) (λ x y m n. refl) in
-      let found = refuted_found known laws b words has kept shown Pipe known.tasks [] matter.Pipe refl (λ m n. refl) (λ x y m n. ((λ h. h), (λ h. h))) (λ x y m n. refl) in
+      let told = refuted_told known laws b table has kept shown Pipe known.tasks [] matter.Pipe refl (λ m n. refl) (λ x y m n. ((λ h. h), (λ h. h))) (λ x y m n. refl) in
+      let found = refuted_found known laws b table has kept shown Pipe known.tasks [] matter.Pipe refl (λ m n. refl) (λ x y m n. ((λ h. h), (λ h. h))) (λ x y m n. refl) in
       one_way (pair_cmp (slice_cmp nat_cmp)) (λ pair. IsRefuted (RefutesMatter (matter.Pipe pair.0 pair.1)) kept) one_task (pair_total (slice_cmp nat_cmp) text_total) _ refuted.pipe
-      (pairs_listed (slice_cmp nat_cmp) text_total (task_at known) Pipe tasks (λ p. is_some (refuter_between words Pipe p.0 p.1)) (λ pair. IsRefuted (RefutesMatter (matter.Pipe pair.0 pair.1)) kept) ts.rising
+      (pairs_listed (slice_cmp nat_cmp) text_total (task_at known) Pipe tasks (λ p. is_some (refuter_between table Pipe p.0 p.1)) (λ pair. IsRefuted (RefutesMatter (matter.Pipe pair.0 pair.1)) kept) ts.rising
       (λ m n asked test. told m n ((ts.exactly m).0 asked.0) ((ts.exactly n).0 asked.1) test)
       (λ x r.
       let f = found x.0 x.1 r in
@@ -119,11 +119,11 @@ module _ (known : Known) (laws : AreLaws known) (b : BookState) (words : List Wo
       are.pipe
 
   -- ---- how many there are
-  counted : refuted_count words names tasks ≡ length (matters_of refuted)
+  counted : refuted_count table names tasks ≡ length (matters_of refuted)
   counted =
-      let before : kind_count words Before names ≡ length refuted.before = sym (length-map (refuted_pairs words Before (pairs_of Before names names)) (texts_of name_cmp name_total (name_at known))) ∙ ap length before_listed in
-      let exclusive : kind_count words Exclusive names ≡ length refuted.exclusive = sym (length-map (refuted_pairs words Exclusive (pairs_of Exclusive names names)) (texts_of name_cmp name_total (name_at known))) ∙ ap length exclusive_listed in
-      let pipe : kind_count words Pipe tasks ≡ length refuted.pipe = sym (length-map (refuted_pairs words Pipe (pairs_of Pipe tasks tasks)) (texts_of (slice_cmp nat_cmp) text_total (task_at known))) ∙ ap length pipe_listed in
+      let before : kind_count table Before names ≡ length refuted.before = sym (length-map (refuted_pairs table Before (pairs_of Before names names)) (texts_of name_cmp name_total (name_at known))) ∙ ap length before_listed in
+      let exclusive : kind_count table Exclusive names ≡ length refuted.exclusive = sym (length-map (refuted_pairs table Exclusive (pairs_of Exclusive names names)) (texts_of name_cmp name_total (name_at known))) ∙ ap length exclusive_listed in
+      let pipe : kind_count table Pipe tasks ≡ length refuted.pipe = sym (length-map (refuted_pairs table Pipe (pairs_of Pipe tasks tasks)) (texts_of (slice_cmp nat_cmp) text_total (task_at known))) ∙ ap length pipe_listed in
       let first : List Matter = map (λ pair. matter.Before pair.0 pair.1) refuted.before in
       let second : List Matter = map (λ pair. matter.Exclusive pair.0 pair.1) refuted.exclusive in
       let third : List Matter = map (λ pair. matter.Pipe pair.0 pair.1) refuted.pipe in
@@ -135,45 +135,45 @@ module _ (known : Known) (laws : AreLaws known) (b : BookState) (words : List Wo
       omega (arith, before, exclusive, pipe, sizes, others, one, two, three)
 
   -- ---- the rows
-  before_told : AreTexts IsPart (map (RefutedOf kept) (map (λ pair. matter.Before pair.0 pair.1) refuted.before)) (kind_rows known b.days words Before names)
+  before_told : AreTexts IsPart (map (RefutedOf kept) (map (λ pair. matter.Before pair.0 pair.1) refuted.before)) (kind_rows known b.days table Before names)
   before_told =
       let texts = texts_of name_cmp name_total (name_at known) in
-      let pairs = refuted_pairs words Before (pairs_of Before names names) in
+      let pairs = refuted_pairs table Before (pairs_of Before names names) in
       let same : map (λ (p : ℕ × ℕ). matter.Before (name_at known p.0) (name_at known p.1)) pairs ≡ map (λ pair. matter.Before pair.0 pair.1) refuted.before = sym (map_twice (λ (pair : SegmentName × SegmentName). matter.Before pair.0 pair.1) texts pairs) ∙ ap (map (λ (pair : SegmentName × SegmentName). matter.Before pair.0 pair.1)) before_listed in
-      subst (λ ms. AreTexts IsPart (map (RefutedOf kept) ms) (kind_rows known b.days words Before names)) same
-      (rows_told known laws b words has kept shown Before known.names ([], [], []) matter.Before refl (λ m n. refl) (λ x y m n. ((λ h. h), (λ h. h))) (λ x y m n. refl) (pairs_of Before names names)
+      subst (λ ms. AreTexts IsPart (map (RefutedOf kept) ms) (kind_rows known b.days table Before names)) same
+      (rows_told known laws b table has kept shown Before known.names ([], [], []) matter.Before refl (λ m n. refl) (λ x y m n. ((λ h. h), (λ h. h))) (λ x y m n. refl) (pairs_of Before names names)
       (asked_all name_cmp name_total (name_at known) Before names (λ n. n < length known.names) ns.rising (λ n c. (ns.exactly n).0 c) (λ m n h. h)))
 
-  exclusive_told : AreTexts IsPart (map (RefutedOf kept) (map (λ pair. matter.Exclusive pair.0 pair.1) refuted.exclusive)) (kind_rows known b.days words Exclusive names)
+  exclusive_told : AreTexts IsPart (map (RefutedOf kept) (map (λ pair. matter.Exclusive pair.0 pair.1) refuted.exclusive)) (kind_rows known b.days table Exclusive names)
   exclusive_told =
       let texts = texts_of name_cmp name_total (name_at known) in
-      let pairs = refuted_pairs words Exclusive (pairs_of Exclusive names names) in
+      let pairs = refuted_pairs table Exclusive (pairs_of Exclusive names names) in
       let same : map (λ (p : ℕ × ℕ). matter.Exclusive (name_at known p.0) (name_at known p.1)) pairs ≡ map (λ pair. matter.Exclusive pair.0 pair.1) refuted.exclusive = sym (map_twice (λ (pair : SegmentName × SegmentName). matter.Exclusive pair.0 pair.1) texts pairs) ∙ ap (map (λ (pair : SegmentName × SegmentName). matter.Exclusive pair.0 pair.1)) exclusive_listed in
-      subst (λ ms. AreTexts IsPart (map (RefutedOf kept) ms) (kind_rows known b.days words Exclusive names)) same
-      (rows_told known laws b words has kept shown Exclusive known.names ([], [], []) matter.Exclusive refl (λ m n. refl) (λ x y m n. ((λ h. h), (λ h. h))) (λ x y m n. refl) (pairs_of Exclusive names names)
+      subst (λ ms. AreTexts IsPart (map (RefutedOf kept) ms) (kind_rows known b.days table Exclusive names)) same
+      (rows_told known laws b table has kept shown Exclusive known.names ([], [], []) matter.Exclusive refl (λ m n. refl) (λ x y m n. ((λ h. h), (λ h. h))) (λ x y m n. refl) (pairs_of Exclusive names names)
       (asked_all name_cmp name_total (name_at known) Exclusive names (λ n. n < length known.names) ns.rising (λ n c. (ns.exactly n).0 c) (λ m n h. (h.0, h.1))))
 
-  pipe_told : AreTexts IsPart (map (RefutedOf kept) (map (λ pair. matter.Pipe pair.0 pair.1) refuted.pipe)) (kind_rows known b.days words Pipe tasks)
+  pipe_told : AreTexts IsPart (map (RefutedOf kept) (map (λ pair. matter.Pipe pair.0 pair.1) refuted.pipe)) (kind_rows known b.days table Pipe tasks)
   pipe_told =
       let texts = texts_of (slice_cmp nat_cmp) text_total (task_at known) in
-      let pairs = refuted_pairs words Pipe (pairs_of Pipe tasks tasks) in
+      let pairs = refuted_pairs table Pipe (pairs_of Pipe tasks tasks) in
       let same : map (λ (p : ℕ × ℕ). matter.Pipe (task_at known p.0) (task_at known p.1)) pairs ≡ map (λ pair. matter.Pipe pair.0 pair.1) refuted.pipe = sym (map_twice (λ (pair : List ℕ × List ℕ). matter.Pipe pair.0 pair.1) texts pairs) ∙ ap (map (λ (pair : List ℕ × List ℕ). matter.Pipe pair.0 pair.1)) pipe_listed in
-      subst (λ ms. AreTexts IsPart (map (RefutedOf kept) ms) (kind_rows known b.days words Pipe tasks)) same
-      (rows_told known laws b words has kept shown Pipe known.tasks [] matter.Pipe refl (λ m n. refl) (λ x y m n. ((λ h. h), (λ h. h))) (λ x y m n. refl) (pairs_of Pipe tasks tasks)
+      subst (λ ms. AreTexts IsPart (map (RefutedOf kept) ms) (kind_rows known b.days table Pipe tasks)) same
+      (rows_told known laws b table has kept shown Pipe known.tasks [] matter.Pipe refl (λ m n. refl) (λ x y m n. ((λ h. h), (λ h. h))) (λ x y m n. refl) (pairs_of Pipe tasks tasks)
       (asked_all (slice_cmp nat_cmp) text_total (task_at known) Pipe tasks (λ n. n < length known.tasks) ts.rising (λ n c. (ts.exactly n).0 c) (λ m n h. h)))
 
   -- ---- the whole
-  pub whole_told : AreTexts IsPart (why_parts kept refuted) (certificate_text known b.days words names tasks)
+  pub whole_told : AreTexts IsPart (why_parts kept refuted) (certificate_text known b.days table names tasks)
   whole_told =
       let first : List Matter = map (λ pair. matter.Before pair.0 pair.1) refuted.before in
       let second : List Matter = map (λ pair. matter.Exclusive pair.0 pair.1) refuted.exclusive in
       let third : List Matter = map (λ pair. matter.Pipe pair.0 pair.1) refuted.pipe in
-      let head : why_row (length (all_traces b.days)) (refuted_count words names tasks) ≡ why_row (length kept) (length (matters_of refuted)) =
-      ap (λ (n : ℕ). why_row n (refuted_count words names tasks)) (zip_length (IsShown known) (all_traces b.days) kept shown) ∙ ap (λ (n : ℕ). why_row (length kept) n) counted in
+      let head : why_row (length (all_traces b.days)) (refuted_count table names tasks) ≡ why_row (length kept) (length (matters_of refuted)) =
+      ap (λ (n : ℕ). why_row n (refuted_count table names tasks)) (zip_length (IsShown known) (all_traces b.days) kept shown) ∙ ap (λ (n : ℕ). why_row (length kept) n) counted in
       let split : map (RefutedOf kept) (matters_of refuted) ≡ map (RefutedOf kept) first ++ (map (RefutedOf kept) second ++ map (RefutedOf kept) third) =
       map-append (RefutedOf kept) first (second ++ third) ∙ ap (λ l. map (RefutedOf kept) first ++ l) (map-append (RefutedOf kept) second third) in
-      let rows : AreTexts IsPart (map (RefutedOf kept) (matters_of refuted)) (refuted_rows known b.days words names tasks) =
-      subst (λ ps. AreTexts IsPart ps (refuted_rows known b.days words names tasks)) (sym split)
-      (texts_more (map (RefutedOf kept) first) (map (RefutedOf kept) second ++ map (RefutedOf kept) third) (kind_rows known b.days words Before names) (kind_rows known b.days words Exclusive names ++ kind_rows known b.days words Pipe tasks) before_told
-      (texts_more (map (RefutedOf kept) second) (map (RefutedOf kept) third) (kind_rows known b.days words Exclusive names) (kind_rows known b.days words Pipe tasks) exclusive_told pipe_told)) in
-      (why_row (length (all_traces b.days)) (refuted_count words names tasks), refuted_rows known b.days words names tasks, head, rows, refl)
+      let rows : AreTexts IsPart (map (RefutedOf kept) (matters_of refuted)) (refuted_rows known b.days table names tasks) =
+      subst (λ ps. AreTexts IsPart ps (refuted_rows known b.days table names tasks)) (sym split)
+      (texts_more (map (RefutedOf kept) first) (map (RefutedOf kept) second ++ map (RefutedOf kept) third) (kind_rows known b.days table Before names) (kind_rows known b.days table Exclusive names ++ kind_rows known b.days table Pipe tasks) before_told
+      (texts_more (map (RefutedOf kept) second) (map (RefutedOf kept) third) (kind_rows known b.days table Exclusive names) (kind_rows known b.days table Pipe tasks) exclusive_told pipe_told)) in
+      (why_row (length (all_traces b.days)) (refuted_count table names tasks), refuted_rows known b.days table names tasks, head, rows, refl)

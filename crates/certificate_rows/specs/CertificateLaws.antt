@@ -1,4 +1,5 @@
--- What kept traces refute can be listed, and each claim has its verdict: statements that laws prove.
+-- What kept traces refute can be listed, and each claim has its verdict: statements that laws
+-- prove.
 use Rattle.std.specs.Prelude.{Bool, List}
 use Rattle.std.specs.List.{AllZip}
 use Rattle.certificates.specs.declared.claim.Claim.{Claim}

@@ -1,8 +1,6 @@
-ghost use Rattle.std.specs.Prelude.{◌≡◌, ◌++◌, ◌<◌, All, List, length};
-ghost use Rattle.certificate_rows.specs.inner.Sources.{IsSource, count_of};
+ghost use Rattle.std.specs.Prelude.{◌≡◌, ◌<◌, ◌≤◌, All, List, length};
+ghost use Rattle.certificate_rows.specs.inner.Sources.{IsSource};
 ghost use Rattle.certificate_rows.specs.inner.Wholes.{certificate_text};
-ghost use Rattle.certificate_rows.specs.declared.kind.Kind.TheVariants as kinds;
-ghost use Rattle.std.specs.Prelude.{◌≤◌};
 ghost use Rattle.day_partitions.specs.Books.{all_traces};
 ghost use Rattle.kept_books.specs.Shown.{AreShown};
 ghost use Rattle.session_rules.specs.CertificateTexts.{why_row};

@@ -1,7 +1,6 @@
-ghost use Rattle.std.specs.Prelude.{◌≡◌, ◌≢◌, ◌<◌, length};
-ghost use Rattle.certificate_rows.specs.inner.Pairs.{number_limit, relation_between, seconds_of};
+ghost use Rattle.std.specs.Prelude.{◌≡◌, ◌≢◌, ◌<◌, ◌+◌, drop, length};
+ghost use Rattle.certificate_rows.specs.inner.Pairs.{number_limit, relation_of_kind, seconds_of};
 ghost use Rattle.hypothesis_index.specs.Places.{IsRelation};
-ghost use Rattle.std.specs.Prelude.{◌+◌, drop};
 
 use hypothesis_index::Relation;
 
@@ -17,12 +16,12 @@ pub(crate) enum Kind {
 }
 
 impl Kind {
-    /// The relation of this kind between two different numbers.
+    /// Makes the relation of this kind between two different numbers.
     pub(crate) fn relation(self, one: u32, other: u32) -> Relation
         requires differ { one ≢ other }
         requires one { one < number_limit self }
         requires other { other < number_limit self }
-        ensures relation { result ≡ relation_between self one other }
+        ensures relation { result ≡ relation_of_kind self one other }
         ensures placed { IsRelation result }
     {
         match self {

@@ -5,8 +5,8 @@ ghost use Rattle.trace_types.specs.Listing.{ListsExactly};
 use segment_names::Catalogue;
 use std::alloc::{AllocError, Global};
 
-/// Lists the numbers of texts with their numbers. The only error is out of memory.
-fn numbers_of<T>(alloc: Global, entries: &[(&T, u32)]) -> Result<Vec<u32>, AllocError>
+/// Lists the numbers of these entries. The only error is out of memory.
+fn numbers_in<T>(alloc: Global, entries: &[(&T, u32)]) -> Result<Vec<u32>, AllocError>
     ensures { IfOk result (λ numbers. numbers.items ≡ map (λ e. e.1) entries.now) }
 {
     entries.iter().map(|entry| entry.1).collect(alloc)
@@ -25,7 +25,7 @@ pub(crate) fn names_in_order(alloc: Global, catalogue: &Catalogue) -> Result<Vec
         named.push((catalogue.text_of(number), number))?;
     }
     named.sort_unstable();
-    numbers_of(alloc, &named)
+    numbers_in(alloc, &named)
 }
 
 /// Lists the numbers of a catalogue's tasks in the order of their texts, as `names_in_order` does.
@@ -40,5 +40,5 @@ pub(crate) fn tasks_in_order(alloc: Global, catalogue: &Catalogue) -> Result<Vec
         named.push((catalogue.task_text(number), number))?;
     }
     named.sort_unstable();
-    numbers_of(alloc, &named)
+    numbers_in(alloc, &named)
 }

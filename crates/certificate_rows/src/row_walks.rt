@@ -34,8 +34,9 @@ fn print_pair<S: Sink>(
     };
     let trace = source.trace(finding);
     let pair = (one, other);
-    let index = finding.index;
-    print_refuted(sink, buffer, source.catalogue, kind, pair, trace, index)
+    let place = (trace.day, finding.index);
+    let request = &trace.request;
+    print_refuted(sink, buffer, source.catalogue, kind, pair, place, request)
 }
 
 /// Prints the rows of the refuted relations of a kind between a number and others, in their order.

@@ -1,8 +1,7 @@
-ghost use Rattle.std.specs.Prelude.{◌≡◌, ◌<◌, length};
+ghost use Rattle.std.specs.Prelude.{◌≡◌, ◌<◌, Some};
+ghost use Rattle.certificate_rows.specs.inner.Numbered.{trace_at};
 ghost use Rattle.certificate_rows.specs.inner.Pairs.{refuter_between};
 ghost use Rattle.certificate_rows.specs.inner.Sources.{IsKeptThere, IsSource, count_of};
-ghost use Rattle.certificate_rows.specs.inner.Numbered.{trace_at};
-ghost use Rattle.std.specs.Prelude.{Some};
 
 use crate::kind::Kind;
 use counterexamples::{Finding, FirstRefuters};

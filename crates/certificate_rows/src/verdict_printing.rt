@@ -60,8 +60,8 @@ fn print_verified<S: Sink>(
 }
 
 /// Prints for each claim whether the traces of a book show it, by the number of its line, and then
-/// how many are shown and how many there are. A claim is shown where the trace that it names has its
-/// request and refutes its relation; it need not be the first that does.
+/// how many are shown and how many there are. A claim is shown where the trace that it names has
+/// its request and refutes its relation; it need not be the first that does.
 ///
 /// After an error a prefix of the text was printed, and nothing is said of the buffer.
 pub fn print_verdicts<S: Sink>(

@@ -1,7 +1,7 @@
 -- Fields of a line: too few or too many, and the first 12.
-use Rattle.std.proofs.Common.{◌≡◌, ℕ, suc, ◌<◌, ◌≤◌, List, [], ◌∷◌, length, map, take, false, Some, None, arith, refl}
+use Rattle.std.proofs.Common.{◌≡◌, ℕ, suc, ◌<◌, ◌≤◌, List, [], ◌∷◌, length, map, take, false, None, arith, refl}
 use Rattle.std.specs.Borrow.{Bor}
-use Rattle.certificates.specs.Claims.{are_header_fields, claim_of_fields, names_then_place, place_of, tasks_then_place}
+use Rattle.certificates.specs.Claims.{are_header_fields, claim_of_fields, names_then_place, place_said, tasks_then_place}
 
 -- ---- how many there are
 
@@ -41,7 +41,7 @@ header_first (a ∷ b ∷ []) = refl
 header_first (a ∷ b ∷ c ∷ []) = refl
 header_first (a ∷ b ∷ c ∷ d ∷ fs) = refl
 
-place_first : (m : ℕ) (fs : List (List ℕ)) → place_of (take (suc (suc (suc (suc m)))) fs) ≡ place_of fs
+place_first : (m : ℕ) (fs : List (List ℕ)) → place_said (take (suc (suc (suc (suc m)))) fs) ≡ place_said fs
 place_first m [] = refl
 place_first m (a ∷ []) = refl
 place_first m (a ∷ b ∷ []) = refl

@@ -28,6 +28,10 @@ certificate_of_lines (first ∷ others) =
 abbrev pub certificate_said : List ℕ → Result (List Claim) ℕ
 certificate_said bytes = certificate_of_lines (numbered_lines 1 (input_lines bytes))
 
+-- the error is that of a call that is out of memory
+abbrev pub IsOutOfMemory : CertificateError → Type 0
+IsOutOfMemory e = e ≡ Memory
+
 -- why a certificate was not read: out of memory, or its first line outside the form
 abbrev pub IsCertificateError : Result (List Claim) ℕ → CertificateError → Type 0
 IsCertificateError said Memory = ⊤

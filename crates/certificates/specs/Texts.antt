@@ -10,7 +10,7 @@ abbrev pub text_of : List ℕ → Option (List ℕ)
 text_of field = if is_utf8 field && not (is_bad_text field) then Some field else None
 
 -- the name of these three texts: its task, its start event and its end event
-abbrev pub name_of : List ℕ → List ℕ → List ℕ → Option SegmentName
-name_of task start end =
+abbrev pub name_of_texts : List ℕ → List ℕ → List ℕ → Option SegmentName
+name_of_texts task start end =
     option_map (λ t. (t.0, t.1.0, t.1.1))
     (option_zip (text_of task) (option_zip (text_of start) (text_of end)))

@@ -13,10 +13,9 @@ pub enum CertificateError {
 }
 
 impl From<AllocError> for CertificateError {
-    ghost use Rattle.std.specs.Prelude.{◌≡◌};
-    ghost use Rattle.certificates.specs.declared.certificate_error.CertificateError.TheVariants.{Memory};
+    ghost use Rattle.certificates.specs.Certificates.{IsOutOfMemory};
 
-    ghost from_gives = { λ _ e. e ≡ Memory };
+    ghost from_gives = { λ _ e. IsOutOfMemory e };
 
     /// Gives the error of a call that is out of memory.
     fn from(_: AllocError) -> Self {
@@ -25,10 +24,9 @@ impl From<AllocError> for CertificateError {
 }
 
 impl<T: Drop> From<AllocFailed<T>> for CertificateError {
-    ghost use Rattle.std.specs.Prelude.{◌≡◌};
-    ghost use Rattle.certificates.specs.declared.certificate_error.CertificateError.TheVariants.{Memory};
+    ghost use Rattle.certificates.specs.Certificates.{IsOutOfMemory};
 
-    ghost from_gives = { λ _ e. e ≡ Memory };
+    ghost from_gives = { λ _ e. IsOutOfMemory e };
 
     /// Gives the error of a call that is out of memory.
     fn from(_: AllocFailed<T>) -> Self {

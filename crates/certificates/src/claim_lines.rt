@@ -1,6 +1,6 @@
 ghost use Rattle.std.specs.Prelude.{◌≡◌, IfOk, map};
 ghost use Rattle.certificates.specs.Claims.{claim_of_fields, claim_of_kind, claim_said};
-ghost use Rattle.certificates.specs.Claims.{claim_at, names_then_place, place_of, place_of_parts};
+ghost use Rattle.certificates.specs.Claims.{claim_at, names_then_place, place_said, place_of_parts};
 ghost use Rattle.certificates.specs.Claims.{tasks_then_place};
 
 use crate::fields::first_fields;
@@ -36,7 +36,7 @@ fn read_place_parts(
 
 /// Reads the place of a trace, and nothing after it. The only error is out of memory.
 fn read_place(alloc: Global, fields: &[&[u8]]) -> Result<Option<TracePlace>, AllocError>
-    ensures { IfOk result (λ place. place ≡ place_of (map (λ f. f.now) fields.now)) }
+    ensures { IfOk result (λ place. place ≡ place_said (map (λ f. f.now) fields.now)) }
 {
     if fields.len() != 3 {
         return Ok(None);

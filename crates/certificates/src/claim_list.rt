@@ -32,11 +32,4 @@ impl ClaimList {
     {
         &self.items
     }
-
-    /// Gives the claims back. Takes no memory.
-    pub fn into_items(self) -> Vec<Claim>
-        ensures { result.items ≡ self }
-    {
-        self.items
-    }
 }

@@ -1,35 +1,10 @@
 ghost use Rattle.std.specs.Prelude.{◌≡◌, IfOk, option_map};
-ghost use Rattle.std.specs.List.{list_any};
-ghost use Rattle.event_lines.specs.EventFaults.{is_bad_text, is_control_character};
-ghost use Rattle.certificates.specs.Texts.{name_of, text_of};
+ghost use Rattle.certificates.specs.Texts.{name_of_texts, text_of};
 
+use event_lines::is_bad_text;
 use std::alloc::{AllocError, Global};
 use std::str::from_utf8;
 use trace_types::{NameText, Text};
-
-/// The greatest length of a text in bytes.
-const LONGEST: usize = 64;
-
-/// Tells whether a byte is an ASCII control character.
-fn is_control_character(byte: u8) -> bool
-    ensures { result ≡ is_control_character byte }
-{
-    byte.is_ascii_control()
-}
-
-/// Tells whether a text has a control character.
-fn has_control_character(text: &str) -> bool
-    ensures { result ≡ list_any is_control_character text.now }
-{
-    text.bytes().any(is_control_character)
-}
-
-/// Tells whether a text is empty, too long, or has a control character.
-fn is_bad_text(text: &str) -> bool
-    ensures { result ≡ is_bad_text text.now }
-{
-    text.is_empty() || text.len() > LONGEST || has_control_character(text)
-}
 
 /// Reads a text; none where the field is not a good one.
 #[tactic(auto, using(crate::proofs::TextLemmas::not_utf8, crate::proofs::TextLemmas::good, crate::proofs::TextLemmas::bad))]
@@ -60,7 +35,7 @@ pub(crate) fn read_name(
     start: &[u8],
     end: &[u8],
 ) -> Result<Option<NameText>, AllocError>
-    ensures { IfOk result (λ name. name ≡ name_of task.now start.now end.now) }
+    ensures { IfOk result (λ name. name ≡ name_of_texts task.now start.now end.now) }
 {
     let (Some(task), Some(start), Some(end)) = (text_of(task), text_of(start), text_of(end)) else {
         return Ok(None);

@@ -1,5 +1,5 @@
 -- The first refuters of all relations, from one kept trace to the next.
-use Rattle.std.proofs.Common.{◌≡◌, ◌↔◌, ℕ, ◌+◌, ◌<◌, ◌≤◌, Bool, true, false, cond, List, [], ◌∷◌, length, Option, Some, None, MatchOption, arith, refl, sym, ap, ◌∙◌, subst, ⊎_elim, inl, inr}
+use Rattle.std.proofs.Common.{◌≡◌, ◌↔◌, ℕ, ◌+◌, ◌<◌, ◌≤◌, Bool, true, false, cond, List, length, Option, Some, None, MatchOption, arith, refl, sym, ap, ◌∙◌, subst, ⊎_elim, inl, inr}
 use Rattle.std.specs.Option.{option_or}
 use Rattle.std.specs.Prelude.{option_map, slice_get}
 use Rattle.std.proofs.lemmas.Bool.{cases_lt}
@@ -15,11 +15,12 @@ use Rattle.trace_types.specs.declared.named_trace.NamedTrace.{NamedTrace}
 use Rattle.word_rows.specs.Rows.{clears}
 use Rattle.word_rows.specs.declared.entries.Entry.{Entry}
 use Rattle.counterexamples.proofs.DayLemmas.{refuted_by_one, survives_all}
-use Rattle.counterexamples.specs.Findings.{IsFirstRefuter, StandsAt, StandsBefore}
-use Rattle.counterexamples.specs.FirstRefuters.{AreFirstRefuters, IsRefuterOf, noted_at, refuter_of}
+use Rattle.counterexamples.specs.Findings.{IsFirstRefuter, StandsAt}
+use Rattle.counterexamples.proofs.TableLemmas.{table_tells}
+use Rattle.counterexamples.specs.FirstRefuters.{AreFirstRefuters, IsRefuterOf}
 use Rattle.counterexamples.specs.declared.finding.Finding.{Finding}
 use Rattle.counterexamples.specs.declared.word_refuters.WordRefuters.{WordRefuters}
-use Rattle.counterexamples.specs.inner.Tables.{AreFirstBefore, AreNoted, IsTraceAt, SurvivesBefore}
+use Rattle.counterexamples.specs.inner.Tables.{AreFirstBefore, AreNoted, IsTraceAt, SurvivesBefore, noted_at, table_of}
 
 -- what the laws on places say
 abbrev pub PlacesDiffer : Type 0
@@ -138,8 +139,11 @@ none_noted fit b few words long none = record {
 }
 
 -- at the end the words note the first refuters of all
-pub all_noted : (b : BookState) (words : List WordRefuters) (place : ℕ) → place ≡ length b.days → AreFirstBefore b words place 0 → AreFirstRefuters b.names b.days words
-all_noted b words place end before r is below = cell_end b.days r (refuter_of words r) (subst (λ (n : ℕ). MatchOption (refuter_of words r) (SurvivesBefore b.days r n 0) (IsFirstRefuter b.days r)) end (before.each r is below))
+pub all_noted : PlacesFit → (b : BookState) → b.names ≤ 512 → (words : List WordRefuters) (place : ℕ) → place ≡ length b.days → AreFirstBefore b words place 0 → AreFirstRefuters b.names b.days (table_of words)
+all_noted fit b few words place end before r is below =
+    let found : Option Finding = noted_at words (place_of r).word (place_of r).bit in
+    rw (table_tells words (place_of r).word (place_of r).bit (fit b.names r few is below).1)
+    (cell_end b.days r found (subst (λ (n : ℕ). MatchOption found (SurvivesBefore b.days r n 0) (IsFirstRefuter b.days r)) end (before.each r is below)))
 
 -- the trace with this index of the day at this place is kept there
 pub stands_at : (days : List KeptDay) (f : Finding) (traces : List NamedTrace) → option_map (λ (d : KeptDay). d.traces) (slice_get days f.place) ≡ Some traces → (t : NamedTrace) → slice_get traces f.index ≡ Some t → StandsAt days f t

@@ -5,13 +5,13 @@ use Rattle.std.specs.Prelude.{nat_lt, slice_get, slice_set}
 use Rattle.std.specs.Int.{bit_at, bit_not, w64}
 use Rattle.std.proofs.lemmas.Bool.{cases_eq, cases_lt, eq-eqb, ltb-true, ne_eqb}
 use Rattle.std.proofs.lemmas.List.Folds.{list_all_at}
+use Rattle.std.proofs.lemmas.List.FromFn.{get_or-map-range_with_len}
 use Rattle.std.proofs.lemmas.Nat.Bits.{bit_at-lt, bit_at-zero, bit_at_and, bit_at_not, bit_at_ones}
 use Rattle.word_rows.specs.declared.entries.Entry.{Entry}
 use Rattle.word_rows.specs.Rows.{below, entry_clears}
-use Rattle.counterexamples.specs.FirstRefuters.{finding_at, noted, noted_at}
 use Rattle.counterexamples.specs.declared.finding.Finding.{Finding}
 use Rattle.counterexamples.specs.declared.word_refuters.WordRefuters.{WordRefuters}
-use Rattle.counterexamples.specs.inner.Tables.{AreChosen}
+use Rattle.counterexamples.specs.inner.Tables.{AreChosen, finding_at, noted, noted_at, noted_bits, table_of}
 
 -- ---- the bits of a word, one after another
 
@@ -153,3 +153,16 @@ pub none_at : (n : ℕ) (w : WordRefuters) (i b : ℕ) → noted w b ≡ None �
 none_at zero w i b h = refl
 none_at (suc n) w zero b h = h
 none_at (suc n) w (suc i) b h = none_at n w i b h
+
+-- ---- words as a table
+
+-- what a word notes for a bit
+bit_told : (w : WordRefuters) (b : ℕ) → b < 64 → get_or (noted_bits w) b None ≡ noted w b
+unfolding noted_bits
+bit_told w b h = get_or-map-range_with_len (noted w) 0 64 b b None h (omega arith)
+
+-- what words note for a bit of a word
+pub table_tells : (words : List WordRefuters) (i b : ℕ) → b < 64 → get_or (get_or (table_of words) i []) b None ≡ noted_at words i b
+table_tells [] i b h = refl
+table_tells (w ∷ words) zero b h = bit_told w b h
+table_tells (w ∷ words) (suc i) b h = table_tells words i b h

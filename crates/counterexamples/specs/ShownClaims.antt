@@ -13,10 +13,10 @@ use Rattle.segment_names.specs.Known.{Known, name_number, task_number}
 use Rattle.trace_types.specs.declared.named_trace.NamedTrace.{NamedTrace}
 
 -- the numbers of the two names or tasks; none where one is not known
-abbrev pub numbers_of : Known → Matter → Option (ℕ × ℕ)
-numbers_of known (Before a b) = option_zip (name_number known a) (name_number known b)
-numbers_of known (Exclusive a b) = option_zip (name_number known a) (name_number known b)
-numbers_of known (Pipe a b) = option_zip (task_number known a) (task_number known b)
+abbrev pub matter_numbers : Known → Matter → Option (ℕ × ℕ)
+matter_numbers known (Before a b) = option_zip (name_number known a) (name_number known b)
+matter_numbers known (Exclusive a b) = option_zip (name_number known a) (name_number known b)
+matter_numbers known (Pipe a b) = option_zip (task_number known a) (task_number known b)
 
 -- the relation between two numbers
 abbrev pub relation_between : Matter → ℕ → ℕ → Relation
@@ -28,7 +28,7 @@ relation_between (Pipe a b) m n = relation.TheVariants.Pipe m n
 abbrev pub relation_of : Known → Matter → Option Relation
 relation_of known matter =
     option_and_then (λ p. if p.0 == p.1 then None else Some (relation_between matter p.0 p.1))
-    (numbers_of known matter)
+    (matter_numbers known matter)
 
 -- the relation has a number for each of its two, and the trace that is kept on the claim's day at
 -- its index has its request and refutes the relation

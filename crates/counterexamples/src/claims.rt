@@ -1,5 +1,5 @@
 ghost use Rattle.std.specs.Prelude.{◌≡◌, ◌↔◌, true};
-ghost use Rattle.counterexamples.specs.ShownClaims.{IsShownClaim, numbers_of};
+ghost use Rattle.counterexamples.specs.ShownClaims.{IsShownClaim, matter_numbers};
 ghost use Rattle.counterexamples.specs.ShownClaims.{relation_between, relation_of};
 ghost use Rattle.day_partitions.specs.Books.{traces_of};
 
@@ -11,8 +11,8 @@ use segment_names::Catalogue;
 use trace_types::NamedTrace;
 
 /// Finds the numbers of the two names or tasks; none where the catalogue lacks one.
-fn numbers_of(catalogue: &Catalogue, matter: &Matter) -> Option<(u32, u32)>
-    ensures { result ≡ numbers_of catalogue.now matter.now }
+fn matter_numbers(catalogue: &Catalogue, matter: &Matter) -> Option<(u32, u32)>
+    ensures { result ≡ matter_numbers catalogue.now matter.now }
 {
     match matter {
         Matter::Before { first, second } | Matter::Exclusive { first, second } => {
@@ -47,7 +47,7 @@ fn relation_between(matter: &Matter, one: u32, other: u32) -> Relation
 fn relation_of(catalogue: &Catalogue, matter: &Matter) -> Option<Relation>
     ensures { result ≡ relation_of catalogue.now matter.now }
 {
-    let (one, other) = numbers_of(catalogue, matter)?;
+    let (one, other) = matter_numbers(catalogue, matter)?;
     if one == other {
         return None;
     }

@@ -3,35 +3,36 @@ ghost use Rattle.counterexamples.specs.FirstRefuters.{refuter_of};
 ghost use Rattle.hypothesis_index.specs.Places.{IsRelation};
 
 use crate::Finding;
-use crate::word_refuters::WordRefuters;
+use crate::word_refuters::{WordRefuters, noted_at};
 use hypothesis_index::laws::places_fit;
 use hypothesis_index::{Relation, place};
 use std::marker::Model;
 
-/// The first refuter of each relation of a book, seen as its words. It has 520 bytes a word.
+/// The first refuter of each relation of a book, seen as the table of what each word has for each
+/// of its bits. It has 520 bytes a word.
 #[derive(Drop)]
 pub struct FirstRefuters {
     pub(crate) words: Vec<WordRefuters>,
 }
 
 impl Model for FirstRefuters {
-    ghost use Rattle.std.specs.Prelude.{List};
-    ghost use Rattle.counterexamples.specs.declared.word_refuters.WordRefuters.{WordRefuters};
+    ghost use Rattle.counterexamples.specs.FirstRefuters.{FindingTable};
+    ghost use Rattle.counterexamples.specs.inner.Tables.{table_of};
 
-    ghost Value = { List WordRefuters };
+    ghost Value = { FindingTable };
 
-    ghost view = { λ a. a.words.items };
+    ghost view = { λ a. table_of a.words.items };
 }
 
 impl FirstRefuters {
-    /// Finds the first refuter of a relation of tasks or of the book's names; none where no kept trace
-    /// refutes it. Of other names nothing is promised. It takes no memory.
+    /// Finds the first refuter of a relation of tasks or of the book's names; none where no kept
+    /// trace refutes it. Of other names nothing is promised. It takes no memory.
     pub fn find(&self, relation: Relation) -> Option<Finding>
         requires { IsRelation relation }
         ensures { result ≡ refuter_of self.now relation }
     {
         places_fit();
         let at = place(relation);
-        self.words.get(at.word as usize)?.at(at.bit)
+        noted_at(&self.words, at.word, at.bit)
     }
 }

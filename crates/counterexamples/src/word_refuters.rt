@@ -1,8 +1,7 @@
 ghost use Rattle.std.specs.Prelude.{◌≡◌, ◌<◌, ◌==◌, ℕ, length, if◌then◌else◌, Some, None};
 ghost use Rattle.std.specs.Option.{option_or};
 ghost use Rattle.std.specs.Int.{bit_at};
-ghost use Rattle.counterexamples.specs.FirstRefuters.{noted};
-ghost use Rattle.counterexamples.specs.inner.Tables.{AreChosen};
+ghost use Rattle.counterexamples.specs.inner.Tables.{AreChosen, noted, noted_at};
 
 use crate::Finding;
 
@@ -61,4 +60,13 @@ impl WordRefuters {
             Some(self.findings[bit as usize])
         }
     }
+}
+
+/// Gives the finding that words note for a bit of a word; none where the bit is left or there is no
+/// such word.
+pub(crate) fn noted_at(words: &[WordRefuters], word: u32, bit: u32) -> Option<Finding>
+    requires { bit < 64 }
+    ensures { result ≡ noted_at words.now word bit }
+{
+    words.get(word as usize)?.at(bit)
 }

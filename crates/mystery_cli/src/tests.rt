@@ -1,5 +1,6 @@
 mod bad_lines;
 mod certificate_checks;
+mod certificate_runs;
 mod drills;
 mod fault_tables;
 mod faults;

@@ -1,4 +1,4 @@
--- A claim that a book's traces show is one that the kept traces show: a statement that a law proves.
+-- A book shows the claims that the kept traces show: a statement that a law proves.
 use Rattle.std.specs.Prelude.{◌↔◌, List}
 use Rattle.certificates.specs.declared.claim.Claim.{Claim}
 use Rattle.counterexamples.specs.ShownClaims.{IsShownClaim}

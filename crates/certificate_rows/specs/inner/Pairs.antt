@@ -1,9 +1,8 @@
 -- The pairs of numbers that are asked for a kind of relations, and which of them are refuted.
 use Rattle.std.specs.Prelude.{ℕ, ◌==◌, if◌then◌else◌, min, max, Option, None, List, [], ◌∷◌, ◌++◌}
 use Rattle.std.specs.Prelude.{map, filter, is_some}
-use Rattle.counterexamples.specs.FirstRefuters.{refuter_of}
+use Rattle.counterexamples.specs.FirstRefuters.{FindingTable, refuter_of}
 use Rattle.counterexamples.specs.declared.finding.Finding.{Finding}
-use Rattle.counterexamples.specs.declared.word_refuters.WordRefuters.{WordRefuters}
 use Rattle.hypothesis_index.specs.declared.relation.Relation as relation
 use Rattle.hypothesis_index.specs.declared.relation.Relation.{Relation}
 use Rattle.certificate_rows.specs.declared.kind.Kind.{Kind}
@@ -16,16 +15,16 @@ number_limit Exclusive = 512
 number_limit Pipe = 64
 
 -- the relation of a kind between two numbers
-abbrev pub relation_between : Kind → ℕ → ℕ → Relation
-relation_between Before one other = relation.TheVariants.Before one other
-relation_between Exclusive one other =
+abbrev pub relation_of_kind : Kind → ℕ → ℕ → Relation
+relation_of_kind Before one other = relation.TheVariants.Before one other
+relation_of_kind Exclusive one other =
     relation.TheVariants.Exclusive (min one other) (max one other)
-relation_between Pipe one other = relation.TheVariants.Pipe one other
+relation_of_kind Pipe one other = relation.TheVariants.Pipe one other
 
 -- its first refuter; a number has none with itself
-abbrev pub refuter_between : List WordRefuters → Kind → ℕ → ℕ → Option Finding
-refuter_between words kind one other =
-    if one == other then None else refuter_of words (relation_between kind one other)
+abbrev pub refuter_between : FindingTable → Kind → ℕ → ℕ → Option Finding
+refuter_between table kind one other =
+    if one == other then None else refuter_of table (relation_of_kind kind one other)
 
 -- the numbers that are asked beside one, of all numbers and of those after it
 abbrev pub seconds_of : Kind → List ℕ → List ℕ → List ℕ
@@ -44,5 +43,5 @@ pairs_of kind all (one ∷ later) =
     pairs_from one (seconds_of kind all later) ++ pairs_of kind all later
 
 -- the pairs whose relation has a refuter
-abbrev pub refuted_pairs : List WordRefuters → Kind → List (ℕ × ℕ) → List (ℕ × ℕ)
-refuted_pairs words kind pairs = filter (λ p. is_some (refuter_between words kind p.0 p.1)) pairs
+abbrev pub refuted_pairs : FindingTable → Kind → List (ℕ × ℕ) → List (ℕ × ℕ)
+refuted_pairs table kind pairs = filter (λ p. is_some (refuter_between table kind p.0 p.1)) pairs

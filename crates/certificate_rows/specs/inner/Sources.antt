@@ -1,9 +1,8 @@
 -- What a certificate is printed of, and which numbers and findings it may be asked for.
 use Rattle.std.specs.Prelude.{◌≡◌, ℕ, List, length}
 use Rattle.counterexamples.specs.Findings.{StandsAt}
-use Rattle.counterexamples.specs.FirstRefuters.{AreFirstRefuters}
+use Rattle.counterexamples.specs.FirstRefuters.{AreFirstRefuters, FindingTable}
 use Rattle.counterexamples.specs.declared.finding.Finding.{Finding}
-use Rattle.counterexamples.specs.declared.word_refuters.WordRefuters.{WordRefuters}
 use Rattle.day_partitions.specs.Books.{BookState, IsBook, KeptDay}
 use Rattle.segment_names.specs.Known.{Known}
 use Rattle.segment_names.specs.Limits.{IsKept}
@@ -18,12 +17,12 @@ count_of known Before = length known.names
 count_of known Exclusive = length known.names
 count_of known Pipe = length known.tasks
 
--- the catalogue has the names of the book, and the words note the first refuters of its traces
-pub record HasRefuters (known : Known) (b : BookState) (words : List WordRefuters) : Type 0 where
+-- the catalogue has the names of the book, and the table has the first refuters of its traces
+pub record HasRefuters (known : Known) (b : BookState) (table : FindingTable) : Type 0 where
   pub fits : IsKept known
   pub book : IsBook b
   pub names : b.names ≡ length known.names
-  pub first : AreFirstRefuters b.names b.days words
+  pub first : AreFirstRefuters b.names b.days table
 
 -- so it is with what a certificate is printed of
 abbrev pub IsSource : Source → Type 0

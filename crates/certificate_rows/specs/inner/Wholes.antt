@@ -1,6 +1,6 @@
 -- A whole certificate by number, and what it is of the kept traces.
 use Rattle.std.specs.Prelude.{ℕ, ◌+◌, ◌<◌, List, ◌++◌, length}
-use Rattle.counterexamples.specs.declared.word_refuters.WordRefuters.{WordRefuters}
+use Rattle.counterexamples.specs.FirstRefuters.{FindingTable}
 use Rattle.day_partitions.specs.Books.{BookState, KeptDay, all_traces}
 use Rattle.kept_books.specs.Shown.{AreShown}
 use Rattle.segment_names.specs.Known.{Known}
@@ -17,27 +17,27 @@ use Rattle.certificate_rows.specs.inner.Orders.{name_number_cmp, task_number_cmp
 use Rattle.certificate_rows.specs.inner.Sources.{HasRefuters}
 
 -- how many relations between these names and tasks are refuted
-abbrev pub refuted_count : List WordRefuters → List ℕ → List ℕ → ℕ
-refuted_count words names tasks =
-    kind_count words Before names + kind_count words Exclusive names + kind_count words Pipe tasks
+abbrev pub refuted_count : FindingTable → List ℕ → List ℕ → ℕ
+refuted_count table names tasks =
+    kind_count table Before names + kind_count table Exclusive names + kind_count table Pipe tasks
 
 -- the rows of the refuted relations between these names and tasks
-abbrev pub refuted_rows : Known → List KeptDay → List WordRefuters → List ℕ → List ℕ → List ℕ
-refuted_rows known days words names tasks =
-    kind_rows known days words Before names
-    ++ (kind_rows known days words Exclusive names ++ kind_rows known days words Pipe tasks)
+abbrev pub refuted_rows : Known → List KeptDay → FindingTable → List ℕ → List ℕ → List ℕ
+refuted_rows known days table names tasks =
+    kind_rows known days table Before names
+    ++ (kind_rows known days table Exclusive names ++ kind_rows known days table Pipe tasks)
 
 -- the header and these rows
-abbrev pub certificate_text : Known → List KeptDay → List WordRefuters → List ℕ → List ℕ → List ℕ
-certificate_text known days words names tasks =
-    why_row (length (all_traces days)) (refuted_count words names tasks)
-    ++ refuted_rows known days words names tasks
+abbrev pub certificate_text : Known → List KeptDay → FindingTable → List ℕ → List ℕ → List ℕ
+certificate_text known days table names tasks =
+    why_row (length (all_traces days)) (refuted_count table names tasks)
+    ++ refuted_rows known days table names tasks
 
 -- the certificate of the names and tasks of a catalogue, in their order, is that of the kept traces
 abbrev pub CertificateIsShown : Type 0
-CertificateIsShown = (known : Known) (b : BookState) (words : List WordRefuters)
-    (names tasks : List ℕ) (kept : List Kept) (refuted : Refutations) → HasRefuters known b words
+CertificateIsShown = (known : Known) (b : BookState) (table : FindingTable)
+    (names tasks : List ℕ) (kept : List Kept) (refuted : Refutations) → HasRefuters known b table
     → ListsExactly (name_number_cmp known) (λ n. n < length known.names) names
     → ListsExactly (task_number_cmp known) (λ n. n < length known.tasks) tasks
     → AreShown known (all_traces b.days) kept → AreRefutations kept refuted
-    → AreTexts IsPart (why_parts kept refuted) (certificate_text known b.days words names tasks)
+    → AreTexts IsPart (why_parts kept refuted) (certificate_text known b.days table names tasks)

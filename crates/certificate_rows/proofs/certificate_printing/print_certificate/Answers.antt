@@ -19,11 +19,11 @@ pub returns-clause-printed : goal.returns-clause-printed
 returns-clause-printed g c = λ kept shown refuted are.
     let known = c.args.catalogue.now in
     let b = c.args.book.now in
-    let words = c.in_ok-refuters.refuters in
+    let table = c.in_ok-refuters.refuters in
     let names = c.in_ok-names.names.items in
     let tasks = c.in_ok-tasks.tasks.items in
-    let has : HasRefuters known b words = record { fits = c.names-names.ensures.kept; book = c.days-days.ensures.kept; names = c.requires.names; first = c.in_ok-refuters.ensures } in
-    let told = c.certificate_is_shown.ensures known b words names tasks kept refuted has c.in_ok-names.ensures.listed c.in_ok-tasks.ensures.listed shown are in
-    let same = ap (λ (ns : List ℕ). certificate_text known b.days words ns c.deref-2.result.now) c.deref.ensures.value ∙ ap (λ (ns : List ℕ). certificate_text known b.days words names ns) c.deref-2.ensures.value in
-    parts_printed g.S.Sink.written g.S.Sink.faults c.print_all.result c.args.sink.now c.print_all.new.sink (why_parts kept refuted) (certificate_text known b.days words names tasks) c.args.buffer.now c.print_all.new.buffer told
+    let has : HasRefuters known b table = record { fits = c.names-names.ensures.kept; book = c.days-days.ensures.kept; names = c.requires.names; first = c.in_ok-refuters.ensures } in
+    let told = c.certificate_is_shown.ensures known b table names tasks kept refuted has c.in_ok-names.ensures.listed c.in_ok-tasks.ensures.listed shown are in
+    let same = ap (λ (ns : List ℕ). certificate_text known b.days table ns c.deref-2.result.now) c.deref.ensures.value ∙ ap (λ (ns : List ℕ). certificate_text known b.days table names ns) c.deref-2.ensures.value in
+    parts_printed g.S.Sink.written g.S.Sink.faults c.print_all.result c.args.sink.now c.print_all.new.sink (why_parts kept refuted) (certificate_text known b.days table names tasks) c.args.buffer.now c.print_all.new.buffer told
     (subst (PrintsText g.S.Sink.written g.S.Sink.faults c.print_all.result c.args.sink.now c.print_all.new.sink c.args.buffer.now c.print_all.new.buffer) same c.print_all.ensures)

@@ -17,8 +17,8 @@ returns-clause-listed c =
     let count = c.tasks-count.ensures.count in
     let sorted = c.sort_unstable.new.self.items in
     let done = entries_done _ text_total text_exact texts [] c.tasks.number c.tasks.named.items sorted c.tasks-count.ensures.kept.tasks_differ (omega (arith, c.tasks-test.false)) c.tasks.invariant c.sort_unstable.ensures.permutation c.sort_unstable.ensures.sorted in
-    IfOk-weaker c.numbers_of.result (λ numbers. numbers.items ≡ map number_in c.deref.result.now) (λ numbers. ListsExactly (task_number_cmp c.args.catalogue.now) (λ n. n < length texts) numbers.items)
-    (λ numbers is. subst (ListsExactly (task_number_cmp c.args.catalogue.now) (λ (n : ℕ). n < length texts)) (sym (is ∙ ap (map number_in) c.deref.ensures.value)) done) c.numbers_of.ensures
+    IfOk-weaker c.numbers_in.result (λ numbers. numbers.items ≡ map number_in c.deref.result.now) (λ numbers. ListsExactly (task_number_cmp c.args.catalogue.now) (λ n. n < length texts) numbers.items)
+    (λ numbers is. subst (ListsExactly (task_number_cmp c.args.catalogue.now) (λ (n : ℕ). n < length texts)) (sym (is ∙ ap (map number_in) c.deref.ensures.value)) done) c.numbers_in.ensures
 
 pub returns-clause-few : goal.returns-clause-few
 returns-clause-few c =
@@ -27,5 +27,5 @@ returns-clause-few c =
     let most = c.tasks-count.ensures.kept.few_tasks in
     let sorted = c.sort_unstable.new.self.items in
     let few = entries_few _ text_total text_exact texts [] c.tasks.number c.tasks.named.items sorted c.tasks-count.ensures.kept.tasks_differ (omega (arith, c.tasks-test.false)) c.tasks.invariant c.sort_unstable.ensures.permutation c.sort_unstable.ensures.sorted in
-    IfOk-weaker c.numbers_of.result (λ numbers. numbers.items ≡ map number_in c.deref.result.now) (λ numbers. length numbers.items ≤ 512)
-    (λ numbers is. let same = ap length (is ∙ ap (map number_in) c.deref.ensures.value) in omega arith) c.numbers_of.ensures
+    IfOk-weaker c.numbers_in.result (λ numbers. numbers.items ≡ map number_in c.deref.result.now) (λ numbers. length numbers.items ≤ 512)
+    (λ numbers is. let same = ap length (is ∙ ap (map number_in) c.deref.ensures.value) in omega arith) c.numbers_in.ensures

@@ -1,5 +1,5 @@
 use Rattle.std.proofs.Common.{arith, sym, ◌∙◌}
-use Rattle.counterexamples.proofs.ShownLemmas.{traces_here, traces_later, traces_nowhere}
+use Rattle.counterexamples.proofs.ShownLemmas.{traces_here, traces_later}
 use Rattle.counterexamples.proofs.claims.traces_of.Goals as goal
 
 pub returns-then-day : goal.returns-then-day

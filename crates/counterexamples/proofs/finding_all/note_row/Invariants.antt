@@ -1,7 +1,7 @@
 use Rattle.std.proofs.Common.{◌≡◌, ℕ, ◌<◌, cond, length, take, Some}
 use Rattle.std.specs.Option.{option_or}
 use Rattle.word_rows.specs.Rows.{clears}
-use Rattle.counterexamples.specs.FirstRefuters.{noted_at}
+use Rattle.counterexamples.specs.inner.Tables.{noted_at}
 use Rattle.counterexamples.proofs.finding_all.note_row.Given as goal
 
 -- the entries so far are noted
