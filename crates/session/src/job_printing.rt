@@ -50,12 +50,18 @@ impl Session {
                 Ok(())
             }
             Command::Model => print_model(self.alloc, &self.book, &self.catalogue, sink, buffer),
-            Command::Paths => print_paths(self.alloc, &self.book, &self.catalogue, sink, buffer),
-            Command::Slack => print_slacks(self.alloc, &self.book, &self.catalogue, sink, buffer),
+            Command::Paths => {
+                print_paths(rt, self.alloc, &self.book, &self.catalogue, sink, buffer)
+            }
+            Command::Slack => {
+                print_slacks(rt, self.alloc, &self.book, &self.catalogue, sink, buffer)
+            }
             Command::Report => {
                 print_report(rt, self.alloc, &self.book, &self.catalogue, sink, buffer)
             }
-            Command::Graph => print_graphs(self.alloc, &self.book, &self.catalogue, sink, buffer),
+            Command::Graph => {
+                print_graphs(rt, self.alloc, &self.book, &self.catalogue, sink, buffer)
+            }
         }
     }
 

@@ -1,4 +1,5 @@
 mod BookLemmas
+mod ChunkLemmas
 mod EdgeLemmas
 mod PrintLemmas
 mod ShownLemmas

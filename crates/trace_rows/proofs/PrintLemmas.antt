@@ -120,8 +120,3 @@ module _ {S : Type 0} (written : S → Option (List ℕ)) (faults : S → ℕ) (
   whole_cut word e old new held between holds goes_on one p kept shown =
       goes_on e old new (Header word (length kept) ∷ []) (map (part kept) kept) held between holds
       (one (Header word (length kept)) (traces_row word (length (traces_in b))) (Err e) old new held between (ap (traces_row word) (sym (AllZip-long (IsShown b.known) (traces_in b) kept shown))) p)
-
--- a list is that of its items, each by itself
-pub one_by_one : {X : Type 0} (xs : List X) → flat_map (λ x. x ∷ []) xs ≡ xs
-one_by_one [] = refl
-one_by_one (x ∷ xs) = ap (λ ys. x ∷ ys) (one_by_one xs)

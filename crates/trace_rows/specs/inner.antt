@@ -1,3 +1,4 @@
 -- What private contracts alone cite.
+pub mod ComputedParts
 pub mod NumberedGraphs
 pub mod ShownTraces

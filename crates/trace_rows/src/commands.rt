@@ -18,6 +18,7 @@ use mystery_io::Sink;
 use segment_names::Catalogue;
 use session_rules::SessionPart;
 use std::alloc::Global;
+use std::thread::Threads;
 use text_rows::laws::part_calls_follow;
 use text_rows::{Field, PrintFault, RowBuffer, print_row};
 
@@ -51,7 +52,8 @@ fn print_header<S: Sink>(
 }
 
 /// Prints a header of this word and the parts of all traces of a book.
-fn print_whole<S: Sink, K: TraceTexts>(
+fn print_whole<R: Threads + Sync, S: Sink, K: TraceTexts>(
+    rt: &R,
     alloc: Global,
     book: &NumberedBook<'_>,
     word: &str,
@@ -65,16 +67,18 @@ fn print_whole<S: Sink, K: TraceTexts>(
 {
     part_calls_follow::<S, SessionPart>();
     print_header(sink, buffer, word, book)?;
-    print_days(alloc, book, texts, sink, buffer)
+    print_days(rt, alloc, book, texts, sink, buffer)
 }
 
 /// Prints the critical path of each trace of a book whose names are those of the catalogue: a
 /// header with the number of traces, then the paths, by day and within a day in the order in which
 /// the traces were taken. Times are in nanoseconds.
 ///
-/// The graph of a trace is made when its turn comes. After an error a prefix of the text was
+/// Graphs are made by all processors, a chunk of traces at a time, and what is told of a chunk is
+/// printed before the next is made. After an error a prefix of the text was
 /// printed, and nothing is said of the buffer.
-pub fn print_paths<S: Sink>(
+pub fn print_paths<R: Threads + Sync, S: Sink>(
+    rt: &R,
     alloc: Global,
     book: &DayBook,
     catalogue: &Catalogue,
@@ -88,12 +92,13 @@ pub fn print_paths<S: Sink>(
     ensures counted { S.faults sink.new ≡ print_faults result (S.faults sink.old) }
 {
     let book = NumberedBook::new(book, catalogue);
-    print_whole(alloc, &book, "paths", &PathTexts, sink, buffer)
+    print_whole(rt, alloc, &book, "paths", &PathTexts, sink, buffer)
 }
 
 /// Prints the longest length of each trace of a book and the slacks of its segments, as
 /// `print_paths` prints paths.
-pub fn print_slacks<S: Sink>(
+pub fn print_slacks<R: Threads + Sync, S: Sink>(
+    rt: &R,
     alloc: Global,
     book: &DayBook,
     catalogue: &Catalogue,
@@ -107,12 +112,13 @@ pub fn print_slacks<S: Sink>(
     ensures counted { S.faults sink.new ≡ print_faults result (S.faults sink.old) }
 {
     let book = NumberedBook::new(book, catalogue);
-    print_whole(alloc, &book, "slack", &SlackTexts, sink, buffer)
+    print_whole(rt, alloc, &book, "slack", &SlackTexts, sink, buffer)
 }
 
 /// Prints the transitive reduction of the graph of each trace of a book, as `print_paths` prints
 /// paths.
-pub fn print_graphs<S: Sink>(
+pub fn print_graphs<R: Threads + Sync, S: Sink>(
+    rt: &R,
     alloc: Global,
     book: &DayBook,
     catalogue: &Catalogue,
@@ -126,5 +132,5 @@ pub fn print_graphs<S: Sink>(
     ensures counted { S.faults sink.new ≡ print_faults result (S.faults sink.old) }
 {
     let book = NumberedBook::new(book, catalogue);
-    print_whole(alloc, &book, "graph", &GraphTexts, sink, buffer)
+    print_whole(rt, alloc, &book, "graph", &GraphTexts, sink, buffer)
 }

@@ -3,6 +3,7 @@ ghost use Rattle.std.specs.List.{flat_map, range_with_len};
 ghost use Rattle.session_rules.specs.Parts.{GraphOf};
 ghost use Rattle.session_rules.specs.TraceTexts.{edges_of};
 ghost use Rattle.text_rows.specs.Printing.{PrintsText};
+ghost use Rattle.trace_rows.specs.inner.ComputedParts.{IsReducedUnderBook};
 ghost use Rattle.trace_rows.specs.inner.NumberedGraphs.{edge_row, edge_rows, graph_rows};
 ghost use Rattle.trace_rows.specs.inner.NumberedGraphs.{named_row, vertex_row};
 ghost use Rattle.weighted_dag.specs.Graphs.{order_of};
@@ -15,8 +16,8 @@ use crate::vertex_rows::{VertexRows, print_first};
 use kept_books::laws::graph_is_shown;
 use mystery_io::Sink;
 use session_rules::SessionPart;
-use std::alloc::Global;
-use text_rows::laws::{calls_follow, part_calls_follow, parts_follow};
+use std::alloc::{AllocError, Global};
+use text_rows::laws::{calls_follow, part_calls_follow};
 use text_rows::{Field, PrintFault, RowBuffer, Rows, print_row, print_rows};
 use trace_graph::OrderedGraph;
 use trace_types::NamedTrace;
@@ -177,26 +178,38 @@ fn print_graph<S: Sink>(
 }
 
 impl TraceTexts for GraphTexts {
+    type Computed = OrderedGraph;
+
     ghost part = { λ _ kept k. GraphOf kept k };
 
-    fn print<S: Sink>(
+    ghost computes = { λ _ b t reduced. IsReducedUnderBook b t reduced.order reduced.dag };
+
+    fn compute(
         &self,
         alloc: Global,
         book: &NumberedBook<'_>,
         trace: &NamedTrace,
+    ) -> Result<OrderedGraph, AllocError> {
+        let OrderedGraph { order, dag } = book.graph_of(alloc, trace)?;
+        let reduced = reduce(alloc, &dag)?;
+        Ok(OrderedGraph {
+            order,
+            dag: reduced,
+        })
+    }
+
+    fn print<S: Sink>(
+        &self,
+        book: &NumberedBook<'_>,
+        trace: &NamedTrace,
+        computed: &OrderedGraph,
         sink: &mut S,
         buffer: &mut RowBuffer,
     ) -> Result<(), PrintFault> {
         graph_is_shown();
         names_are_shown();
-        parts_follow::<SessionPart>();
         part_calls_follow::<S, SessionPart>();
-        let OrderedGraph { order, dag } = book.graph_of(alloc, trace)?;
-        let reduced = OrderedGraph {
-            order,
-            dag: reduce(alloc, &dag)?,
-        };
-        let numbered = NumberedGraph::new(book.catalogue(), trace, &reduced);
+        let numbered = NumberedGraph::new(book.catalogue(), trace, computed);
         print_graph(sink, buffer, &numbered)
     }
 }

@@ -2,6 +2,7 @@
 //! numbers of a catalogue.
 #![tactic(auto)]
 
+mod chunks;
 mod commands;
 mod graph_texts;
 mod laws;

@@ -3,6 +3,7 @@ use model_meet::Model;
 use segment_names::Catalogue;
 use std::alloc::{AllocError, Global};
 use trace_graph::{OrderedGraph, graph};
+use trace_paths::kept_traces;
 use trace_types::NamedTrace;
 
 /// A book of days and the catalogue of its names.
@@ -24,7 +25,8 @@ impl<'a> std::marker::Model for NumberedBook<'a> {
 }
 
 impl<'a> NumberedBook<'a> {
-    ghost use Rattle.std.specs.Prelude.{◌≡◌, ◌^◌, ◌<◌, length, IfOk, Some, slice_get};
+    ghost use Rattle.std.specs.Prelude.{◌≡◌, ◌^◌, ◌<◌, length, map, IfOk, Some, slice_get};
+    ghost use Rattle.std.specs.Borrow.{Bor};
     ghost use Rattle.std.specs.List.{All};
     ghost use Rattle.std.specs.Option.{option_map};
     ghost use Rattle.refute_tests.specs.Clearing.{HaveNamesBelow};
@@ -33,6 +35,7 @@ impl<'a> NumberedBook<'a> {
     ghost use Rattle.trace_rows.specs.inner.NumberedGraphs.{IsNumbered};
     ghost use Rattle.trace_rows.specs.inner.ShownTraces.{traces_in};
     ghost use Rattle.trace_types.specs.Parts.{by_number};
+    ghost use Rattle.trace_types.specs.declared.named_trace.NamedTrace.{NamedTrace};
     ghost use Rattle.weighted_dag.specs.Graphs.{IsGraph};
 
     /// Lends a book and the catalogue of its names. It takes no memory.
@@ -69,6 +72,16 @@ impl<'a> NumberedBook<'a> {
         ensures named { All (HaveNamesBelow (length self.now.known.names)) result.now }
     {
         self.book.traces(place)
+    }
+
+    /// Lists the traces, by day and within a day in order. The only error is that memory ran out.
+    pub(crate) fn all_traces(&self, alloc: Global) -> Result<Vec<&NamedTrace>, AllocError>
+        ensures traces { IfOk result (λ traces. map (λ (t : Bor NamedTrace). t.now) traces.items
+            ≡ traces_in self.now) }
+        ensures below { IfOk result (λ traces. All (λ (t : Bor NamedTrace).
+            HaveNamesBelow (length self.now.known.names) t.now) traces.items) }
+    {
+        kept_traces(alloc, self.book)
     }
 
     /// Makes the graph of a trace under what the traces of the book leave. The only error is that

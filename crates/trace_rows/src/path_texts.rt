@@ -2,6 +2,7 @@ ghost use Rattle.std.specs.Prelude.{◌<◌, [], ◌∷◌, codes, decimal, leng
 ghost use Rattle.std.specs.List.{All};
 ghost use Rattle.session_rules.specs.Parts.{PathOf};
 ghost use Rattle.text_rows.specs.Printing.{PrintsText};
+ghost use Rattle.trace_rows.specs.inner.ComputedParts.{IsPathUnderBook};
 ghost use Rattle.trace_rows.specs.inner.NumberedGraphs.{named_row, path_rows, step_row};
 
 use crate::laws::names_are_shown;
@@ -13,14 +14,22 @@ use critical_path::{Chain, critical};
 use kept_books::laws::graph_is_shown;
 use mystery_io::Sink;
 use session_rules::SessionPart;
-use std::alloc::Global;
-use text_rows::laws::{calls_follow, part_calls_follow, parts_follow};
+use std::alloc::{AllocError, Global};
+use text_rows::laws::{calls_follow, part_calls_follow};
 use text_rows::{Field, PrintFault, RowBuffer, print_row};
+use trace_graph::OrderedGraph;
 use trace_types::NamedTrace;
 
 /// The critical paths of traces.
 #[derive(Clone, Copy)]
 pub(crate) struct PathTexts;
+
+/// The graph of a trace and its critical path.
+#[derive(Drop)]
+pub(crate) struct TracePath {
+    graph: OrderedGraph,
+    chain: Chain,
+}
 
 /// The steps of a path.
 #[derive(Drop)]
@@ -97,23 +106,36 @@ fn print_path<S: Sink>(
 }
 
 impl TraceTexts for PathTexts {
+    type Computed = TracePath;
+
     ghost part = { λ _ kept k. PathOf kept k };
 
-    fn print<S: Sink>(
+    ghost computes = { λ _ b t path.
+        IsPathUnderBook b t path.graph.order path.graph.dag path.chain.length path.chain.vertices };
+
+    fn compute(
         &self,
         alloc: Global,
         book: &NumberedBook<'_>,
         trace: &NamedTrace,
+    ) -> Result<TracePath, AllocError> {
+        let graph = book.graph_of(alloc, trace)?;
+        let chain = critical(alloc, &graph.dag)?;
+        Ok(TracePath { graph, chain })
+    }
+
+    fn print<S: Sink>(
+        &self,
+        book: &NumberedBook<'_>,
+        trace: &NamedTrace,
+        computed: &TracePath,
         sink: &mut S,
         buffer: &mut RowBuffer,
     ) -> Result<(), PrintFault> {
         graph_is_shown();
         names_are_shown();
-        parts_follow::<SessionPart>();
         part_calls_follow::<S, SessionPart>();
-        let graph = book.graph_of(alloc, trace)?;
-        let chain = critical(alloc, &graph.dag)?;
-        let numbered = NumberedGraph::new(book.catalogue(), trace, &graph);
-        print_path(sink, buffer, &numbered, &chain)
+        let numbered = NumberedGraph::new(book.catalogue(), trace, &computed.graph);
+        print_path(sink, buffer, &numbered, &computed.chain)
     }
 }

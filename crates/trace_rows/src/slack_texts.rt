@@ -1,6 +1,7 @@
 ghost use Rattle.std.specs.Prelude.{◌≡◌, ◌<◌, [], ◌∷◌, codes, decimal, length};
 ghost use Rattle.session_rules.specs.Parts.{SlacksOf};
 ghost use Rattle.text_rows.specs.Printing.{PrintsText};
+ghost use Rattle.trace_rows.specs.inner.ComputedParts.{AreSlacksUnderBook};
 ghost use Rattle.trace_rows.specs.inner.NumberedGraphs.{named_row, segment_row, slack_rows};
 
 use crate::laws::names_are_shown;
@@ -12,14 +13,22 @@ use kept_books::laws::graph_is_shown;
 use mystery_io::Sink;
 use session_rules::SessionPart;
 use slack::{SlackTable, longest_and_slacks};
-use std::alloc::Global;
-use text_rows::laws::{calls_follow, part_calls_follow, parts_follow};
+use std::alloc::{AllocError, Global};
+use text_rows::laws::{calls_follow, part_calls_follow};
 use text_rows::{Field, PrintFault, RowBuffer, print_row};
+use trace_graph::OrderedGraph;
 use trace_types::NamedTrace;
 
 /// The slacks of traces.
 #[derive(Clone, Copy)]
 pub(crate) struct SlackTexts;
+
+/// The graph of a trace, its longest length and its slacks.
+#[derive(Drop)]
+pub(crate) struct TraceSlacks {
+    graph: OrderedGraph,
+    table: SlackTable,
+}
 
 /// The segments of a trace with their slacks.
 #[derive(Drop)]
@@ -97,23 +106,36 @@ fn print_table<S: Sink>(
 }
 
 impl TraceTexts for SlackTexts {
+    type Computed = TraceSlacks;
+
     ghost part = { λ _ kept k. SlacksOf kept k };
 
-    fn print<S: Sink>(
+    ghost computes = { λ _ b t slacks. AreSlacksUnderBook b t slacks.graph.order slacks.graph.dag
+        slacks.table.longest slacks.table.slacks.items };
+
+    fn compute(
         &self,
         alloc: Global,
         book: &NumberedBook<'_>,
         trace: &NamedTrace,
+    ) -> Result<TraceSlacks, AllocError> {
+        let graph = book.graph_of(alloc, trace)?;
+        let table = longest_and_slacks(alloc, &graph.dag)?;
+        Ok(TraceSlacks { graph, table })
+    }
+
+    fn print<S: Sink>(
+        &self,
+        book: &NumberedBook<'_>,
+        trace: &NamedTrace,
+        computed: &TraceSlacks,
         sink: &mut S,
         buffer: &mut RowBuffer,
     ) -> Result<(), PrintFault> {
         graph_is_shown();
         names_are_shown();
-        parts_follow::<SessionPart>();
         part_calls_follow::<S, SessionPart>();
-        let graph = book.graph_of(alloc, trace)?;
-        let table = longest_and_slacks(alloc, &graph.dag)?;
-        let numbered = NumberedGraph::new(book.catalogue(), trace, &graph);
-        print_table(sink, buffer, &numbered, &table)
+        let numbered = NumberedGraph::new(book.catalogue(), trace, &computed.graph);
+        print_table(sink, buffer, &numbered, &computed.table)
     }
 }

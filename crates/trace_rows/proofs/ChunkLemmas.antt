@@ -1,0 +1,80 @@
+-- What a parallel map over traces gives where each of its calls succeeds, and lists of lent traces
+-- that are taken a chunk at a time.
+use Rattle.std.proofs.Common.{◌≡◌, ℕ, zero, suc, ◌+◌, ◌-◌, ◌<◌, ◌≤◌, List, [], ◌∷◌, ◌++◌, length, get_or, take, drop, map, Option, Result, Ok, Err, IfOk, refl, sym, ◌∙◌, ap, subst, append_assoc, arith}
+use Rattle.std.specs.Prelude.{MatchResult, Contains}
+use Rattle.std.specs.Borrow.{Bor}
+use Rattle.std.specs.List.{AllZip, flat_map}
+use Rattle.std.specs.declared.vec.Vec.{Vec}
+use Rattle.std.proofs.Math.Seq.{take-add}
+use Rattle.std.proofs.lemmas.List.{map-append, take_all, take-append-drop}
+use Rattle.session_rules.specs.KeptTraces.{Kept}
+use Rattle.session_rules.specs.Parts.{IsPart, Part}
+use Rattle.text_rows.specs.PartsFollow.{PartCallGoesOn, PartCallsFollow}
+use Rattle.text_rows.specs.declared.print_fault.PrintFault.{PrintFault}
+use Rattle.trace_types.specs.declared.named_trace.NamedTrace.{NamedTrace}
+use Rattle.trace_rows.specs.inner.ShownTraces.{NumberedBook, PrintsShown}
+use Rattle.trace_rows.proofs.PrintLemmas.{done, shown_follow, shown_goes_on}
+
+-- each result is a value, and the values are as asked
+values_of : (E : Type 0) {X Y : Type 0} (R : X → Y → Type 0) (xs : List X) (ys : List Y) → AllZip (λ x (y : Result Y E). IfOk y (R x)) xs (map Ok ys) → AllZip R xs ys
+values_of E R [] [] all = all
+values_of E R [] (y ∷ ys) all = all
+values_of E R (x ∷ xs) [] all = all
+values_of E R (x ∷ xs) (y ∷ ys) all = (all.0, values_of E R xs ys all.1)
+
+-- the collected values are as asked, where there is no error
+pub collected : {X Y Z E : Type 0} (R : X → Y → Type 0) (xs : List X) (results : List (Result Y E)) (r : Result (Vec Y Z) E) → AllZip (λ x y. IfOk y (R x)) xs results
+    → MatchResult r (λ v. (ys : List Y) × (results ≡ map Ok ys) × (v.items ≡ ys)) (λ e. Contains results (Err e)) → IfOk r (λ v. AllZip R xs v.items)
+collected {X} {Y} {Z} {E} R xs results (Ok v) all (ys, are, is) =
+    subst (AllZip R xs) (sym is) (values_of E R xs ys (subst (λ (l : List (Result Y E)). AllZip (λ x y. IfOk y (R x)) xs l) are all))
+collected R xs results (Err e) all found = tt
+
+-- items at one place of two lists that are alike
+pub zip_at : {X Y : Type 0} (R : X → Y → Type 0) (xs : List X) (ys : List Y) (i : ℕ) (d : X) (e : Y) → AllZip R xs ys → i < length xs → R (get_or xs i d) (get_or ys i e)
+zip_at R [] [] i d e h lt = absurd (omega (arith, lt))
+zip_at R [] (y ∷ ys) i d e h lt = absurd h
+zip_at R (x ∷ xs) [] i d e h lt = absurd h
+zip_at R (x ∷ xs) (y ∷ ys) zero d e h lt = h.0
+zip_at R (x ∷ xs) (y ∷ ys) (suc i) d e h lt = zip_at R xs ys i d e h.1 (omega (arith, lt))
+
+-- what is read at one place of two lists that are alike
+pub zip_read : {X Y : Type 0} (R : X → Y → Type 0) (xs : List X) (ys : List Y) (i : ℕ) (x : X) (y : Y) → AllZip R xs ys → i < length xs → x ≡ get_or xs i x → y ≡ get_or ys i y → R x y
+zip_read {X} {Y} R xs ys i x y h lt atx aty = subst (λ (a : X). R a y) (sym atx) (subst (λ (b : Y). R (get_or xs i x) b) (sym aty) (zip_at R xs ys i x y h lt))
+
+-- the traces that are lent
+abbrev pub lent : List (Bor NamedTrace) → List NamedTrace
+lent ts = map (λ (t : Bor NamedTrace). t.now) ts
+
+-- lent traces are those of each by itself
+pub each_lent : (ts : List (Bor NamedTrace)) → flat_map (λ (t : Bor NamedTrace). t.now ∷ []) ts ≡ lent ts
+each_lent [] = refl
+each_lent (t ∷ ts) = ap (λ us. t.now ∷ us) (each_lent ts)
+
+-- some of the lent traces, the next so many, and the rest
+chunk_end : (ts : List (Bor NamedTrace)) (i n : ℕ) → lent (take i ts) ++ lent (take (i + n - i) (drop i ts)) ≡ lent (take (i + n) ts)
+chunk_end ts i n =
+    let many : i + n - i ≡ n = omega arith in
+    sym (map-append (λ (t : Bor NamedTrace). t.now) (take i ts) (take (i + n - i) (drop i ts))) ∙ ap lent (ap (λ m. take i ts ++ take m (drop i ts)) many ∙ sym (take-add i n ts))
+
+chunk_rest : (ts : List (Bor NamedTrace)) (i n : ℕ) → lent (take i ts) ++ (lent (take (i + n - i) (drop i ts)) ++ lent (drop (i + n) ts)) ≡ lent ts
+chunk_rest ts i n =
+    sym (append_assoc (lent (take i ts)) (lent (take (i + n - i) (drop i ts))) (lent (drop (i + n) ts)))
+    ∙ (ap (λ l. l ++ lent (drop (i + n) ts)) (chunk_end ts i n)
+    ∙ (sym (map-append (λ (t : Bor NamedTrace). t.now) (take (i + n) ts) (drop (i + n) ts)) ∙ ap lent (take-append-drop (i + n) ts)))
+
+-- one more chunk, all of them, and one that was not printed to its end
+module _ {S : Type 0} (written : S → Option (List ℕ)) (faults : S → ℕ) (b : NumberedBook) (part : List Kept → Kept → Part) (ts : List (Bor NamedTrace)) where
+  pub chunks_next : (i n : ℕ) (old mid new : S) (held between holds : List ℕ) → PartCallsFollow written faults IsPart (Unit {0})
+      → PrintsShown written faults done old mid b part (lent (take i ts)) held between → PrintsShown written faults done mid new b part (lent (take (i + n - i) (drop i ts))) between holds → PrintsShown written faults done old new b part (lent (take (i + n) ts)) held holds
+  chunks_next i n old mid new held between holds follow p q =
+      subst (λ us. PrintsShown written faults done old new b part us held holds) (chunk_end ts i n) (shown_follow written faults b part done old mid new (lent (take i ts)) (lent (take (i + n - i) (drop i ts))) held between holds follow p q)
+
+  pub chunks_all : (i : ℕ) (old new : S) (held holds : List ℕ) → length ts ≤ i → PrintsShown written faults done old new b part (lent (take i ts)) held holds → PrintsShown written faults done old new b part (lent ts) held holds
+  chunks_all i old new held holds le p = subst (λ us. PrintsShown written faults done old new b part (lent us) held holds) (take_all i ts le) p
+
+  pub chunks_cut : (i n : ℕ) (e : PrintFault) (old mid new : S) (held between holds : List ℕ) → PartCallsFollow written faults IsPart (Unit {0}) → PartCallGoesOn written faults IsPart (Unit {0})
+      → PrintsShown written faults done old mid b part (lent (take i ts)) held between → PrintsShown {T = Unit {0}} written faults (Err e) mid new b part (lent (take (i + n - i) (drop i ts))) between holds → PrintsShown {T = Unit {0}} written faults (Err e) old new b part (lent ts) held holds
+  chunks_cut i n e old mid new held between holds follow goes_on p q =
+      subst (λ us. PrintsShown {T = Unit {0}} written faults (Err e) old new b part us held holds) (chunk_rest ts i n)
+      (shown_follow written faults b part (Err e) old mid new (lent (take i ts)) (lent (take (i + n - i) (drop i ts)) ++ lent (drop (i + n) ts)) held between holds follow p
+      (shown_goes_on written faults b part e mid new (lent (take (i + n - i) (drop i ts))) (lent (drop (i + n) ts)) between holds holds goes_on q))
