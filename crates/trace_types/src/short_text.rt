@@ -36,6 +36,16 @@ impl ShortText {
         }
     }
 
+    /// Makes a second text with the same bytes.
+    pub(crate) fn copy(&self) -> ShortText
+        ensures { result ≡ self.now }
+    {
+        ShortText {
+            bytes: self.bytes,
+            len: self.len,
+        }
+    }
+
     /// Lends the text.
     pub(crate) fn as_str(&self) -> &str
         ensures { result.now ≡ self.now }

@@ -57,7 +57,11 @@ impl Text {
     pub fn copy(&self, alloc: Global) -> Result<Text, AllocError>
         ensures { IfOk result (λ t. t ≡ self.now) }
     {
-        Text::new(alloc, self.as_str())
+        let held = match &self.held {
+            Held::Short(text) => Held::Short(text.copy()),
+            Held::Long(text) => Held::Long(String::from_str(alloc, text.as_str())?),
+        };
+        Ok(Text { held })
     }
 }
 
