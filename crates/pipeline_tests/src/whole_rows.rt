@@ -11,6 +11,9 @@ use std::alloc::{AllocError, Global};
 use trace_types::NamedTrace;
 use word_rows::{Row, RowMaker};
 
+/// The words of all tasks and of 512 names.
+const MOST_WORDS: usize = 8302;
+
 /// The row that clears the places of exactly those relations between tasks that the trace refutes.
 /// The only error is that memory ran out.
 pub fn task_row(alloc: Global, trace: &NamedTrace) -> Result<Row, AllocError>
@@ -23,6 +26,15 @@ pub fn task_row(alloc: Global, trace: &NamedTrace) -> Result<Row, AllocError>
     Ok(row)
 }
 
+/// Estimates how many words the row of a trace has, so that its memory is taken at once: for each
+/// segment the words of its pairs with those of lesser names, sixteen pairs a word.
+fn estimate_words(trace: &NamedTrace) -> usize {
+    let segments = trace.segments.items().len();
+    segments
+        .saturating_add(segments.saturating_mul(segments) / 32)
+        .min(MOST_WORDS)
+}
+
 /// The row that clears the places of exactly those relations that the trace refutes. The only error
 /// is that memory ran out.
 pub fn whole_row(alloc: Global, trace: &NamedTrace) -> Result<Row, AllocError>
@@ -30,7 +42,7 @@ pub fn whole_row(alloc: Global, trace: &NamedTrace) -> Result<Row, AllocError>
     ensures fits { IfOk result (λ row. (names : ℕ) → HaveNamesBelow names trace.now
         → IsTrue (below (width_of names) row)) }
 {
-    let mut maker = RowMaker::new(alloc);
+    let mut maker = RowMaker::with_room(alloc, estimate_words(trace))?;
     clear_tasks(alloc, &mut maker, trace)?;
     clear_segments(alloc, &mut maker, trace)?;
     let row = maker.finish()?;

@@ -22,7 +22,7 @@ use trace_types::NamedTrace;
 pub fn offer_all<R: Threads + Sync, G: Gate + Sync>(
     rt: &R,
     recorder: &Recorder,
-    recording: Recording,
+    mut recording: Recording,
     traces: Vec<NamedTrace>,
     every: u32,
     gate: &G,
@@ -43,6 +43,9 @@ pub fn offer_all<R: Threads + Sync, G: Gate + Sync>(
     ensures fault { IfErr result (λ f. HasStopped recorder.now recording traces.items
         f.recording) }
 {
+    if recording.reserve(traces.len()).is_err() {
+        return Err(OfferAllFault { recording });
+    }
     match offer_block(rt, recorder, recording, traces, 0, every, gate) {
         Ok((recording, lines)) => Ok((recording, WatchLines::of(lines))),
         Err(fault) => Err(fault),

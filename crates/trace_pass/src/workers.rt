@@ -127,7 +127,7 @@ fn offer_each<G: Gate>(
 /// only fault is that memory ran out.
 pub(crate) fn offer_share<G: Gate>(
     recorder: &Recorder,
-    recording: Recording,
+    mut recording: Recording,
     traces: Vec<NamedTrace>,
     worker: u32,
     every: u32,
@@ -139,6 +139,9 @@ pub(crate) fn offer_share<G: Gate>(
     ensures fault { IfErr result (λ f. HasStopped recorder.now recording traces.items
         f.recording) }
 {
+    if recording.reserve(traces.len()).is_err() {
+        return Err(OfferAllFault { recording });
+    }
     let width = if every == 0 {
         0
     } else {

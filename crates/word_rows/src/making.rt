@@ -37,6 +37,18 @@ impl RowMaker {
         }
     }
 
+    /// Begins with the row that clears nothing, and takes the memory for so many entries at once. The
+    /// only error is that memory ran out.
+    pub fn with_room(alloc: Global, entries: usize) -> Result<RowMaker, AllocError>
+        ensures { IfOk result (λ maker. maker ≡ record { word = 0; mask = 0 } ∷ []) }
+    {
+        Ok(RowMaker {
+            finished: Vec::with_capacity(alloc, entries)?,
+            word: 0,
+            mask: 0,
+        })
+    }
+
     /// Clears this bit of this word too, no later word having been begun. The only error is that
     /// memory ran out.
     #[tactic(auto, using(crate::proofs::MakerLemmas::one_bit_adds))]

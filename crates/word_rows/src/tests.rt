@@ -100,6 +100,35 @@ fn a_row_is_made_bit_by_bit(rt: HostRuntime) -> Result<(), Fail> {
     Ok(())
 }
 
+/// Clears the bits of a mask of this word, which is no less than the last one.
+fn mask_from(maker: &mut RowMaker, last: u32, word: u32, mask: u64) -> Result<(), AllocError>
+    requires no_later { IsTrue (below (last + 1) maker.old) }
+    requires word { last ≤ word }
+    ensures { OnOk result (IsTrue (below (word + 1) maker.new)) }
+{
+    below_wider();
+    maker.clear_mask(word, mask)
+}
+
+#[test]
+fn a_row_is_made_mask_by_mask(rt: HostRuntime) -> Result<(), Fail> {
+    let mut maker = RowMaker::with_room(rt.alloc(), 2)?;
+    mask_from(&mut maker, 0, 0, 2)?;
+    mask_from(&mut maker, 0, 0, 8)?;
+    mask_from(&mut maker, 0, 5, 0)?;
+    mask_from(&mut maker, 5, 7, 0x8000_0000_0000_0001)?;
+    let row = maker.finish()?;
+    let entries = [
+        Entry { word: 0, mask: 10 },
+        Entry {
+            word: 7,
+            mask: 0x8000_0000_0000_0001,
+        },
+    ];
+    assert_eq!(rt; row.entries(), entries.as_slice());
+    Ok(())
+}
+
 #[test]
 fn a_sheet_is_filled_and_widened(rt: HostRuntime) -> Result<(), Fail> {
     let mut sheet = Sheet::of(Vec::from_array(rt.alloc(), [10, 0])?);

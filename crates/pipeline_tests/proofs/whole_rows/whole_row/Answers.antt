@@ -14,6 +14,6 @@ returns-clause-exact c =
     let all : List Entry = c.clear_segments.new.maker in
     subst (λ (l : List Entry). ClearsExactly l (λ r. Refutes r t)) (sym c.in_ok-row.ensures)
     (from_nothing all (λ r. Refutes r t) (adds_then blank tasks all (λ r. RefutesTasks r t) (λ r. RefutesNames r t) (λ r. Refutes r t)
-    (subst (λ (l : List Entry). AddsExactly l (λ r. RefutesTasks r t) tasks) c.new-maker.ensures c.in_ok-clear_tasks.ensures.cleared)
+    (subst (λ (l : List Entry). AddsExactly l (λ r. RefutesTasks r t) tasks) c.in_ok-maker.ensures c.in_ok-clear_tasks.ensures.cleared)
     c.in_ok-clear_segments.ensures.cleared
     (λ r v f. of_tasks t r f) (λ r v f. of_names t r f) (λ r v f. either_kind t r f)))
