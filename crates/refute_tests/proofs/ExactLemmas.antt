@@ -1,12 +1,11 @@
 -- The pairs that were cleared are the relations that the trace refutes.
-use Rattle.std.proofs.Common.{◌≡◌, ◌≢◌, ℕ, ◌+◌, ◌<◌, ◌≤◌, Bool, true, false, ◌&&◌, ◌||◌, ◌==◌, T, List, length, get_or, take, slice_get, Option, Some, None, unwrap_or, IsPermutation, refl, sym, ap, ◌∙◌, subst, ⊎_elim, ◌⊎◌, inl, inr, [], ◌∷◌, arith}
+use Rattle.std.proofs.Common.{◌≡◌, ◌≢◌, ℕ, ◌<◌, Bool, true, false, ◌&&◌, ◌||◌, ◌==◌, T, List, length, get_or, take, slice_get, Option, Some, None, unwrap_or, IsPermutation, refl, sym, ap, ◌∙◌, subst, ⊎_elim, inl, inr, [], ◌∷◌, arith}
 use Rattle.std.proofs.lemmas.Bool.{cases_order, eqb-true, eq-eqb, or_cases, or_left, or_right, and_parts, and_from, false≢true}
 use Rattle.std.proofs.lemmas.List.{get_or_default, get_or-take, length-take-le}
 use Rattle.std.proofs.lemmas.List.Sorted.{Contains-permutation, IsPermutation-sym}
-use Rattle.std.proofs.lemmas.List.Elements.{Contains-get_or}
 use Rattle.std.proofs.lemmas.List.Folds.{Any-from_list_any, list_any_at}
 use Rattle.std.proofs.lemmas.Nat.Bits.{bit_at-zero}
-use Rattle.std.proofs.lemmas.Option.{get_or_from_slice_get, slice_get_within, slice_get_read}
+use Rattle.std.proofs.lemmas.Option.{get_or_from_slice_get, slice_get_read}
 use Rattle.std.specs.Int.{bit_at}
 use Rattle.std.specs.Int.Signed.{lt_z_yes}
 use Rattle.std.specs.List.{Contains, list_any}
@@ -36,10 +35,10 @@ is_true false h = absurd h
 early_from : (t : NamedTrace) (s u : NamedSegment) → StartsEarly by_number t u s → early t.grace s u ≡ true
 early_from t s u h = is_true (early t.grace s u) h.lt
 
-at_means : (r : Relation) (i b : ℕ) → is_at r i b ≡ true → place_of r ≡ record { word = i; bit = b }
+pub at_means : (r : Relation) (i b : ℕ) → is_at r i b ≡ true → place_of r ≡ record { word = i; bit = b }
 at_means r i b h = let p = and_parts ((place_of r).word == i) ((place_of r).bit == b) h in let w = eqb-true (place_of r).word i p.0 in let e = eqb-true (place_of r).bit b p.1 in λ k. record { word = w k; bit = e k }
 
-at_from : (r : Relation) (i b : ℕ) (q : BitPlace) → q ≡ record { word = i; bit = b } → place_of r ≡ q → is_at r i b ≡ true
+pub at_from : (r : Relation) (i b : ℕ) (q : BitPlace) → q ≡ record { word = i; bit = b } → place_of r ≡ q → is_at r i b ≡ true
 at_from r i b q e f = let g : place_of r ≡ record { word = i; bit = b } = f ∙ e in and_from _ _ (eq-eqb (place_of r).word i (ap (λ (p : BitPlace). p.word) g)) (eq-eqb (place_of r).bit b (ap (λ (p : BitPlace). p.bit) g))
 
 -- ---- what the first segments of a list have
@@ -59,10 +58,50 @@ row_from grace ys x y i b s u l h es eu hit =
     let any = list_any_at (λ v. hits grace v u i b) (take y ys) x s (omega arith) (subst (λ (v : NamedSegment). hits grace v u i b ≡ true) (sym here) hit) in
     ap (λ o. unwrap_or (option_map (λ (t : NamedSegment). list_any (λ s. hits grace s t i b) (take y ys)) o) false) (slice_get_read ys (length ys) y u refl h (sym eu)) ∙ any
 
+module _ (ys : List NamedSegment) (rise : NamesRise ys) where
+  less_at : (x y : ℕ) (s u : NamedSegment) → get_or ys x s ≡ s → get_or ys y u ≡ u → x < y → y < length ys → s.name < u.name
+  less_at x y s u e f l h = let g : get_or ys y s ≡ u = get_or_default ys y s u h ∙ f in let r : (get_or ys x s).name < (get_or ys y s).name = rise x y s l h in
+      let p = ap (λ (v : NamedSegment). v.name) e in let q = ap (λ (v : NamedSegment). v.name) g in omega arith
+
+  same_at : (x y : ℕ) (s u : NamedSegment) → get_or ys x s ≡ s → get_or ys y u ≡ u → y < length ys → x ≡ y → s ≡ u
+  same_at x y s u e f h w = sym e ∙ ap (λ (k : ℕ). get_or ys k s) w ∙ get_or_default ys y s u h ∙ f
+
+  -- two segments of one name are one
+  pub one_of_name : (s u : NamedSegment) → Contains ys s → Contains ys u → s.name ≡ u.name → s ≡ u
+  one_of_name s u x y same = ⊎_elim
+      (λ (e : x.0 ≡ y.0). same_at x.0 y.0 s u x.2 y.2 y.1 e)
+      (⊎_elim
+      (λ (e : x.0 < y.0). absurd (let f = less_at x.0 y.0 s u x.2 y.2 e y.1 in omega arith))
+      (λ (e : y.0 < x.0). absurd (let f = less_at y.0 x.0 u s y.2 x.2 e x.1 in omega arith)))
+      (cases_order x.0 y.0)
+
+  -- what a pair refutes is cleared
+  pub pair_cleared : (grace : ℕ) (s u : NamedSegment) → Contains ys s → Contains ys u → s.name < u.name → (i b : ℕ) → hits grace s u i b ≡ true → all_hits grace ys (length ys) i b ≡ true
+  pair_cleared grace s u x y less i b p = ⊎_elim
+      (λ (e : x.0 ≡ y.0). absurd (let f : s.name ≡ u.name = ap (λ (v : NamedSegment). v.name) (same_at x.0 y.0 s u x.2 y.2 y.1 e) in omega arith))
+      (⊎_elim
+      (λ (e : x.0 < y.0). any_below-from (length ys) (λ z. row_hits grace ys z i b) y.0 y.1 (row_from grace ys x.0 y.0 i b s u e y.1 x.2 y.2 p))
+      (λ (e : y.0 < x.0). absurd (let f = less_at y.0 x.0 u s y.2 x.2 e x.1 in omega arith)))
+      (cases_order x.0 y.0)
+
+  -- what is cleared, a pair refutes
+  pub cleared_pair : (grace i b : ℕ) → all_hits grace ys (length ys) i b ≡ true
+      → (s u : NamedSegment) × Contains ys s × Contains ys u × (s.name < u.name) × (hits grace s u i b ≡ true)
+  cleared_pair grace i b h =
+      let y = any_below-some (length ys) (λ y. row_hits grace ys y i b) h in
+      let u = row_of grace ys y.0 i b y.2 in
+      let s = Any-from_list_any (λ s. hits grace s u.0 i b) (take y.0 ys) u.2 in
+      let ly : y.0 < length ys = y.1 in
+      let long : length (take y.0 ys) ≡ y.0 = length-take-le y.0 ys (omega arith) in
+      let lx : s.0 < y.0 = let q = s.2 in omega arith in
+      let es : get_or ys s.0 s.1 ≡ s.1 = sym (get_or-take y.0 ys s.0 s.1 lx) ∙ s.3 in
+      let eu : get_or ys y.0 u.0 ≡ u.0 = get_or_from_slice_get ys y.0 u.0 u.0 u.1 in
+      (s.1, u.0, (s.0, omega arith, es), (y.0, ly, eu), less_at s.0 y.0 s.1 u.0 es eu lx ly, s.4)
+
 module _ (t : NamedTrace) (ys : List NamedSegment) (perm : IsPermutation t.segments ys) (rise : NamesRise ys) where
   -- ---- a pair that was cleared is refuted
-  there : (k : ℕ) (s : NamedSegment) → k < length ys → get_or ys k s ≡ s → Contains t.segments s
-  there k s l e = Contains-permutation ys t.segments s (IsPermutation-sym t.segments ys perm) (k, l, e)
+  there : (s : NamedSegment) → Contains ys s → Contains t.segments s
+  there s c = Contains-permutation ys t.segments s (IsPermutation-sym t.segments ys perm) c
 
   found : (s u : NamedSegment) (i b : ℕ) → Contains t.segments s → Contains t.segments u → s.name < u.name → hits t.grace s u i b ≡ true → IsPlaceOfSome (λ r. RefutesNames r t) i b
   found s u i b cs cu up hit =
@@ -84,39 +123,14 @@ module _ (t : NamedTrace) (ys : List NamedSegment) (perm : IsPermutation t.segme
       (or_cases _ _ hit)
 
   only : (i b : ℕ) → all_hits t.grace ys (length ys) i b ≡ true → IsPlaceOfSome (λ r. RefutesNames r t) i b
-  only i b h =
-      let y = any_below-some (length ys) (λ y. row_hits t.grace ys y i b) h in
-      let u = row_of t.grace ys y.0 i b y.2 in
-      let s = Any-from_list_any (λ s. hits t.grace s u.0 i b) (take y.0 ys) u.2 in
-      let ly : y.0 < length ys = y.1 in
-      let long : length (take y.0 ys) ≡ y.0 = length-take-le y.0 ys (omega arith) in
-      let lx : s.0 < y.0 = let q = s.2 in omega arith in
-      let es : get_or ys s.0 s.1 ≡ s.1 = sym (get_or-take y.0 ys s.0 s.1 lx) ∙ s.3 in
-      let eu : get_or ys y.0 u.0 ≡ u.0 = get_or_from_slice_get ys y.0 u.0 u.0 u.1 in
-      found s.1 u.0 i b (there s.0 s.1 (omega arith) es) (there y.0 u.0 ly eu) (name_less s.0 y.0 s.1 u.0 es eu lx ly) s.4
-    where
-      name_less : (x y : ℕ) (s u : NamedSegment) → get_or ys x s ≡ s → get_or ys y u ≡ u → x < y → y < length ys → s.name < u.name
-      name_less x y s u e f l h = let g : get_or ys y s ≡ u = get_or_default ys y s u h ∙ f in let r : (get_or ys x s).name < (get_or ys y s).name = rise x y s l h in
-          let p = ap (λ (v : NamedSegment). v.name) e in let q = ap (λ (v : NamedSegment). v.name) g in omega arith
+  only i b h = let p = cleared_pair ys rise t.grace i b h in found p.0 p.1 i b (there p.0 p.2) (there p.1 p.3) p.4 p.5
 
   -- ---- a relation that is refuted was cleared
   stands : (s : NamedSegment) → Contains t.segments s → Contains ys s
   stands s c = Contains-permutation t.segments ys s perm c
 
-  less_at : (x y : ℕ) (s u : NamedSegment) → get_or ys x s ≡ s → get_or ys y u ≡ u → x < y → y < length ys → s.name < u.name
-  less_at x y s u e f l h = let g : get_or ys y s ≡ u = get_or_default ys y s u h ∙ f in let r : (get_or ys x s).name < (get_or ys y s).name = rise x y s l h in
-      let p = ap (λ (v : NamedSegment). v.name) e in let q = ap (λ (v : NamedSegment). v.name) g in omega arith
-
-  same_at : (x y : ℕ) (s u : NamedSegment) → get_or ys x s ≡ s → get_or ys y u ≡ u → y < length ys → x ≡ y → s ≡ u
-  same_at x y s u e f h w = sym e ∙ ap (λ (k : ℕ). get_or ys k s) w ∙ get_or_default ys y s u h ∙ f
-
   pair_hit : (s u : NamedSegment) → Contains t.segments s → Contains t.segments u → s.name < u.name → (i b : ℕ) → hits t.grace s u i b ≡ true → all_hits t.grace ys (length ys) i b ≡ true
-  pair_hit s u cs cu less i b p = let x = stands s cs in let y = stands u cu in ⊎_elim
-      (λ (e : x.0 ≡ y.0). absurd (let f : s.name ≡ u.name = ap (λ (v : NamedSegment). v.name) (same_at x.0 y.0 s u x.2 y.2 y.1 e) in omega arith))
-      (⊎_elim
-      (λ (e : x.0 < y.0). any_below-from (length ys) (λ z. row_hits t.grace ys z i b) y.0 y.1 (row_from t.grace ys x.0 y.0 i b s u e y.1 x.2 y.2 p))
-      (λ (e : y.0 < x.0). absurd (let f = less_at y.0 x.0 u s y.2 x.2 e x.1 in omega arith)))
-      (cases_order x.0 y.0)
+  pair_hit s u cs cu less i b p = pair_cleared ys rise t.grace s u (stands s cs) (stands u cu) less i b p
 
   before_hit : (s u : NamedSegment) → Contains t.segments s → Contains t.segments u → s.name ≢ u.name → StartsEarly by_number t u s → (i b : ℕ) → is_at (Before s.name u.name) i b ≡ true → all_hits t.grace ys (length ys) i b ≡ true
   before_hit s u cs cu apart l i b p = let o = and_from (early t.grace s u) (is_at (Before s.name u.name) i b) (early_from t s u l) p in ⊎_elim

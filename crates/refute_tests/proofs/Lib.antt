@@ -3,4 +3,11 @@ pub mod MaskLemmas
 pub mod TimeLemmas
 pub mod StepLemmas
 pub mod ExactLemmas
+pub mod MarkLemmas
+pub mod RowLemmas
+pub mod WordLemmas
+pub mod ClearedLemmas
+pub mod TableLemmas
+pub mod OrderLemmas
+pub mod EarlyLemmas
 pub mod TestLemmas

@@ -98,7 +98,7 @@ module _ (low high : ℕ) (rises : low < high) where
   pub upward : place_of (Before low high) ≡ place_in 126 low high 0
   upward = cond-true (nat_lt low high) (place_in 126 low high 0) (place_in 126 high low 1) (lt-ltb low high rises)
 
-  downward : place_of (Before high low) ≡ place_in 126 low high 1
+  pub downward : place_of (Before high low) ≡ place_in 126 low high 1
   downward = cond-false (nat_lt high low) (place_in 126 high low 0) (place_in 126 low high 1) (le-ltb high low (omega arith))
 
   mask_bits : (f g : Bool) (i b : ℕ) → ((word_of low high == i) && (bit_at (kinds_of f g * 2 ^ (first_bit + 0) % 2 ^ 64) b == 1))
@@ -132,7 +132,7 @@ slot_of low high rises place is =
     let bit : place.bit ≡ 4 * (pair_number low high % 16) + 0 = ap (λ (p : BitPlace). p.bit) at in
     omega arith
 
-pairs_below-512 : pairs_below 512 ≡ 130816
+pub pairs_below-512 : pairs_below 512 ≡ 130816
 unfolding pairs_below
 pairs_below-512 = refl
 
@@ -141,7 +141,7 @@ slots_end follow high small = let most = follow high 512 small in omega (arith, 
 
 -- ---- masks of one word
 -- a bit of two masks together
-either_bit : (mask more b : ℕ) → (bit_at (bit_or mask more) b == 1) ≡ ((bit_at mask b == 1) || (bit_at more b == 1))
+pub either_bit : (mask more b : ℕ) → (bit_at (bit_or mask more) b == 1) ≡ ((bit_at mask b == 1) || (bit_at more b == 1))
 either_bit mask more b = ap (λ (k : ℕ). k == 1) (bit_at_or mask more b) ∙ by (bit_at mask b) (bit_at more b) (bit_at-lt mask b) (bit_at-lt more b)
   where
     by : (x y : ℕ) → x < 2 → y < 2 → (max x y == 1) ≡ ((x == 1) || (y == 1))

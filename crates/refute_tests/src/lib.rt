@@ -3,11 +3,17 @@
 
 mod clearing;
 mod margins;
+mod marks;
+mod merging;
 mod pairs;
 mod segments;
 mod sorting;
+mod tables;
 #[cfg(test)]
 mod tests;
+#[cfg(test)]
+mod way_tests;
+mod words;
 
 pub use clearing::{clear_if, starts_early};
 pub use segments::{clear_segments, segment_row};

@@ -11,6 +11,7 @@ ghost use Rattle.word_rows.specs.Rows.{below, clears};
 use crate::margins::{end_limit, start_limit};
 use crate::pairs::{pair_kinds, row_slot, turn_to};
 use crate::sorting::by_name;
+use crate::words::clear_by_words;
 use hypothesis_index::laws::pairs_follow;
 use std::alloc::{AllocError, Global};
 use trace_types::{NamedSegment, NamedTrace};
@@ -54,9 +55,13 @@ fn clear_below(
     Ok(())
 }
 
-/// Clears what each segment refutes with those before it. In the row so far only words of tasks were
-/// begun.
-fn clear_rows(maker: &mut RowMaker, grace: u64, segments: &[NamedSegment]) -> Result<(), AllocError>
+/// Clears what each segment refutes with those before it, pair by pair. In the row so far only
+/// words of tasks were begun.
+pub(crate) fn clear_by_pairs(
+    maker: &mut RowMaker,
+    grace: u64,
+    segments: &[NamedSegment],
+) -> Result<(), AllocError>
     requires rising { NamesRise segments.now }
     requires tasks_alone { IsTrue (below 126 maker.old) }
     ensures cleared { OnOk result ((i b : ℕ) → clears maker.new i b
@@ -73,6 +78,37 @@ fn clear_rows(maker: &mut RowMaker, grace: u64, segments: &[NamedSegment]) -> Re
     Ok(())
 }
 
+/// Whether there are so many segments, and so few names between theirs, that sixteen pairs at a
+/// time are faster than one.
+fn are_dense(segments: &[NamedSegment]) -> bool {
+    match segments.last() {
+        Some(last) => segments.len() >= 96 && last.name as usize / 3 < segments.len(),
+        None => false,
+    }
+}
+
+/// Clears what each segment refutes with those before it. In the row so far only words of tasks
+/// were begun.
+fn clear_rows(
+    alloc: Global,
+    maker: &mut RowMaker,
+    grace: u64,
+    segments: &[NamedSegment],
+) -> Result<(), AllocError>
+    requires rising { NamesRise segments.now }
+    requires tasks_alone { IsTrue (below 126 maker.old) }
+    ensures cleared { OnOk result ((i b : ℕ) → clears maker.new i b
+        ≡ (clears maker.old i b || all_hits grace segments.now (length segments.now) i b)) }
+    ensures fits { OnOk result ((n : ℕ) → All (λ (s : NamedSegment). s.name < n) segments.now
+        → IsTrue (below (width_of n) maker.new)) }
+{
+    if are_dense(segments) {
+        clear_by_words(alloc, maker, grace, segments)
+    } else {
+        clear_by_pairs(maker, grace, segments)
+    }
+}
+
 /// Clears the places of exactly those relations between names that the trace refutes. In the row so
 /// far only words of tasks were begun. The only error is that memory ran out.
 pub fn clear_segments(
@@ -86,7 +122,7 @@ pub fn clear_segments(
         → IsTrue (below (width_of names) maker.new)) }
 {
     let segments = by_name(alloc, trace)?;
-    clear_rows(maker, trace.grace, segments.as_slice())?;
+    clear_rows(alloc, maker, trace.grace, segments.as_slice())?;
     Ok(())
 }
 

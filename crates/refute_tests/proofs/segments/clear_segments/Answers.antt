@@ -1,4 +1,4 @@
-use Rattle.std.proofs.Common.{◌≡◌, ◌<◌, ℕ, true, Bool, ◌||◌, length, List, All, ◌∙◌, ap, sym, subst}
+use Rattle.std.proofs.Common.{◌<◌, ◌||◌, length, List, All, ◌∙◌, ap, sym, subst}
 use Rattle.std.proofs.lemmas.List.Sorted.{All-permutation}
 use Rattle.refute_tests.proofs.ExactLemmas.{exact}
 use Rattle.refute_tests.specs.inner.Hits.{NamesRise, all_hits}

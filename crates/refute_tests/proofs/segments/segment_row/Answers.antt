@@ -1,4 +1,4 @@
-use Rattle.std.proofs.Common.{◌≡◌, ◌∷◌, [], List, true, sym, subst}
+use Rattle.std.proofs.Common.{◌≡◌, List, true, sym, subst}
 use Rattle.hypothesis_index.specs.Places.{width_of}
 use Rattle.hypothesis_index.specs.Refuting.{RefutesNames}
 use Rattle.refute_tests.proofs.ExactLemmas.{from_nothing}

@@ -1,4 +1,4 @@
-use Rattle.std.proofs.Common.{rules, ◌<◌, IsPermutation}
+use Rattle.std.proofs.Common.{rules, IsPermutation}
 use Rattle.std.proofs.lemmas.List.Sorted.{IsNonDecreasingBy-from_sort_by_key}
 use Rattle.trace_types.specs.declared.named_segment.NamedSegment.{NamedSegment}
 use Rattle.refute_tests.proofs.NameLemmas.{names_rise}

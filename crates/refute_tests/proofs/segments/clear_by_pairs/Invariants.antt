@@ -3,7 +3,7 @@ use Rattle.hypothesis_index.specs.Places.{width_of}
 use Rattle.refute_tests.specs.inner.Hits.{row_start, all_hits}
 use Rattle.trace_types.specs.declared.named_segment.NamedSegment.{NamedSegment}
 use Rattle.word_rows.specs.Rows.{below, clears}
-use Rattle.refute_tests.proofs.segments.clear_rows.Given as goal
+use Rattle.refute_tests.proofs.segments.clear_by_pairs.Given as goal
 
 abbrev pub invariant-loop-index : goal.invariant-loop-index
 invariant-loop-index l = record {

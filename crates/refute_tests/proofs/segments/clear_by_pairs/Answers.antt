@@ -1,4 +1,4 @@
-use Rattle.std.proofs.Common.{◌≡◌, ◌+◌, ◌<◌, ℕ, true, false, Bool, ◌||◌, length, List, get_or, take, All, ◌∙◌, ap, sym, subst, arith}
+use Rattle.std.proofs.Common.{◌≡◌, ◌+◌, ◌<◌, ℕ, true, ◌||◌, length, List, get_or, All, ◌∙◌, ap, sym, subst, arith}
 use Rattle.std.proofs.lemmas.List.{get_or_default}
 use Rattle.std.specs.List.{list_any}
 use Rattle.hypothesis_index.specs.Places.{width_of}
@@ -7,7 +7,7 @@ use Rattle.refute_tests.proofs.StepLemmas.{more_rows, next_row, or-false}
 use Rattle.refute_tests.specs.inner.Hits.{NamesRise, hits, row_start, all_hits}
 use Rattle.trace_types.specs.declared.named_segment.NamedSegment.{NamedSegment}
 use Rattle.word_rows.specs.Rows.{below, clears}
-use Rattle.refute_tests.proofs.segments.clear_rows.Goals as goal
+use Rattle.refute_tests.proofs.segments.clear_by_pairs.Goals as goal
 
 pub loop-index-init : goal.loop-index-init
 loop-index-init c = record {
