@@ -1,5 +1,6 @@
 pub mod UniqueLemmas
 pub mod SearchLemmas
+pub mod AddedLemmas
 pub mod PlaceLemmas
 pub mod FirstEventLemmas
 pub mod MessageLemmas
@@ -9,3 +10,4 @@ pub mod DelayLemmas
 pub mod VisitLemmas
 pub mod ParentLemmas
 pub mod StartLemmas
+pub mod ChainLemmas

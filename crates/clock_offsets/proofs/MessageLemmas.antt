@@ -1,7 +1,6 @@
 -- The messages that events receive, event by event, and their delays.
 use Rattle.std.proofs.Common.{◌≡◌, ℕ, ◌+◌, ◌<◌, ◌≤◌, ℤ, pos, ◌-ℤ◌, Some, None, List, [], length, get_or, arith, sym, subst, ap, ◌∙◌, ⊎_elim, inl, inr, ◌⊎◌}
-use Rattle.std.specs.Borrow.{Bor}
-use Rattle.std.specs.BTreeMap.{BTreeMap}
+use Rattle.clock_offsets.specs.TextPlaces.{TextPlace}
 use Rattle.std.proofs.lemmas.Bool.{cases_lt}
 use Rattle.std.proofs.lemmas.List.{get_or-map, get_or_default}
 use Rattle.trace_types.specs.declared.event.Event.{Event}
@@ -96,18 +95,18 @@ delay_push events numbers n v w d e x a here g num_v num_w = delay_cases events 
     ))
 
 -- the place that a map of senders has for a text is that of an event that sends it
-pub sent_by : (events : List Event) (senders : BTreeMap (Bor (List ℕ)) ℕ) (text : List ℕ) (place : ℕ) → AreIndices (sends_of events) (length events) senders → index_in senders text ≡ Some place
+pub sent_by : (events : List Event) (senders : List TextPlace) (text : List ℕ) (place : ℕ) → AreIndices (sends_of events) (length events) senders → index_in senders text ≡ Some place
     → (place < length events) × ((e : Event) → e ≡ get_or events place e → e.send ≡ Some text)
 sent_by events senders text place a found =
     let r = a.right text place found in
     (r.0, λ e is. ap (λ (x : Event). x.send) is ∙ (sym (get_or-map (λ (x : Event). x.send) events place e None r.0) ∙ r.1))
 
 -- and each event that sends it stands at that place
-pub sender_found : (events : List Event) (senders : BTreeMap (Bor (List ℕ)) ℕ) (text : List ℕ) (k : ℕ) (s : Event) → AreIndices (sends_of events) (length events) senders → IsEventAt events k s → s.send ≡ Some text → index_in senders text ≡ Some k
+pub sender_found : (events : List Event) (senders : List TextPlace) (text : List ℕ) (k : ℕ) (s : Event) → AreIndices (sends_of events) (length events) senders → IsEventAt events k s → s.send ≡ Some text → index_in senders text ≡ Some k
 sender_found events senders text k s a (l, is) sends = a.all text k l (get_or-map (λ (x : Event). x.send) events k s None l ∙ (ap (λ (x : Event). x.send) is ∙ sends))
 
 -- a sender of what an event receives is found by that text
-pub message_found : (events : List Event) (senders : BTreeMap (Bor (List ℕ)) ℕ) (text : List ℕ) (k : ℕ) (s r : Event) → AreIndices (sends_of events) (length events) senders → r.recv ≡ Some text → IsEventAt events k s → IsMessage s r → index_in senders text ≡ Some k
+pub message_found : (events : List Event) (senders : List TextPlace) (text : List ℕ) (k : ℕ) (s r : Event) → AreIndices (sends_of events) (length events) senders → r.recv ≡ Some text → IsEventAt events k s → IsMessage s r → index_in senders text ≡ Some k
 message_found events senders text k s r a receives at_s (t, sends, received, apart) =
     let same : Some t ≡ Some text = sym received ∙ receives in
     sender_found events senders text k s a at_s (sends ∙ same)

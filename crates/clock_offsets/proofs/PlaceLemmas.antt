@@ -1,7 +1,6 @@
 -- A map from texts to places, filled event by event.
 use Rattle.std.proofs.Common.{◌≡◌, ℕ, ◌+◌, ◌<◌, ◌≤◌, Bool, true, false, cond, Option, Some, None, is_some, List, length, get_or, arith, refl, sym, subst, ap, ◌∙◌, ⊎_elim}
-use Rattle.std.specs.Borrow.{Bor}
-use Rattle.std.specs.BTreeMap.{BTreeMap}
+use Rattle.clock_offsets.specs.TextPlaces.{TextPlace, places_with}
 use Rattle.std.specs.Str.{bytes_eq}
 use Rattle.std.proofs.lemmas.Bool.{cases_lt}
 use Rattle.std.proofs.lemmas.List.{get_or-map, length-map}
@@ -13,6 +12,7 @@ use Rattle.clock_offsets.specs.declared.places.End.{End}
 use Rattle.clock_offsets.specs.declared.places.End.TheVariants.{Sending, Receipt}
 use Rattle.clock_offsets.specs.Faults.{IsClockFault}
 use Rattle.clock_offsets.specs.inner.Places.{message_at, messages_at, index_in, AreIndices, IsRepeatAt}
+use Rattle.clock_offsets.proofs.AddedLemmas.{added_seen, added_new}
 use Rattle.trace_types.specs.Repeats.{IsRepeated, IsFirstRepeat, AreDistinct}
 
 -- each event has a message or none
@@ -26,7 +26,7 @@ message_read Sending events n e l is = get_or-map (λ (x : Event). x.send) event
 message_read Receipt events n e l is = get_or-map (λ (x : Event). x.recv) events n e None l ∙ ap (λ (x : Event). x.recv) (sym is)
 
 -- one key more, where the event has none
-pub places_skip : (keys : List (Option (List ℕ))) (n : ℕ) (m : BTreeMap (Bor (List ℕ)) ℕ) → AreIndices keys n m → get_or keys n None ≡ None → AreIndices keys (n + 1) m
+pub places_skip : (keys : List (Option (List ℕ))) (n : ℕ) (m : List TextPlace) → AreIndices keys n m → get_or keys n None ≡ None → AreIndices keys (n + 1) m
 places_skip keys n m a none = record {
   right = λ text p h. let r = a.right text p h in let lt : p < n = r.0 in (omega arith, r.1);
   all = λ text p lt h. ⊎_elim
@@ -36,7 +36,7 @@ places_skip keys n m a none = record {
 }
 
 -- one key more, where the map got its place
-pub places_put : (keys : List (Option (List ℕ))) (n : ℕ) (t : List ℕ) (m w : BTreeMap (Bor (List ℕ)) ℕ) → AreIndices keys n m → get_or keys n None ≡ Some t → index_in m t ≡ None
+pub places_put : (keys : List (Option (List ℕ))) (n : ℕ) (t : List ℕ) (m w : List TextPlace) → AreIndices keys n m → get_or keys n None ≡ Some t → index_in m t ≡ None
     → ((q : List ℕ) → index_in w q ≡ cond (bytes_eq t q) (Some n) (index_in m q)) → AreIndices keys (n + 1) w
 places_put keys n t m w a key absent put = record {
   right = λ text p h. right text p (bytes_eq t text) refl (sym (put text) ∙ h);
@@ -65,8 +65,20 @@ places_put keys n t m w a key absent put = record {
         cc
     other text p h false e = h
 
+-- one key more, where the table has its index after it was added
+pub places_added : (keys : List (Option (List ℕ))) (n : ℕ) (t : List ℕ) (m w : List TextPlace) (p : ℕ) → AreIndices keys n m → get_or keys n None ≡ Some t → w ≡ places_with m 0 t n → index_in w t ≡ Some p → p ≡ n → AreIndices keys (n + 1) w
+places_added keys n t m w p a key added now same = at (index_in m t) refl
+  where
+    at : (o : Option ℕ) → index_in m t ≡ o → AreIndices keys (n + 1) w
+    at None e = places_put keys n t m w a key e (added_new m w t n added e)
+    at (Some j) e =
+        let kept : index_in w t ≡ Some j = ap (λ ps. index_in ps t) (added_seen m w t n j added e) ∙ e in
+        let old : j ≡ p = cc in
+        let below : j < n = (a.right t j e).0 in
+        absurd (omega arith)
+
 -- a key that the map has already is the first that stands at an earlier place too
-pub first_repeat : (keys : List (Option (List ℕ))) (n : ℕ) (t : List ℕ) (m : BTreeMap (Bor (List ℕ)) ℕ) → AreIndices keys n m → n < length keys → get_or keys n None ≡ Some t → is_some (index_in m t) ≡ true → IsFirstRepeat keys n
+pub first_repeat : (keys : List (Option (List ℕ))) (n : ℕ) (t : List ℕ) (m : List TextPlace) → AreIndices keys n m → n < length keys → get_or keys n None ≡ Some t → is_some (index_in m t) ≡ true → IsFirstRepeat keys n
 first_repeat keys n t m a l key there = (
   at (index_in m t) refl there,
   λ j lt (i, k, before, within, ki, kj).
@@ -81,7 +93,7 @@ first_repeat keys n t m a l key there = (
     at (Some j) e h = let r = a.right t j e in (j, t, r.0, l, r.1, key)
 
 -- where the map has the place of each key, the keys differ
-pub places_distinct : (keys : List (Option (List ℕ))) (m : BTreeMap (Bor (List ℕ)) ℕ) → AreIndices keys (length keys) m → AreDistinct keys
+pub places_distinct : (keys : List (Option (List ℕ))) (m : List TextPlace) → AreIndices keys (length keys) m → AreDistinct keys
 places_distinct keys m a = λ k (j, key, before, within, kj, kk).
     let pj : index_in m key ≡ Some j = a.all key j (omega arith) kj in
     let pk : index_in m key ≡ Some k = a.all key k within kk in
@@ -94,7 +106,7 @@ none_from_is_some None h = refl
 none_from_is_some (Some x) h = cc
 
 -- the messages at an end differ where the map has the index of each
-pub messages_distinct : (end : End) (events : List Event) (m : BTreeMap (Bor (List ℕ)) ℕ) → AreIndices (messages_at end events) (length events) m → AreDistinct (messages_at end events)
+pub messages_distinct : (end : End) (events : List Event) (m : List TextPlace) → AreIndices (messages_at end events) (length events) m → AreDistinct (messages_at end events)
 messages_distinct end events m a = places_distinct (messages_at end events) m (subst (λ (n : ℕ). AreIndices (messages_at end events) n m) (sym (length-messages_at end events)) a)
 
 -- a send that is repeated is the fault of the events

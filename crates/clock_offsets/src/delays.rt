@@ -5,6 +5,7 @@ ghost use Rattle.clock_offsets.specs.inner.Places.{AreIndices};
 ghost use Rattle.clock_offsets.specs.inner.Links.{AreNumbers};
 ghost use Rattle.clock_offsets.specs.inner.Delays.{AreLeastDelays};
 
+use crate::TextPlaces;
 use crate::messages::find_message;
 use std::alloc::{AllocError, Global};
 use std::collections::BTreeMap;
@@ -15,7 +16,7 @@ pub(crate) fn find_least_delays(
     alloc: Global,
     events: &[Event],
     numbers: &[usize],
-    senders: &BTreeMap<&str, usize>,
+    senders: &TextPlaces,
 ) -> Result<BTreeMap<(usize, usize), i64>, AllocError>
     requires numbered { AreNumbers events.now numbers.now }
     requires placed { AreIndices (sends_of events.now) (length events.now) senders.now }

@@ -2,8 +2,8 @@ ghost use Rattle.std.specs.Prelude.{◌≡◌, IfOk};
 ghost use Rattle.clock_offsets.specs.FirstEvents.{AreFirstEvents};
 ghost use Rattle.clock_offsets.specs.inner.Places.{field_of};
 
+use crate::TextPlaces;
 use std::alloc::{AllocError, Global};
-use std::collections::BTreeMap;
 use trace_types::{Event, Text};
 
 /// A text that every event has.
@@ -34,17 +34,11 @@ pub fn find_first_events(
 ) -> Result<Vec<usize>, AllocError>
     ensures { IfOk result (λ firsts. AreFirstEvents field events.now firsts.items) }
 {
-    let mut places: BTreeMap<&str, usize> = BTreeMap::new(alloc);
+    let mut places = TextPlaces::new(alloc, events.len())?;
     let mut firsts = Vec::with_capacity(alloc, events.len())?;
     for (at, event) in events.iter().enumerate() {
         let text = read_field(event, field).as_str();
-        let first = match places.get(text).copied() {
-            Some(place) => place,
-            None => {
-                places.insert(text, at)?;
-                at
-            }
-        };
+        let first = places.find_or_add(0, text, at)?;
         firsts.push(first)?;
     }
     Ok(firsts)

@@ -5,15 +5,15 @@ ghost use Rattle.clock_offsets.specs.inner.Places.{AreIndices};
 ghost use Rattle.clock_offsets.specs.inner.Links.{AreNumbers};
 ghost use Rattle.clock_offsets.specs.inner.Delays.{IsEventAt, HasNoSender, IsReceived};
 
+use crate::TextPlaces;
 use crate::message::Message;
-use std::collections::BTreeMap;
 use trace_types::Event;
 
 /// Finds the message that the event at this index receives from another machine.
 pub(crate) fn find_message(
     events: &[Event],
     numbers: &[usize],
-    senders: &BTreeMap<&str, usize>,
+    senders: &TextPlaces,
     at: usize,
     receiver: &Event,
 ) -> Option<Message>
@@ -25,7 +25,7 @@ pub(crate) fn find_message(
         numbers.now at receiver.now) }
 {
     let text = receiver.recv.as_ref()?;
-    let place = senders.get(text.as_str()).copied()?;
+    let place = senders.find(0, text.as_str())?;
     let sender = &events[place];
     if sender.machine == receiver.machine {
         return None;

@@ -3,9 +3,8 @@ ghost use Rattle.clock_offsets.specs.declared.clock_fault.ClockFault.TheVariants
 ghost use Rattle.clock_offsets.specs.inner.Places.{message_at, messages_at, repeat_at, AreIndices};
 ghost use Rattle.clock_offsets.specs.inner.Places.{IsRepeatAt};
 
-use crate::ClockFault;
+use crate::{ClockFault, TextPlaces};
 use std::alloc::Global;
-use std::collections::BTreeMap;
 use trace_types::{Event, Text};
 
 /// An end of a message: where it is sent, or where it is received.
@@ -35,25 +34,32 @@ fn repeat(end: End, line: u32) -> ClockFault
     }
 }
 
+/// Counts the events that have a message at this end.
+fn count_messages(events: &[Event], end: End) -> usize {
+    events
+        .iter()
+        .filter(|event| read_message(event, end).is_some())
+        .count()
+}
+
 /// Maps each message to the index of the event that has it at this end.
 pub(crate) fn index_messages(
     alloc: Global,
     events: &[Event],
     end: End,
-) -> Result<BTreeMap<&str, usize>, ClockFault>
+) -> Result<TextPlaces<'_>, ClockFault>
     ensures ok { IfOk result (λ m. AreIndices (messages_at end events.now) (length events.now) m) }
     ensures err { IfErr result (λ fault. fault ≢ Memory → IsRepeatAt events.now end fault) }
 {
-    let mut places = BTreeMap::new(alloc);
+    let mut places = TextPlaces::new(alloc, count_messages(events, end))?;
     for (at, event) in events.iter().enumerate() {
         let Some(message) = read_message(event, end) else {
             continue;
         };
-        let text = message.as_str();
-        if places.contains_key(text) {
+        let first = places.find_or_add(0, message.as_str(), at)?;
+        if first != at {
             return Err(repeat(end, event.line));
         }
-        places.insert(text, at)?;
     }
     Ok(places)
 }

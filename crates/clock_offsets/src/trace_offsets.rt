@@ -8,14 +8,13 @@ ghost use Rattle.clock_offsets.specs.inner.Places.{AreIndices};
 ghost use Rattle.clock_offsets.specs.inner.Links.{AreNumbers};
 ghost use Rattle.clock_offsets.specs.inner.Search.{AreMachineOffsets};
 
-use crate::ClockFault;
 use crate::delays::find_least_delays;
 use crate::first_events::{Field, find_first_events};
 use crate::links::link_machines;
 use crate::places::{End, index_messages};
 use crate::search::search_offsets;
+use crate::{ClockFault, TextPlaces};
 use std::alloc::{AllocError, Global};
-use std::collections::BTreeMap;
 use trace_types::{Event, RawTrace};
 
 /// Gives each event the offset of its machine.
@@ -38,7 +37,7 @@ fn spread_to_events(
 
 /// Maps each message to the index of the event that sends it, once it is known that no message is
 /// sent twice or received twice.
-fn index_senders(alloc: Global, events: &[Event]) -> Result<BTreeMap<&str, usize>, ClockFault>
+fn index_senders(alloc: Global, events: &[Event]) -> Result<TextPlaces<'_>, ClockFault>
     ensures ok { IfOk result (λ m. AreIndices (sends_of events.now) (length events.now) m) }
     ensures once { OnOk result (AreMessagesOnce events.now) }
     ensures err { IfErr result (λ fault. fault ≢ Memory → IsClockFault events.now fault) }

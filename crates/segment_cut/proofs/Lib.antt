@@ -1,6 +1,7 @@
 pub mod RepeatLemmas
 pub mod TimeLemmas
 pub mod KeyLemmas
+pub mod LineOrderLemmas
 pub mod PairLemmas
 pub mod CutLemmas
 pub mod SpanLemmas

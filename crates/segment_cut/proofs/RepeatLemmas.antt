@@ -1,15 +1,11 @@
 -- The tasks and names of events, seen event by event.
-use Rattle.std.proofs.Common.{◌≡◌, ℕ, ◌+◌, ◌<◌, ◌≤◌, Bool, true, false, cond, Option, Some, None, List, [], length, get_or, arith, refl, sym, ap, ◌∙◌, ⊎_elim, not}
-use Rattle.std.specs.Borrow.{Bor}
-use Rattle.std.specs.BTreeSet.{BTreeSet, contains_by}
-use Rattle.std.specs.Cmp.Lexicographic.{slice_cmp}
-use Rattle.std.specs.Ordering.{nat_cmp, is_eq, ordering_then}
-use Rattle.std.specs.declared.cmp.Ordering.{Ordering}
-use Rattle.std.specs.declared.cmp.Ordering.TheVariants.{Less, Equal, Greater}
-use Rattle.std.proofs.lemmas.Bool.{cases_lt, false≢true}
-use Rattle.std.proofs.lemmas.Cmp.{nat_cmp_total, nat_list_cmp_total, tied_itself}
+use Rattle.std.proofs.Common.{◌≡◌, ◌≢◌, ℕ, ◌+◌, ◌<◌, ◌≤◌, Bool, true, false, ◌&&◌, eqb, cond, Option, Some, None, is_some, List, [], ◌∷◌, length, get_or, arith, refl, sym, ap, ◌∙◌, ⊎_elim}
+use Rattle.std.specs.Str.{bytes_eq}
+use Rattle.std.specs.Cmp.Derive.{both_true}
+use Rattle.std.proofs.lemmas.Bool.{cases_lt, eqb-true, eq-eqb, false≢true}
 use Rattle.std.proofs.lemmas.List.{get_or-map, length-map}
-use Rattle.std.proofs.lemmas.Map.Lookups.{exact_bytes, exact_unsigned}
+use Rattle.std.proofs.lemmas.Slice.Eq.{bytes_eq-Decides}
+use Rattle.clock_offsets.specs.TextPlaces.{TextPlace, place_in, places_with}
 use Rattle.clock_offsets.specs.FirstEvents.{AreFirstEvents}
 use Rattle.clock_offsets.specs.declared.first_events.Field.TheVariants.{Task}
 use Rattle.trace_types.specs.declared.event.Event.{Event}
@@ -20,39 +16,9 @@ use Rattle.trace_types.specs.Events.{task_at, name_at, named_events}
 pub no_event : Event
 no_event = record { line = 0; request = []; machine = []; task = []; event = []; time = 0; send = None; recv = None }
 
--- a number of a task, and a lent text
-abbrev pub Pair : Type 0
-Pair = ℕ × Bor (List ℕ)
-
--- a number and a text, lent
-abbrev pub lent : ℕ → List ℕ → Pair
-lent t m = (t, record { ref_ptr = (0, 0); now = m })
-
--- the order of a number and a text and of a pair
-abbrev pub pair_cmp : ℕ → List ℕ → Pair → Ordering
-pair_cmp t m p = ordering_then (nat_cmp t p.0) (slice_cmp nat_cmp m p.1.now)
-
--- the set has this number and this text
-abbrev pub has_pair : BTreeSet Pair → ℕ → List ℕ → Bool
-has_pair seen t m = contains_by (pair_cmp t m) seen
-
 -- the number of the task of the event at an index
 abbrev pub first_at : List ℕ → ℕ → ℕ
 first_at firsts k = get_or firsts k 0
-
-then_equal : (o p : Ordering) → is_eq (ordering_then o p) ≡ true → (o ≡ Equal) × (p ≡ Equal)
-then_equal Less p h = absurd (false≢true h)
-then_equal Equal Less h = absurd (false≢true h)
-then_equal Equal Equal h = (refl, refl)
-then_equal Equal Greater h = absurd (false≢true h)
-then_equal Greater p h = absurd (false≢true h)
-
--- pairs that compare equal are equal
-pair_exact : (t u : ℕ) (m n : List ℕ) → is_eq (pair_cmp t m (lent u n)) ≡ true → (t ≡ u) × (m ≡ n)
-pair_exact t u m n h = let e = then_equal (nat_cmp t u) (slice_cmp nat_cmp m n) h in (exact_unsigned t u e.0, exact_bytes m n e.1)
-
-pair_itself : (t : ℕ) (m : List ℕ) → is_eq (pair_cmp t m (lent t m)) ≡ true
-pair_itself t m = rw (tied_itself nat_cmp_total t, tied_itself nat_list_cmp_total m) refl
 
 -- the key of an event
 pub named_at : (events : List Event) (k : ℕ) → k < length events → get_or (named_events events) k None ≡ Some (task_at events k, name_at events k)
@@ -61,12 +27,10 @@ named_at events k lt =
     let name : name_at events k ≡ (get_or events k no_event).event = get_or-map (λ (e : Event). e.event) events k no_event [] lt in
     get_or-map (λ (e : Event). Some (e.task, e.event)) events k no_event None lt ∙ (ap (λ (a : List ℕ). Some (a, (get_or events k no_event).event)) (sym task) ∙ ap (λ (b : List ℕ). Some (task_at events k, b)) (sym name))
 
--- the set has the number of the task and the name of each of the first n events, and no two of them
--- have both alike
-pub record AreSeenTo (events : List Event) (firsts : List ℕ) (n : ℕ) (seen : BTreeSet Pair) : Type 0 where
-  pub right : (t : ℕ) (m : List ℕ) → has_pair seen t m ≡ true → (k : ℕ) × (k < n) × (first_at firsts k ≡ t) × (name_at events k ≡ m)
-  pub all : (k : ℕ) → k < n → has_pair seen (first_at firsts k) (name_at events k) ≡ true
-  pub apart : (k : ℕ) → k < n → IsRepeated (named_events events) k → ⊥
+-- the table has the index of each of the first n events, by the number of its task and its name
+pub record AreSeenTo (events : List Event) (firsts : List ℕ) (n : ℕ) (seen : List TextPlace) : Type 0 where
+  pub right : (t : ℕ) (m : List ℕ) (k : ℕ) → place_in seen t m ≡ Some k → (k < n) × (first_at firsts k ≡ t) × (name_at events k ≡ m)
+  pub all : (k : ℕ) → k < n → place_in seen (first_at firsts k) (name_at events k) ≡ Some k
 
 pair_parts : (a b c d : List ℕ) (o p : Option (List ℕ × List ℕ)) (key : List ℕ × List ℕ) → o ≡ Some (a, b) → p ≡ Some (c, d) → o ≡ Some key → p ≡ Some key → (a ≡ c) × (b ≡ d)
 pair_parts a b c d o p key oa pc ok pk = (ap part_a (sym oa ∙ (both ∙ pc)), ap part_b (sym oa ∙ (both ∙ pc)))
@@ -102,56 +66,94 @@ repeat_of events j k before lk t m = (
   named_at events k lk,
 )
 
--- an event whose task has the number t, with the name m, that was not seen
-pub seen_new : (events : List Event) (firsts : List ℕ) (n t : ℕ) (m : List ℕ) (seen w : BTreeSet Pair) → AreFirstEvents Task events firsts → n < length events → AreSeenTo events firsts n seen
-    → t ≡ first_at firsts n → m ≡ name_at events n → has_pair seen t m ≡ false
-    → ((q : Pair) → has_pair w q.0 q.1.now ≡ cond (is_eq (pair_cmp t m q)) true (has_pair seen q.0 q.1.now)) → AreSeenTo events firsts (n + 1) w
-seen_new events firsts n t m seen w are within s task name absent put = record {
-  right = λ u k h. right u k (is_eq (pair_cmp t m (lent u k))) refl (sym (put (lent u k)) ∙ h);
-  all = λ k lt. ⊎_elim
-      (λ (below : k < n). put (lent (first_at firsts k) (name_at events k)) ∙ kept (is_eq (pair_cmp t m (lent (first_at firsts k) (name_at events k)))) (has_pair seen (first_at firsts k) (name_at events k)) (s.all k below))
-      (λ (above : n ≤ k). let same : n ≡ k = omega arith in
-      ap (λ u. has_pair w u (name_at events k)) (sym (task ∙ ap (first_at firsts) same)) ∙ (ap (λ u. has_pair w t u) (sym (name ∙ ap (name_at events) same)) ∙ (put (lent t m) ∙ ap (λ b. cond b true (has_pair seen t m)) (pair_itself t m))))
-      (cases_lt k n);
-  apart = λ k lt repeat. ⊎_elim
-      (λ (below : k < n). s.apart k below repeat)
-      (λ (above : n ≤ k). let same : k ≡ n = omega arith in
-      let r = repeat_tells events k repeat in
-      let before : r.0 < k = r.1 in
-      let there : has_pair seen (first_at firsts r.0) (name_at events r.0) ≡ true = s.all r.0 (omega arith) in
-      let one : first_at firsts r.0 ≡ first_at firsts k = are.one r.0 k (omega arith) r.2 r.3 in
-      let task_r : first_at firsts r.0 ≡ t = one ∙ (ap (first_at firsts) same ∙ sym task) in
-      let name_r : name_at events r.0 ≡ m = r.4 ∙ (ap (name_at events) same ∙ sym name) in
-      let here : has_pair seen (first_at firsts r.0) (name_at events r.0) ≡ has_pair seen t m = ap (λ u. has_pair seen u (name_at events r.0)) task_r ∙ ap (λ u. has_pair seen t u) name_r in
-      false≢true (sym absent ∙ (sym here ∙ there)))
-      (cases_lt k n);
-}
-  where
-    kept : (b c : Bool) → c ≡ true → cond b true c ≡ true
-    kept true c h = refl
-    kept false c h = h
+-- what two events with both alike have in a table
+alike : (events : List Event) (firsts : List ℕ) (seen : List TextPlace) (j k : ℕ) → AreFirstEvents Task events firsts → j < length events → k < length events → task_at events j ≡ task_at events k → name_at events j ≡ name_at events k
+    → place_in seen (first_at firsts j) (name_at events j) ≡ place_in seen (first_at firsts k) (name_at events k)
+alike events firsts seen j k are lj lk task name = ap (λ u. place_in seen u (name_at events j)) (are.one j k lj lk task) ∙ ap (place_in seen (first_at firsts k)) name
 
-    right : (u : ℕ) (v : List ℕ) (b : Bool) → is_eq (pair_cmp t m (lent u v)) ≡ b → cond b true (has_pair seen u v) ≡ true → (k : ℕ) × (k < n + 1) × (first_at firsts k ≡ u) × (name_at events k ≡ v)
-    right u v true e h = let same = pair_exact t u m v e in (n, omega arith, sym task ∙ same.0, sym name ∙ same.1)
-    right u v false e h = let r = s.right u v h in let lt : r.0 < n = r.1 in (r.0, omega arith, r.2, r.3)
+-- none of the first n events repeats
+seen_apart : (events : List Event) (firsts : List ℕ) (n : ℕ) (seen : List TextPlace) → AreFirstEvents Task events firsts → AreSeenTo events firsts n seen → (k : ℕ) → k < n → IsRepeated (named_events events) k → ⊥
+seen_apart events firsts n seen are s k lt repeat =
+    let r = repeat_tells events k repeat in
+    let before : r.0 < k = r.1 in
+    let lk : k < length events = r.2 in
+    let at_j : place_in seen (first_at firsts r.0) (name_at events r.0) ≡ Some r.0 = s.all r.0 (omega arith) in
+    let at_k : place_in seen (first_at firsts k) (name_at events k) ≡ Some k = s.all k lt in
+    let same : place_in seen (first_at firsts r.0) (name_at events r.0) ≡ place_in seen (first_at firsts k) (name_at events k) = alike events firsts seen r.0 k are (omega arith) lk r.3 r.4 in
+    let e : r.0 ≡ k = cc in
+    absurd (omega arith)
+
+-- a key that the table has not is there from now on
+added : (seen w : List TextPlace) (t : ℕ) (m : List ℕ) (n : ℕ) → w ≡ places_with seen t m n → place_in seen t m ≡ None → (u : ℕ) (v : List ℕ) → place_in w u v ≡ cond (eqb t u && bytes_eq m v) (Some n) (place_in seen u v)
+added seen w t m n is absent u v = ap (λ ps. place_in ps u v) (is ∙ ap (λ o. cond (is_some o) seen (record { group = t; text = m; place = n } ∷ seen)) absent)
+
+-- and one that it has adds nothing
+kept : (seen w : List TextPlace) (t : ℕ) (m : List ℕ) (n j : ℕ) → w ≡ places_with seen t m n → place_in seen t m ≡ Some j → w ≡ seen
+kept seen w t m n j is there = is ∙ ap (λ o. cond (is_some o) seen (record { group = t; text = m; place = n } ∷ seen)) there
+
+itself : (t : ℕ) (m : List ℕ) → (eqb t t && bytes_eq m m) ≡ true
+itself t m = both_true (eq-eqb t t refl) ((bytes_eq-Decides m m).1 refl)
+
+exact : (t u : ℕ) (m v : List ℕ) → (eqb t u && bytes_eq m v) ≡ true → (t ≡ u) × (m ≡ v)
+exact t u m v e = at (eqb t u) refl e
+  where
+    at : (b : Bool) → eqb t u ≡ b → (b && bytes_eq m v) ≡ true → (t ≡ u) × (m ≡ v)
+    at true same h = (eqb-true t u same, (bytes_eq-Decides m v).0 h)
+    at false other h = absurd (false≢true h)
+
+-- an event whose task has the number t, with the name m, that has its own index in the table now
+pub seen_new : (events : List Event) (firsts : List ℕ) (n t : ℕ) (m : List ℕ) (seen w : List TextPlace) (p : ℕ) → AreSeenTo events firsts n seen
+    → t ≡ first_at firsts n → m ≡ name_at events n → w ≡ places_with seen t m n → place_in w t m ≡ Some p → p ≡ n → AreSeenTo events firsts (n + 1) w
+seen_new events firsts n t m seen w p s task name is now own = at (place_in seen t m) refl
+  where
+    right : place_in seen t m ≡ None → (u : ℕ) (v : List ℕ) (k : ℕ) (b : Bool) → (eqb t u && bytes_eq m v) ≡ b → cond b (Some n) (place_in seen u v) ≡ Some k → (k < n + 1) × (first_at firsts k ≡ u) × (name_at events k ≡ v)
+    right absent u v k true e h =
+        let n_is : n ≡ k = cc in
+        let same = exact t u m v e in
+        (omega arith, ap (first_at firsts) (sym n_is) ∙ (sym task ∙ same.0), ap (name_at events) (sym n_is) ∙ (sym name ∙ same.1))
+    right absent u v k false e h = let r = s.right u v k h in let lt : k < n = r.0 in (omega arith, r.1, r.2)
+
+    all : place_in seen t m ≡ None → (k : ℕ) → k < n → (b : Bool) → (eqb t (first_at firsts k) && bytes_eq m (name_at events k)) ≡ b → cond b (Some n) (place_in seen (first_at firsts k) (name_at events k)) ≡ Some k
+    all absent k lt true e =
+        let same = exact t (first_at firsts k) m (name_at events k) e in
+        let there : place_in seen (first_at firsts k) (name_at events k) ≡ Some k = s.all k lt in
+        let none : place_in seen (first_at firsts k) (name_at events k) ≡ None = ap (λ u. place_in seen u (name_at events k)) (sym same.0) ∙ (ap (place_in seen t) (sym same.1) ∙ absent) in
+        cc
+    all absent k lt false e = s.all k lt
+
+    at : (o : Option ℕ) → place_in seen t m ≡ o → AreSeenTo events firsts (n + 1) w
+    at None e = record {
+      right = λ u v k h. right e u v k (eqb t u && bytes_eq m v) refl (sym (added seen w t m n is e u v) ∙ h);
+      all = λ k lt. ⊎_elim
+          (λ (below : k < n). added seen w t m n is e (first_at firsts k) (name_at events k) ∙ all e k below (eqb t (first_at firsts k) && bytes_eq m (name_at events k)) refl)
+          (λ (above : n ≤ k).
+          let same : n ≡ k = omega arith in
+          ap (λ u. place_in w u (name_at events k)) (sym (task ∙ ap (first_at firsts) same)) ∙ (ap (place_in w t) (sym (name ∙ ap (name_at events) same)) ∙ (now ∙ ap Some (own ∙ same))))
+          (cases_lt k n);
+    }
+    at (Some j) e =
+        let below : j < n = (s.right t m j e).0 in
+        let there : place_in w t m ≡ Some j = ap (λ ps. place_in ps t m) (kept seen w t m n j is e) ∙ e in
+        let same : j ≡ p = cc in
+        absurd (omega arith)
 
 -- where all events were seen, no two have both alike
-pub seen_distinct : (events : List Event) (firsts : List ℕ) (n : ℕ) (seen : BTreeSet Pair) → AreSeenTo events firsts n seen → n ≡ length events → AreDistinct (named_events events)
-seen_distinct events firsts n seen s all = λ k repeat. let r = repeat_tells events k repeat in let lk : k < length events = r.2 in s.apart k (omega arith) repeat
+pub seen_distinct : (events : List Event) (firsts : List ℕ) (n : ℕ) (seen : List TextPlace) → AreFirstEvents Task events firsts → AreSeenTo events firsts n seen → n ≡ length events → AreDistinct (named_events events)
+seen_distinct events firsts n seen are s all = λ k repeat. let r = repeat_tells events k repeat in let lk : k < length events = r.2 in seen_apart events firsts n seen are s k (omega arith) repeat
 
--- an event that was seen is the first that repeats
-pub seen_repeat : (events : List Event) (firsts : List ℕ) (n : ℕ) (seen : BTreeSet Pair) → AreFirstEvents Task events firsts → AreSeenTo events firsts n seen → n < length events
-    → has_pair seen (first_at firsts n) (name_at events n) ≡ true → IsFirstRepeat (named_events events) n
-seen_repeat events firsts n seen are s lt there =
-    let old = s.right (first_at firsts n) (name_at events n) there in
-    let before : old.0 < n = old.1 in
-    let task : task_at events old.0 ≡ task_at events n = sym (are.same old.0 (omega arith)) ∙ (ap (task_at events) old.2 ∙ are.same n lt) in
-    (repeat_of events old.0 n old.1 lt task old.3, λ j h. s.apart j h)
-
-pub not_seen : (b c : Bool) → b ≡ not c → b ≡ true → c ≡ false
-not_seen b true e t = absurd (false≢true (sym e ∙ t))
-not_seen b false e t = refl
-
-pub was_seen : (b c : Bool) → b ≡ not c → b ≡ false → c ≡ true
-was_seen b true e t = refl
-was_seen b false e t = absurd (false≢true (sym t ∙ e))
+-- an event that has another's index is the first that repeats
+pub seen_repeat : (events : List Event) (firsts : List ℕ) (n t : ℕ) (m : List ℕ) (seen w : List TextPlace) (p : ℕ) → AreFirstEvents Task events firsts → AreSeenTo events firsts n seen → n < length events
+    → t ≡ first_at firsts n → m ≡ name_at events n → w ≡ places_with seen t m n → place_in w t m ≡ Some p → p ≢ n → IsFirstRepeat (named_events events) n
+seen_repeat events firsts n t m seen w p are s lt task name is now other = (at (place_in seen t m) refl, λ j h. seen_apart events firsts n seen are s j h)
+  where
+    at : (o : Option ℕ) → place_in seen t m ≡ o → IsRepeated (named_events events) n
+    at None e =
+        let new : place_in w t m ≡ Some n = added seen w t m n is e t m ∙ ap (λ b. cond b (Some n) (place_in seen t m)) (itself t m) in
+        let same : p ≡ n = cc in
+        absurd (other same)
+    at (Some j) e =
+        let old = s.right t m j e in
+        let before : j < n = old.0 in
+        let first : first_at firsts j ≡ first_at firsts n = old.1 ∙ task in
+        let same : task_at events j ≡ task_at events n = sym (are.same j (omega arith)) ∙ (ap (task_at events) first ∙ are.same n lt) in
+        repeat_of events j n before lt same (old.2 ∙ name)

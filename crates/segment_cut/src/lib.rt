@@ -4,6 +4,7 @@
 
 mod elements;
 pub mod laws;
+mod line_order;
 mod neighbours;
 mod ordering;
 mod repeats;

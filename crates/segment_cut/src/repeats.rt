@@ -4,8 +4,8 @@ ghost use Rattle.clock_offsets.specs.declared.first_events.Field.TheVariants.{Ta
 ghost use Rattle.trace_types.specs.Events.{named_events};
 ghost use Rattle.trace_types.specs.Repeats.{AreDistinct, IsLineOfRepeat};
 
+use clock_offsets::TextPlaces;
 use std::alloc::{AllocError, Global};
-use std::collections::BTreeSet;
 use trace_types::Event;
 
 /// Finds the first line with the task and the name of an earlier event. The tasks are, for each
@@ -19,10 +19,10 @@ pub(crate) fn find_repeated_event(
     ensures { IfOk result (λ line. MatchOption line (AreDistinct (named_events events.now))
         (IsLineOfRepeat events.now (named_events events.now))) }
 {
-    let mut seen: BTreeSet<(usize, &str)> = BTreeSet::new(alloc);
+    let mut seen = TextPlaces::new(alloc, events.len())?;
     for (at, event) in events.iter().enumerate() {
-        let is_new = seen.insert((tasks[at], event.event.as_str()))?;
-        if !is_new {
+        let first = seen.find_or_add(tasks[at], event.event.as_str(), at)?;
+        if first != at {
             return Ok(Some(event.line));
         }
     }

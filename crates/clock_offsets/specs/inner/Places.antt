@@ -1,15 +1,12 @@
--- Maps from texts to the indices of events.
+-- Tables of texts with the indices of events.
 use Rattle.std.specs.Prelude.{◌≡◌, ℕ, ◌<◌, Option, Some, None, List, slice_index_or}
-use Rattle.std.specs.Borrow.{Bor}
-use Rattle.std.specs.BTreeMap.{BTreeMap, get_by}
-use Rattle.std.specs.Cmp.Lexicographic.{slice_cmp}
-use Rattle.std.specs.Ordering.{nat_cmp}
 use Rattle.trace_types.specs.declared.event.Event.{Event}
 use Rattle.trace_types.specs.Events.{sends_of, receipts_of}
 use Rattle.trace_types.specs.Repeats.{IsLineOfRepeat}
 use Rattle.clock_offsets.specs.declared.clock_fault.ClockFault.{ClockFault}
 use Rattle.clock_offsets.specs.declared.clock_fault.ClockFault.TheVariants.{RepeatedSend}
 use Rattle.clock_offsets.specs.declared.clock_fault.ClockFault.TheVariants.{RepeatedRecv}
+use Rattle.clock_offsets.specs.TextPlaces.{TextPlace, place_in}
 use Rattle.clock_offsets.specs.declared.first_events.Field.{Field}
 use Rattle.clock_offsets.specs.declared.first_events.Field.TheVariants.{Machine, Task}
 use Rattle.clock_offsets.specs.declared.places.End.{End}
@@ -35,13 +32,13 @@ abbrev pub repeat_at : End → ℕ → ClockFault
 repeat_at Sending line = RepeatedSend line
 repeat_at Receipt line = RepeatedRecv line
 
--- the index that a map has for a text
-abbrev pub index_in : BTreeMap (Bor (List ℕ)) ℕ → List ℕ → Option ℕ
-index_in places text = get_by (λ k. slice_cmp nat_cmp text k.now) places
+-- the index that a table has for a text, where all texts are of one group
+abbrev pub index_in : List TextPlace → List ℕ → Option ℕ
+index_in places text = place_in places 0 text
 
--- the map has the indices of the first n keys, which differ
+-- the table has the indices of the first n keys, which differ
 pub record AreIndices (keys : List (Option (List ℕ))) (n : ℕ)
-    (places : BTreeMap (Bor (List ℕ)) ℕ) : Type 0 where
+    (places : List TextPlace) : Type 0 where
   pub right : (text : List ℕ) (p : ℕ) → index_in places text ≡ Some p → (p < n)
       × (slice_index_or keys p None ≡ Some text)
   pub all : (text : List ℕ) (p : ℕ) → p < n → slice_index_or keys p None ≡ Some text
