@@ -16,15 +16,10 @@ use Rattle.batch_sheets.specs.declared.judging.JudgedTraces.{JudgedTraces}
 use Rattle.session_rules.specs.Batches.{IsJudged, AreJudged, valid_in, valid_of, refused_of}
 use Rattle.batch_sheets.specs.inner.Judging.{AreJudgedSoFar, Judges}
 use Rattle.batch_sheets.specs.Named.{HasFewSegments}
+use Rattle.batch_sheets.proofs.ZipLemmas.{zip_more}
 
 pub judged_none : AreJudged [] [] []
 judged_none = record { verdicts = []; each = tt; valid_are = refl; refused_are = refl }
-
-zip_more : {A B : Type 0} (R : A → B → Type 0) (xs : List A) (ys : List B) (x : A) (y : B) → AllZip R xs ys → R x y → AllZip R (xs ++ x ∷ []) (ys ++ y ∷ [])
-zip_more R [] [] x y h r = (r, tt)
-zip_more R [] (b ∷ ys) x y h r = absurd h
-zip_more R (a ∷ xs) [] x y h r = absurd h
-zip_more R (a ∷ xs) (b ∷ ys) x y h r = (h.0, zip_more R xs ys x y h.1 r)
 
 refused_more : (raws : List PlainTrace) (verdicts : List (Result Trace TraceFault)) (raw : PlainTrace) (verdict : Result Trace TraceFault) → AllZip IsJudged raws verdicts
     → refused_of (raws ++ raw ∷ []) (verdicts ++ verdict ∷ []) ≡ refused_of raws verdicts ++ refused_of (raw ∷ []) (verdict ∷ [])

@@ -1,4 +1,8 @@
 mod DayLemmas
+mod FirstLemmas
+mod GrowthLemmas
 mod JudgeLemmas
 mod NameLemmas
 mod RecordLemmas
+mod TriedLemmas
+mod ZipLemmas

@@ -1,25 +1,24 @@
--- Traces that are named and given their grace.
-use Rattle.std.proofs.Common.{◌≡◌, ℕ, List, [], ◌∷◌, ◌++◌, length, map, Result, Ok, Err, IfOk, sym, ◌∙◌, subst}
-use Rattle.std.specs.Prelude.{All, MatchResult, Contains}
-use Rattle.std.specs.List.{AllZip, enumerate_from}
-use Rattle.std.specs.declared.vec.Vec.{Vec}
-use Rattle.std.proofs.lemmas.List.Elements.{All-cons, All-nil}
-use Rattle.refute_tests.specs.Clearing.{HaveNamesBelow}
+-- A trace that is named and given its grace, and one whose names are all known.
+use Rattle.std.proofs.Common.{◌≡◌, ℕ, zero, suc, ◌≤◌, inl, inr, Bool, true, false, not, ◌+◌, Option, Some, None, List, [], ◌∷◌, ◌++◌, length, map, filter, Contains, sym, ap, ◌∙◌, arith}
+use Rattle.std.proofs.lemmas.Bool.{cases_Bool, cases_lt, cond-true, cond-false, lt-ltb, false≢true, not_from_true, not_from_false}
+use Rattle.std.proofs.lemmas.List.Elements.{Contains-append_right}
+use Rattle.std.specs.Prelude.{position, slice_get, nat_lt}
+use Rattle.std.specs.List.{enumerate_from, position_or_len}
+use Rattle.std.specs.Option.{option_map_or}
 use Rattle.trace_types.specs.declared.named_trace.NamedTrace.{NamedTrace}
+use Rattle.trace_types.specs.declared.segment.Segment.{Segment}
 use Rattle.trace_types.specs.declared.trace.Trace.{Trace}
+use Rattle.trace_types.specs.Firsts.{firsts_of}
 use Rattle.trace_types.specs.Parts.{by_number, by_text}
 use Rattle.trace_types.specs.Renaming.{IsSegmentRenamed}
-use Rattle.segment_names.specs.Known.{Known}
+use Rattle.trace_types.specs.Segments.{SegmentName, name_of}
+use Rattle.segment_names.specs.Known.{Known, same_name, with_segments}
 use Rattle.segment_names.specs.Naming.{IsNamed}
 use Rattle.session_rules.specs.KeptTraces.{by_kept, kept_with}
-use Rattle.kept_books.specs.Shown.{AreShown, IsShown}
-use Rattle.batch_sheets.specs.inner.NamedOnes.{IsNamedAs}
-
-zip_weaker : {X Y : Type 0} (R Q : X → Y → Type 0) → ((x : X) (y : Y) → R x y → Q x y) → (xs : List X) (ys : List Y) → AllZip R xs ys → AllZip Q xs ys
-zip_weaker R Q weaker [] [] z = z
-zip_weaker R Q weaker [] (y ∷ ys) z = absurd z
-zip_weaker R Q weaker (x ∷ xs) [] z = absurd z
-zip_weaker R Q weaker (x ∷ xs) (y ∷ ys) z = (weaker x y z.0, zip_weaker R Q weaker xs ys z.1)
+use Rattle.kept_books.specs.Shown.{IsShown}
+use Rattle.batch_sheets.specs.Named.{IsKnownTrace}
+use Rattle.batch_sheets.proofs.GrowthLemmas.{name_means, name_own}
+use Rattle.batch_sheets.proofs.ZipLemmas.{zip_weaker}
 
 -- a named trace with a grace is the trace that is kept with it
 pub graced : (known : Known) (named new : NamedTrace) (trace : Trace) (grace : ℕ) → IsNamed known named trace → named.request ≡ trace.request → named.day ≡ trace.day → named.latency ≡ trace.latency
@@ -37,45 +36,64 @@ graced known named new trace grace h request day latency own new_request new_day
   latency = new_latency ∙ latency;
 }
 
--- ---- many at once
+-- ---- names that are known
 
--- each result is a value, and the values are as asked
-values_of : (E : Type 0) {X Y : Type 0} (R : X → Y → Type 0) (xs : List X) (ys : List Y) → AllZip (λ x (y : Result Y E). IfOk y (R x)) xs (map Ok ys) → AllZip R xs ys
-values_of E R [] [] all = all
-values_of E R [] (y ∷ ys) all = all
-values_of E R (x ∷ xs) [] all = all
-values_of E R (x ∷ xs) (y ∷ ys) all = (all.0, values_of E R xs ys all.1)
+-- a test that has no position in a list fails at all its items
+all_fail : {X : Type 0} (p : X → Bool) (xs : List X) → length xs ≤ position_or_len p xs → (x : X) → Contains xs x → p x ≡ false
+all_fail p [] m x (k, l, e) = absurd (omega (arith, l))
+all_fail p (y ∷ ys) m x (zero, l, e) = elim (cases_Bool (p y)) [
+  | inl good ↦ absurd (let n : position_or_len p (y ∷ ys) ≡ 0 = cond-false (not (p y)) _ _ (not_from_true (p y) good) in omega (arith, m, n))
+  | inr bad ↦ ap p (sym e) ∙ bad
+]
+all_fail p (y ∷ ys) m x (suc k, l, e) = elim (cases_Bool (p y)) [
+  | inl good ↦ absurd (let n : position_or_len p (y ∷ ys) ≡ 0 = cond-false (not (p y)) _ _ (not_from_true (p y) good) in omega (arith, m, n))
+  | inr bad ↦
+      let n : position_or_len p (y ∷ ys) ≡ 1 + position_or_len p ys = cond-true (not (p y)) _ _ (not_from_false (p y) bad) in
+      all_fail p ys (omega (arith, m, n)) x (k, omega (arith, l), e)
+]
 
--- the collected values are as asked, where there is no error
-pub collected : {X Y Z E : Type 0} (R : X → Y → Type 0) (xs : List X) (results : List (Result Y E)) (r : Result (Vec Y Z) E) → AllZip (λ x y. IfOk y (R x)) xs results
-    → MatchResult r (λ v. (ys : List Y) × (results ≡ map Ok ys) × (v.items ≡ ys)) (λ e. Contains results (Err e)) → IfOk r (λ v. AllZip R xs v.items)
-collected {X} {Y} {Z} {E} R xs results (Ok v) all (ys, are, is) =
-    subst (AllZip R xs) (sym is) (values_of E R xs ys (subst (λ (l : List (Result Y E)). AllZip (λ x y. IfOk y (R x)) xs l) are all))
-collected R xs results (Err e) all found = tt
+no_position : {X : Type 0} (p : X → Bool) (xs : List X) → position p xs ≡ None → length xs ≤ position_or_len p xs
+no_position p xs none = elim (cases_lt (position_or_len p xs) (length xs)) [
+  | inl low ↦ absurd (let found : position p xs ≡ Some (position_or_len p xs) = cond-true (nat_lt (position_or_len p xs) (length xs)) _ _ (lt-ltb _ _ low) in let s : None ≡ Some (position_or_len p xs) = sym none ∙ found in cc)
+  | inr past ↦ past
+]
 
-all_shown : (known : Known) (grace : ℕ) (traces : List Trace) (named : List NamedTrace) → AllZip (IsNamedAs known grace) traces named → AreShown known named (map (kept_with grace) traces)
-all_shown known grace [] [] h = tt
-all_shown known grace [] (n ∷ named) h = absurd h
-all_shown known grace (t ∷ traces) [] h = absurd h
-all_shown known grace (t ∷ traces) (n ∷ named) h = (h.0.shown, all_shown known grace traces named h.1)
+none_found : {X : Type 0} (p : X → Bool) (xs : List X) → position p xs ≡ None → (x : X) → Contains xs x → p x ≡ true → ⊥
+none_found p xs none x c t = false≢true (sym (all_fail p xs (no_position p xs none) x c) ∙ t)
 
-all_below : (known : Known) (grace : ℕ) (traces : List Trace) (named : List NamedTrace) → AllZip (IsNamedAs known grace) traces named → All (HaveNamesBelow (length known.names)) named
-all_below known grace [] [] h = All-nil (HaveNamesBelow (length known.names))
-all_below known grace [] (n ∷ named) h = absurd h
-all_below known grace (t ∷ traces) [] h = absurd h
-all_below known grace (t ∷ traces) (n ∷ named) h = All-cons (HaveNamesBelow (length known.names)) n named h.0.below (all_below known grace traces named h.1)
+-- what is noted is there
+module _ {X : Type 0} (same : X → X → Bool) (means : (x y : X) → same x y ≡ true → x ≡ y) where
+  in_firsts : (xs : List X) (x : X) → Contains xs x → Contains (firsts_of same xs) x
+  in_firsts [] x (k, l, e) = absurd (omega (arith, l))
+  in_firsts (y ∷ ys) x (zero, l, e) = (0, omega arith, e)
+  in_firsts (y ∷ ys) x (suc k, l, e) =
+      let rest = in_firsts ys x (k, omega (arith, l), e) in
+      elim (cases_Bool (same y x)) [
+        | inl good ↦ (0, omega arith, means y x good)
+        | inr bad ↦ let c = kept_there (λ z. not (same y z)) (firsts_of same ys) x rest (not_from_false (same y x) bad) in (suc c.0, omega (arith, c.1), c.2)
+      ]
+    where
+      kept_there : (p : X → Bool) (zs : List X) (z : X) → Contains zs z → p z ≡ true → Contains (filter p zs) z
+      kept_there p [] z (j, m, f) t = absurd (omega (arith, m))
+      kept_there p (w ∷ ws) z (zero, m, f) t = rw (cond-true (p w) (w ∷ filter p ws) (filter p ws) (ap p f ∙ t)) (0, omega arith, f)
+      kept_there p (w ∷ ws) z (suc j, m, f) t =
+          let rest = kept_there p ws z (j, omega (arith, m), f) t in
+          elim (cases_Bool (p w)) [
+            | inl good ↦ rw (cond-true (p w) (w ∷ filter p ws) (filter p ws) good) (suc rest.0, omega (arith, rest.1), rest.2)
+            | inr bad ↦ rw (cond-false (p w) (w ∷ filter p ws) (filter p ws) bad) rest
+          ]
 
-pub named_shown : {Z E : Type 0} (known : Known) (grace : ℕ) (traces : List Trace) (r : Result (Vec NamedTrace Z) E) → IfOk r (λ v. AllZip (IsNamedAs known grace) traces v.items) → IfOk r (λ v. AreShown known v.items (map (kept_with grace) traces))
-named_shown known grace traces (Ok v) h = all_shown known grace traces v.items h
-named_shown known grace traces (Err e) h = tt
+some_same : (t s : Segment) → Some t ≡ Some s → t ≡ s
+some_same t s e = ap (λ (o : Option Segment). option_map_or (λ (x : Segment). x) o t) e
 
-pub named_below : {Z E : Type 0} (known : Known) (grace : ℕ) (traces : List Trace) (r : Result (Vec NamedTrace Z) E) → IfOk r (λ v. AllZip (IsNamedAs known grace) traces v.items) → IfOk r (λ v. All (HaveNamesBelow (length known.names)) v.items)
-named_below known grace traces (Ok v) h = all_below known grace traces v.items h
-named_below known grace traces (Err e) h = tt
+name_there : (ss : List Segment) (k : ℕ) (s : Segment) → slice_get ss k ≡ Some s → Contains (map name_of ss) (name_of s)
+name_there [] k s e = absurd (let n : None ≡ Some s = e in cc)
+name_there (t ∷ ts) zero s e = (0, omega arith, ap name_of (some_same t s e))
+name_there (t ∷ ts) (suc k) s e = let c = name_there ts k s e in (suc c.0, omega (arith, c.1), c.2)
 
--- one more of two lists that are in a relation
-pub zip_more : {A B : Type 0} (R : A → B → Type 0) (xs : List A) (ys : List B) (x : A) (y : B) → AllZip R xs ys → R x y → AllZip R (xs ++ x ∷ []) (ys ++ y ∷ [])
-zip_more R [] [] x y h r = (r, tt)
-zip_more R [] (b ∷ ys) x y h r = absurd h
-zip_more R (a ∷ xs) [] x y h r = absurd h
-zip_more R (a ∷ xs) (b ∷ ys) x y h r = (h.0, zip_more R xs ys x y h.1 r)
+-- each name of a trace is known once the trace is added
+pub known_after : (old : Known) (trace : Trace) → IsKnownTrace (with_segments old trace.segments) trace
+known_after old trace k (s, at, none) =
+    let names : List SegmentName = map name_of trace.segments in
+    let there = in_firsts same_name name_means (old.names ++ names) (name_of s) (Contains-append_right old.names names (name_of s) (name_there trace.segments k s at)) in
+    none_found (same_name (name_of s)) (with_segments old trace.segments).names none (name_of s) there (name_own (name_of s))

@@ -1,3 +1,3 @@
 -- What private contracts alone cite.
+pub mod Growth
 pub mod Judging
-pub mod NamedOnes

@@ -7,8 +7,11 @@ mod judging;
 mod naming;
 mod parts;
 mod recording;
+#[cfg(test)]
+mod tests;
+mod tries;
 
 pub use days::{DayTraces, list_days, split_by_day};
 pub use judging::{JudgedTraces, judge_batch};
-pub use naming::name_all;
+pub use naming::name_batch;
 pub use recording::{DayLines, RecordedDays, record_days};

@@ -1,16 +1,14 @@
 -- What is matched with texts of the catalogue is a number of it.
-use Rattle.std.proofs.Common.{◌≡◌, ◌↔◌, ℕ, ◌<◌, List, length, get_or, Option, Some, None, MatchOption, All, Contains, slice_get, refl, subst, sym}
-use Rattle.std.specs.List.{AllZip, enumerate_from}
+use Rattle.std.proofs.Common.{◌≡◌, ◌↔◌, ℕ, List, get_or, Option, Some, None, MatchOption, Contains, slice_get, refl, subst}
+use Rattle.std.specs.List.{enumerate_from}
 use Rattle.std.specs.Option.{IsSomeAnd}
 use Rattle.std.proofs.lemmas.Option.{slice_get-get_or, slice_get_within}
 use Rattle.std.proofs.lemmas.Slice.Zip.{AllZip-left}
 use Rattle.trace_types.specs.declared.named_segment.NamedSegment.{NamedSegment}
 use Rattle.trace_types.specs.declared.named_trace.NamedTrace.{NamedTrace}
-use Rattle.trace_types.specs.declared.segment.Segment.{Segment}
 use Rattle.trace_types.specs.declared.trace.Trace.{Trace}
 use Rattle.trace_types.specs.Parts.{by_number, by_text}
 use Rattle.trace_types.specs.Renaming.{IsSegmentRenamed}
-use Rattle.trace_types.specs.Segments.{SegmentName}
 use Rattle.segment_names.specs.Known.{Known}
 use Rattle.segment_names.specs.Naming.{IsBelow, IsNamed}
 

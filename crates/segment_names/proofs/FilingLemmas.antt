@@ -1,5 +1,5 @@
 -- Tables that are filed stay so as they grow, and a name is found by the indices of its texts.
-use Rattle.std.proofs.Common.{◌≡◌, ◌≢◌, ℕ, ◌+◌, ◌<◌, List, [], ◌∷◌, ◌++◌, length, get_or, map, position, slice_get, Option, Some, None, Bool, true, false, not, ◌&&◌, nat_eq, All, refl, sym, ap, ◌∙◌, subst, ⊎_elim, append-nil, append_assoc, length-append, arith}
+use Rattle.std.proofs.Common.{◌≡◌, ℕ, ◌+◌, ◌<◌, List, [], ◌∷◌, ◌++◌, length, get_or, map, position, slice_get, Some, None, Bool, true, false, ◌&&◌, nat_eq, refl, sym, ap, ◌∙◌, subst, length-append, arith}
 use Rattle.std.proofs.lemmas.Bool.{false_from_ne_true}
 use Rattle.std.proofs.lemmas.List.{map-append, get_or-map, length-map, get_or_append_left}
 use Rattle.std.proofs.lemmas.List.Elements.{All-push}

@@ -1,6 +1,6 @@
 -- The order of first sight, where the test tells equality.
-use Rattle.std.proofs.Common.{◌≡◌, ◌≢◌, ℕ, zero, suc, ◌<◌, List, [], ◌∷◌, ◌++◌, length, get_or, filter, Bool, true, false, not, ◌||◌, cond, if◌then◌else◌, refl, sym, ap, ◌∙◌, subst, true≢false, append-nil, append_assoc, fold, arith}
-use Rattle.std.specs.List.{list_any, AllPairs}
+use Rattle.std.proofs.Common.{◌≡◌, ◌≢◌, ℕ, suc, ◌<◌, List, [], ◌∷◌, ◌++◌, length, get_or, filter, Bool, true, false, not, if◌then◌else◌, refl, sym, ap, ◌∙◌, subst, true≢false, append-nil, arith}
+use Rattle.std.specs.List.{list_any}
 use Rattle.std.proofs.lemmas.List.Elements.{filter-append}
 use Rattle.std.proofs.lemmas.List.Folds.{list_any_at}
 use Rattle.std.proofs.lemmas.List.Quantifiers.{all_pairs_push}
@@ -90,11 +90,3 @@ module _ {X : Type 0} (same : X → X → Bool) (means : (x y : X) → same x y 
   -- one more, after what is known of the first
   pub firsts-step : (xs ys : List X) (x : X) → AreDifferent ys → ys ≡ firsts_of same xs → firsts_of same (ys ++ x ∷ []) ≡ firsts_of same (xs ++ x ∷ [])
   firsts-step xs ys x d e = firsts-push ys x ∙ ap (λ (l : List X). with_key same l x) (firsts-same ys d ∙ e) ∙ sym (firsts-push xs x)
-
-  firsts-fold : (xs ys : List X) → firsts_of same (xs ++ ys) ≡ fold (with_key same) (firsts_of same xs) ys
-  firsts-fold xs [] = ap (firsts_of same) (append-nil xs)
-  firsts-fold xs (y ∷ ys) = ap (firsts_of same) (sym (append_assoc xs (y ∷ []) ys)) ∙ firsts-fold (xs ++ y ∷ []) ys ∙ ap (λ (l : List X). fold (with_key same) l ys) (firsts-push xs y)
-
-  -- more, after what is known of the first
-  pub firsts-more : (xs ys more : List X) → AreDifferent ys → ys ≡ firsts_of same xs → firsts_of same (ys ++ more) ≡ firsts_of same (xs ++ more)
-  firsts-more xs ys more d e = firsts-fold ys more ∙ ap (λ (l : List X). fold (with_key same) l more) (firsts-same ys d ∙ e) ∙ sym (firsts-fold xs more)

@@ -1,7 +1,7 @@
 -- The named trace keeps what the trace keeps, and is the trace renamed.
-use Rattle.std.proofs.Common.{◌≡◌, ◌≢◌, ℕ, zero, suc, ◌+◌, ◌<◌, ◌≤◌, ◌↔◌, List, [], ◌∷◌, length, get_or, slice_get, Option, Some, None, nat_eq, true, Contains, refl, sym, ap, ◌∙◌, subst, arith}
+use Rattle.std.proofs.Common.{◌≡◌, ℕ, suc, ◌+◌, ◌<◌, ◌↔◌, List, [], ◌∷◌, length, get_or, slice_get, Option, Some, None, true, Contains, sym, ap, ◌∙◌, subst, arith}
 use Rattle.std.proofs.lemmas.Bool.{eqb-true}
-use Rattle.std.specs.List.{AllZip, AllAdjacentBelow, enumerate_from}
+use Rattle.std.specs.List.{AllZip, enumerate_from}
 use Rattle.std.specs.Str.{bytes_eq}
 use Rattle.trace_types.specs.declared.named_segment.NamedSegment.{NamedSegment}
 use Rattle.trace_types.specs.declared.segment.Segment.{Segment}
@@ -12,7 +12,7 @@ use Rattle.trace_types.specs.SegmentLists.{NamesDiffer, TasksStandTogether, Join
 use Rattle.trace_types.specs.Segments.{SegmentName, name_of, task_of, start_of, end_of}
 use Rattle.segment_names.specs.Known.{Known}
 use Rattle.segment_names.specs.inner.Filing.{AreDifferent}
-use Rattle.segment_names.specs.inner.Numbering.{AreNumbered, IsElementAt, IsNumbered}
+use Rattle.segment_names.specs.inner.Numbering.{AreNumbered, IsElementAt}
 use Rattle.segment_names.proofs.FindLemmas.{index-means}
 use Rattle.segment_names.proofs.TextLemmas.{text_means, text_own}
 

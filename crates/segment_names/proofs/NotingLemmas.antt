@@ -1,26 +1,20 @@
 -- A segment is noted: its name and its task stand in the tables.
-use Rattle.std.proofs.Common.{◌≡◌, ℕ, zero, suc, ◌<◌, List, [], ◌∷◌, ◌++◌, length, get_or, map, position, slice_get, Option, Some, None, is_some, Bool, true, false, ◌&&◌, nat_eq, refl, sym, ap, ◌∙◌, subst, true≢false, append-nil, append_assoc, take, flat_map, ⊎_elim, ◌⊎◌, inl, inr, IfNone, IfSome, ◌+◌, ◌≤◌, filter, not, cond, arith}
-use Rattle.std.proofs.lemmas.List.{length-append, length-map, map-append, map_more, take_more}
+use Rattle.std.proofs.Common.{◌≡◌, ℕ, suc, ◌<◌, List, [], ◌∷◌, ◌++◌, length, get_or, map, position, Option, Some, None, is_some, Bool, true, false, ◌&&◌, nat_eq, refl, sym, ap, ◌∙◌, subst, true≢false, append-nil, append_assoc, take, IfNone, IfSome, ◌+◌, ◌≤◌, filter, not, arith}
+use Rattle.std.proofs.lemmas.List.{length-append, length-map, map-append, map_more}
 use Rattle.std.proofs.lemmas.List.Folds.{Any-from_list_any, list_any_at}
 use Rattle.std.proofs.lemmas.Option.{get_or_from_slice_get, slice_get_within}
 use Rattle.std.specs.List.{list_any}
 use Rattle.std.specs.Str.{bytes_eq}
 use Rattle.indexmap.specs.IndexMap.{insert_entry}
 use Rattle.trace_types.specs.declared.segment.Segment.{Segment}
-use Rattle.std.proofs.lemmas.Bool.{cases_order}
-use Rattle.std.proofs.lemmas.Grind.{flat_map-append}
-use Rattle.segment_names.specs.declared.name_fault.NameFault.{NameFault}
-use Rattle.segment_names.specs.declared.name_fault.NameFault.TheVariants.{Memory, TooManyNames, TooManyTasks}
-use Rattle.segment_names.specs.Limits.{Fits, HasCause, IsPassed, PassesLimit}
-use Rattle.trace_types.specs.declared.trace.Trace.{Trace}
 use Rattle.trace_types.specs.Firsts.{firsts_of}
 use Rattle.trace_types.specs.Segments.{SegmentName, name_of, task_of}
 use Rattle.segment_names.specs.declared.name_key.NameKey.{NameKey}
-use Rattle.segment_names.specs.Known.{Known, same_name, name_number, with_segments, with_traces}
-use Rattle.segment_names.specs.inner.Filing.{AreDifferent, AreFiled, Filed, Grows, IsFiled, IsFiledAs, known_in, names_of_entries}
+use Rattle.segment_names.specs.Known.{Known, same_name, name_number, with_segments}
+use Rattle.segment_names.specs.inner.Filing.{AreDifferent, Filed, Grows, IsFiled, IsFiledAs, known_in, names_of_entries}
 use Rattle.segment_names.proofs.FilingLemmas.{key_tells}
 use Rattle.segment_names.proofs.FindLemmas.{any-some, any-none}
-use Rattle.segment_names.proofs.FirstLemmas.{firsts-there, firsts-new, firsts-same, firsts-step, firsts-more, none-at}
+use Rattle.segment_names.proofs.FirstLemmas.{firsts-there, firsts-new, firsts-same, firsts-step, none-at}
 use Rattle.segment_names.proofs.TextLemmas.{text_means, text_own, name_means, name_own}
 
 any-map : {E X : Type 0} (f : E → X) (p : X → Bool) (es : List E) → list_any p (map f es) ≡ list_any (λ (e : E). p (f e)) es
@@ -155,49 +149,3 @@ few_known same f xs ys segments n e h =
 pub told : (found : Option (ℕ × ℕ)) (number : Option ℕ) → IfNone found (number ≡ None) → IfSome found (λ r. number ≡ Some r.0) → is_some number ≡ is_some found
 told None number none some = ap is_some none
 told (Some r) number none some = ap is_some some
-
--- ---- traces
-
-pub segments_more : (was known : Known) (segments more : List Segment) → AreDifferent known.names → AreDifferent known.tasks → known ≡ with_segments was segments
-    → with_segments known more ≡ with_segments was (segments ++ more)
-segments_more was known segments more dn dt e =
-    let a = firsts-more same_name name_means name_own (was.names ++ map name_of segments) known.names (map name_of more) dn (ap (λ (q : Known). q.names) e)
-    ∙ ap (firsts_of same_name) (append_assoc was.names (map name_of segments) (map name_of more) ∙ ap (λ (l : List SegmentName). was.names ++ l) (sym (map-append name_of segments more))) in
-    let b = firsts-more bytes_eq text_means text_own (was.tasks ++ map task_of segments) known.tasks (map task_of more) dt (ap (λ (q : Known). q.tasks) e)
-    ∙ ap (firsts_of bytes_eq) (append_assoc was.tasks (map task_of segments) (map task_of more) ∙ ap (λ (l : List (List ℕ)). was.tasks ++ l) (sym (map-append task_of segments more))) in
-    λ j. record { names = a j; tasks = b j }
-
-pub traces_more : (was known : Known) (traces : List Trace) (k : ℕ) (t : Trace) → AreDifferent known.names → AreDifferent known.tasks
-    → known ≡ with_traces was (take k traces) → k < length traces → t ≡ get_or traces k t → with_segments known t.segments ≡ with_traces was (take (k + 1) traces)
-traces_more was known traces k t dn dt e h at =
-    let f : Trace → List Segment = λ (u : Trace). u.segments in
-    let more : flat_map f (take k traces) ++ t.segments ≡ flat_map f (take (k + 1) traces) =
-    ap (λ (l : List Segment). flat_map f (take k traces) ++ l) (ap f at ∙ sym (append-nil (f (get_or traces k t))))
-    ∙ sym (flat_map-append f (take k traces) (get_or traces k t ∷ [])) ∙ ap (flat_map f) (sym (take_more traces k t h)) in
-    segments_more was known (flat_map f (take k traces)) t.segments dn dt e ∙ ap (with_segments was) more
-
--- a limit that is passed by one more trace is passed by the traces
-pub passes_more : (was known : Known) (traces : List Trace) (k : ℕ) (fault : NameFault) → k < length traces
-    → ((j : ℕ) → j ≤ k → Fits (with_traces was (take j traces))) → known ≡ with_traces was (take (k + 1) traces)
-    → HasCause (IsPassed known) fault → HasCause (PassesLimit was traces) fault
-passes_more was known traces k Memory h fits e cause = tt
-passes_more was known traces k (TooManyNames count) h fits e cause = (k, h, fits, subst (λ (q : Known). IsPassed q (TooManyNames count)) e cause)
-passes_more was known traces k (TooManyTasks count) h fits e cause = (k, h, fits, subst (λ (q : Known). IsPassed q (TooManyTasks count)) e cause)
-
--- where every trace fits, no limit is passed
-pub passes_none : (was : Known) (traces : List Trace) → ((j : ℕ) → j ≤ length traces → Fits (with_traces was (take j traces))) → (fault : NameFault) → PassesLimit was traces fault → ⊥
-passes_none was traces fits Memory p = p.3
-passes_none was traces fits (TooManyNames count) p = let h = p.1 in let f = fits (p.0 + 1) (omega arith) in let a = f.0 in let b = p.3.0 in omega arith
-passes_none was traces fits (TooManyTasks count) p = let h = p.1 in let f = fits (p.0 + 1) (omega arith) in let a = f.1 in let b = p.3.1 in omega arith
-
-pub fits_more : (was : Known) (traces : List Trace) (k : ℕ) → ((j : ℕ) → j ≤ k → Fits (with_traces was (take j traces))) → Fits (with_traces was (take (k + 1) traces))
-    → (j : ℕ) → j ≤ k + 1 → Fits (with_traces was (take j traces))
-fits_more was traces k fits next j h = ⊎_elim
-    (λ (l : j < k + 1). fits j (omega arith))
-    (⊎_elim (λ (e : j ≡ k + 1). subst (λ (n : ℕ). Fits (with_traces was (take n traces))) (sym e) next) (λ (l : k + 1 < j). absurd (omega arith)))
-    (swap3 (cases_order j (k + 1)))
-  where
-    swap3 : {A B C : Type 0} → A ⊎ (B ⊎ C) → B ⊎ (A ⊎ C)
-    swap3 (inl a) = inr (inl a)
-    swap3 (inr (inl b)) = inl b
-    swap3 (inr (inr c)) = inr (inr c)

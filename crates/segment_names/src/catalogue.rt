@@ -23,13 +23,10 @@ impl Model for Catalogue {
 }
 
 impl Catalogue {
-    ghost use Rattle.std.specs.Prelude.{◌≡◌, ◌<◌, ◌≤◌, length, [], slice_get, Some, All, OnOk};
+    ghost use Rattle.std.specs.Prelude.{◌≡◌, ◌<◌, ◌≤◌, length, [], slice_get, Some, OnOk};
     ghost use Rattle.std.specs.Prelude.{OnErr, IfErr};
-    ghost use Rattle.trace_types.specs.declared.trace.Trace.{Trace};
-    ghost use Rattle.segment_names.specs.declared.name_fault.NameFault.{NameFault};
     ghost use Rattle.segment_names.specs.Known.{name_number, task_number, with_segments};
-    ghost use Rattle.segment_names.specs.Known.{with_traces};
-    ghost use Rattle.segment_names.specs.Limits.{Fits, HasCause, IsKept, IsPassed, PassesLimit};
+    ghost use Rattle.segment_names.specs.Limits.{Fits, HasCause, IsKept, IsPassed};
 
     /// An empty catalogue. It takes no memory.
     pub fn new(alloc: Global) -> Catalogue
@@ -56,24 +53,6 @@ impl Catalogue {
             self.tables.cut(marks);
         }
         added
-    }
-
-    /// Adds the names and the tasks of traces, one trace after another. After an error the
-    /// catalogue is unchanged.
-    pub fn add_all(&mut self, alloc: Global, traces: &[Trace]) -> Result<(), NameFault>
-        requires { All (λ (t : Trace). length t.segments ≤ 4096) traces.now }
-        ensures added { OnOk result (self.new ≡ with_traces self.old traces.now) }
-        ensures none { OnOk result ((fault : NameFault) → PassesLimit self.old traces.now fault
-            → ⊥) }
-        ensures cause { IfErr result (HasCause (PassesLimit self.old traces.now)) }
-        ensures unchanged { OnErr result (self.new ≡ self.old) }
-    {
-        let marks = self.tables.marks();
-        let outcome = self.tables.note_traces(alloc, traces);
-        if outcome.is_err() {
-            self.tables.cut(marks);
-        }
-        outcome
     }
 
     /// The number of a name, or `None` where it is not in the catalogue. It takes no memory.

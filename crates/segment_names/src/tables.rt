@@ -10,7 +10,7 @@ use crate::name_key::NameKey;
 use indexmap::{IndexMap, IndexSet};
 use std::alloc::{AllocError, Global};
 use std::marker::Model;
-use trace_types::{NameText, Segment, Text, Trace};
+use trace_types::{NameText, Segment, Text};
 
 /// The greatest number of names.
 const MOST_NAMES: u32 = 512;
@@ -109,13 +109,10 @@ fn intern_name(
 }
 
 impl Tables {
-    ghost use Rattle.std.specs.Prelude.{◌^◌, ◌<◌, ◌≤◌, None, length, All, IfErr, IfNone, IfSome};
+    ghost use Rattle.std.specs.Prelude.{◌^◌, ◌<◌, ◌≤◌, None, length, IfErr, IfNone, IfSome};
     ghost use Rattle.std.specs.Prelude.{MatchResult};
-    ghost use Rattle.trace_types.specs.declared.trace.Trace.{Trace};
-    ghost use Rattle.segment_names.specs.declared.name_fault.NameFault.{NameFault};
     ghost use Rattle.segment_names.specs.Known.{name_number, task_number, with_segments};
-    ghost use Rattle.segment_names.specs.Known.{with_traces};
-    ghost use Rattle.segment_names.specs.Limits.{Fits, HasCause, IsPassed, PassesLimit};
+    ghost use Rattle.segment_names.specs.Limits.{Fits, HasCause, IsPassed};
     ghost use Rattle.segment_names.specs.inner.Filing.{AreFiled, Filed, Grows, known_in, marks_of};
 
     /// Makes empty tables.
@@ -327,26 +324,6 @@ impl Tables {
     {
         self.note_all(alloc, segments)?;
         self.check_limits()
-    }
-
-    /// Notes traces one after another, and tells the limit that is passed first.
-    pub(crate) fn note_traces(&mut self, alloc: Global, traces: &[Trace]) -> Result<(), NameFault>
-        requires filed { AreFiled self.old }
-        requires fits { Fits (known_in self.old) }
-        requires few { All (λ (t : Trace). length t.segments ≤ 4096) traces.now }
-        ensures filed { AreFiled self.new }
-        ensures grown { Grows self.old self.new }
-        ensures noted { OnOk result (known_in self.new
-            ≡ with_traces (known_in self.old) traces.now) }
-        ensures fits { OnOk result (Fits (known_in self.new)) }
-        ensures none { OnOk result ((fault : NameFault)
-            → PassesLimit (known_in self.old) traces.now fault → ⊥) }
-        ensures cause { IfErr result (HasCause (PassesLimit (known_in self.old) traces.now)) }
-    {
-        for trace in traces {
-            self.note_within(alloc, trace.segments.items())?;
-        }
-        Ok(())
     }
 
     /// Tells how many elements each table has.

@@ -32,8 +32,8 @@ fn single(rt: &(impl Abort + AllocGlobal), task: &str, start: &str) -> Trace
 /// A catalogue of the names (b, s, e) and (a, s, e), in this order.
 fn two_names(rt: &(impl Abort + AllocGlobal)) -> Catalogue {
     let mut catalogue = Catalogue::new(rt.alloc());
-    let traces = [single(rt, "b", "s"), single(rt, "a", "s")];
-    assert!(rt; catalogue.add_all(rt.alloc(), traces.as_slice()) == Ok(()));
+    assert!(rt; catalogue.add(rt.alloc(), &single(rt, "b", "s")) == Ok(()));
+    assert!(rt; catalogue.add(rt.alloc(), &single(rt, "a", "s")) == Ok(()));
     assert!(rt; catalogue.add(rt.alloc(), &single(rt, "b", "s")) == Ok(()));
     catalogue
 }

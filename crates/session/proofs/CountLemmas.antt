@@ -1,5 +1,5 @@
 -- How many traces a book has after sheets are added, or after a day is dropped.
-use Rattle.std.proofs.Common.{◌≡◌, ℕ, ◌+◌, ◌*◌, ◌<◌, ◌≤◌, ◌^◌, inl, inr, not, ◌==◌, nat_lt, if◌then◌else◌, List, [], ◌∷◌, ◌++◌, length, map, All, refl, sym, ap, ◌∙◌, subst, zero-add, arith}
+use Rattle.std.proofs.Common.{◌≡◌, ℕ, ◌+◌, ◌*◌, ◌<◌, ◌≤◌, ◌^◌, inl, inr, not, ◌==◌, nat_lt, if◌then◌else◌, List, [], ◌∷◌, ◌++◌, length, All, refl, sym, ap, ◌∙◌, subst, zero-add, arith}
 use Rattle.std.proofs.lemmas.Bool.{cases_Bool, cond-true, cond-false}
 use Rattle.std.proofs.lemmas.List.{append-nil, length-append, length-map}
 use Rattle.std.proofs.lemmas.List.Sums.{sum_by-cons}
@@ -7,12 +7,15 @@ use Rattle.day_partitions.specs.Batches.{AreSheetsFor, trace_count, with_all}
 use Rattle.day_partitions.specs.Books.{BookState, IsSheetOf, KeptDay, all_traces, kept_day, with_added, with_traces, without_day}
 use Rattle.day_partitions.specs.declared.dated_sheet.DatedSheet.{DatedSheet}
 use Rattle.batch_sheets.specs.declared.recording.DayLines.{DayLines}
-use Rattle.kept_books.specs.Shown.{IsShown}
+use Rattle.kept_books.specs.Shown.{AreShown, IsShown}
 use Rattle.segment_names.specs.Known.{Known}
-use Rattle.session_rules.specs.KeptTraces.{Kept, kept_with}
+use Rattle.session_rules.specs.KeptTraces.{kept_with}
 use Rattle.trace_types.specs.declared.named_trace.NamedTrace.{NamedTrace}
 use Rattle.trace_types.specs.declared.trace.Trace.{Trace}
 use Rattle.session.specs.AddLaws.{NoMoreAreSheeted}
+use Rattle.session.specs.Carrying.{kept_count}
+use Rattle.session.specs.SessionStates.{SessionState}
+use Rattle.session.specs.inner.AddSteps.{AreNamed}
 use Rattle.session.specs.Sheets.{AreSheets, graced_by}
 use Rattle.session.proofs.SheetLemmas.{zip_length}
 
@@ -102,3 +105,24 @@ drop_few day (k ∷ ks) = elim (cases_Bool (not (k.day == day))) [
 
     less : (left rest all own old : ℕ) → left ≡ rest → all ≡ own + old → rest ≤ old → left ≤ all
     less left rest all own old e f l = omega (arith, e, f, l)
+
+-- traces that show kept ones are as many
+pub shown_long : (known : Known) (named : List NamedTrace) (grace : ℕ) (valid : List Trace) → AreShown known named (graced_by grace valid) → length valid ≡ length named
+shown_long known named grace valid shown = sym (zip_length (IsShown known) named (graced_by grace valid) shown ∙ length-map valid (kept_with (1000 * grace)))
+
+-- a session whose names were added to has room for the named traces where it had for the requests
+module _ (old new : SessionState) (valid : List Trace) (named : List NamedTrace) (requests : ℕ) (a : AreNamed old valid new) (shown : AreShown new.known named (graced_by new.grace valid)) (few : length valid ≤ requests) where
+  same_count : kept_count new ≡ kept_count old
+  same_count = ap (λ (s : SessionState). kept_count s) a.is
+
+  pub room_for : kept_count old + requests < 2 ^ 32 → kept_count new + length named < 2 ^ 32
+  room_for most = under _ _ _ _ _ same_count (shown_long new.known named new.grace valid shown) few most
+    where
+      under : (now was long count all : ℕ) → now ≡ was → long ≡ count → long ≤ all → was + all < 2 ^ 32 → now + count < 2 ^ 32
+      under now was long count all e f l m = omega (arith, e, f, l, m)
+
+  pub no_more_kept : (after : ℕ) → after ≤ kept_count new + length named → after ≤ kept_count old + requests
+  no_more_kept after most = under _ _ _ _ _ after same_count (shown_long new.known named new.grace valid shown) few most
+    where
+      under : (now was long count all after : ℕ) → now ≡ was → long ≡ count → long ≤ all → after ≤ now + count → after ≤ was + all
+      under now was long count all after e f l m = omega (arith, e, f, l, m)

@@ -1,26 +1,29 @@
-ghost use Rattle.std.specs.Prelude.{◌≡◌, ◌^◌, ◌+◌, ◌<◌, ◌≤◌, All, length, IfOk, IfErr};
-ghost use Rattle.batch_sheets.specs.Named.{HasFewSegments, IsKnownTrace};
+ghost use Rattle.std.specs.Prelude.{◌≡◌, ◌^◌, ◌+◌, ◌<◌, ◌≤◌, All, List, length, IfOk, IfErr};
+ghost use Rattle.batch_sheets.specs.Named.{HasFewSegments};
+ghost use Rattle.kept_books.specs.Shown.{AreShown};
+ghost use Rattle.refute_tests.specs.Clearing.{HaveNamesBelow};
 ghost use Rattle.session_rules.specs.Sessions.{State};
 ghost use Rattle.session.specs.Carrying.{kept_count};
 ghost use Rattle.session.specs.SessionStates.{Shows};
+ghost use Rattle.session.specs.Sheets.{graced_by};
 ghost use Rattle.session.specs.inner.AddFaults.{HasAddCause, HasNamesCause};
 ghost use Rattle.session.specs.inner.AddSteps.{AreBooked, AreNamed, HasDaysCause, IsAddOf};
 ghost use Rattle.trace_types.specs.Batch.{requests_of};
 ghost use Rattle.trace_types.specs.EventLines.{LinesRise};
 ghost use Rattle.trace_types.specs.Times.{AreTimely};
+ghost use Rattle.trace_types.specs.declared.trace.Trace.{Trace};
 
 use crate::add_fault::AddFault;
 use crate::laws::{
     add_is_told, add_leads_on, add_passes_days, names_grow, no_more_are_sheeted, no_more_are_valid,
-    valid_are_known,
 };
 use crate::{Session, record_batch};
-use batch_sheets::{DayLines, judge_batch};
+use batch_sheets::{DayLines, judge_batch, name_batch};
 use event_lines::EventParts;
 use mystery_io::Gate;
 use session_rules::Refused;
 use std::thread::Threads;
-use trace_types::Trace;
+use trace_types::{NamedTrace, Trace};
 
 /// A session after an add, and what is printed of the add.
 #[derive(Drop)]
@@ -33,13 +36,24 @@ pub(crate) struct AddedBatch {
     pub(crate) watched: Vec<DayLines>,
 }
 
+/// A session that knows the names of a batch, and the traces of the batch by number.
+#[derive(Drop)]
+struct NamedBatch {
+    session: Session,
+    named: Vec<NamedTrace>,
+}
+
 impl Session {
-    /// Adds the names and tasks of valid traces, and widens the book to them. After an error the
-    /// session is gone.
-    fn add_names(self, valid: &[Trace]) -> Result<Session, AddFault>
-        requires { All HasFewSegments valid.now }
-        ensures named { IfOk result (AreNamed self valid.now) }
-        ensures cause { IfErr result (HasNamesCause self.known valid.now) }
+    /// Adds the names and tasks of valid traces, names these by all workers and gives them their
+    /// grace, and widens the book to the names. After an error the session is gone.
+    fn add_names<R: Threads + Sync>(self, rt: &R, valid: Vec<Trace>) -> Result<NamedBatch, AddFault>
+        requires { All HasFewSegments valid.items }
+        ensures added { IfOk result (λ b. AreNamed self valid.items b.session) }
+        ensures shown { IfOk result (λ b. AreShown b.session.known b.named.items
+            (graced_by b.session.grace valid.items)) }
+        ensures below { IfOk result
+            (λ b. All (HaveNamesBelow (length b.session.known.names)) b.named.items) }
+        ensures cause { IfErr result (HasNamesCause self.known valid.items) }
     {
         names_grow();
         let Session {
@@ -51,34 +65,41 @@ impl Session {
             grace,
         } = self;
         let _names = catalogue.names();
-        catalogue.add_all(alloc, valid)?;
+        let nanos = 1000 * u64::from(grace);
+        let named = name_batch(rt, alloc, &mut catalogue, valid, nanos, workers)?;
         book.widen(catalogue.names())?;
-        Ok(Session {
-            alloc,
-            workers,
-            catalogue,
-            book,
-            watch,
-            grace,
+        Ok(NamedBatch {
+            session: Session {
+                alloc,
+                workers,
+                catalogue,
+                book,
+                watch,
+                grace,
+            },
+            named,
         })
     }
 
-    /// Records valid traces whose names are known, and adds their days to the book, all or, after
-    /// an error, none. Returns their watch lines.
+    /// Records named traces, and adds their days to the book, all or, after an error, none. Returns
+    /// their watch lines.
     fn add_days<R: Threads + Sync, G: Gate + Sync>(
         &mut self,
         rt: &R,
-        valid: Vec<Trace>,
+        named: Vec<NamedTrace>,
         gate: &G,
     ) -> Result<Vec<DayLines>, AddFault>
-        requires few { All HasFewSegments valid.items }
-        requires known { All (IsKnownTrace self.old.known) valid.items }
-        requires many { kept_count self.old + length valid.items < 2 ^ 32 }
-        ensures booked { IfOk result (λ watched. AreBooked self.old valid.items self.new
+        requires shown { (valid : List Trace) × AreShown self.old.known named.items
+            (graced_by self.old.grace valid) }
+        requires below { All (HaveNamesBelow (length self.old.known.names)) named.items }
+        requires many { kept_count self.old + length named.items < 2 ^ 32 }
+        ensures booked { IfOk result (λ watched. (valid : List Trace) → AreShown self.old.known
+            named.items (graced_by self.old.grace valid) → AreBooked self.old valid self.new
             watched.items) }
         ensures kept { IfOk result (λ _. kept_count self.new
-            ≤ kept_count self.old + length valid.items) }
-        ensures cause { IfErr result (HasDaysCause self.old valid.items) }
+            ≤ kept_count self.old + length named.items) }
+        ensures cause { IfErr result (λ fault. (valid : List Trace) → AreShown self.old.known
+            named.items (graced_by self.old.grace valid) → HasDaysCause self.old valid fault) }
     {
         no_more_are_sheeted();
         let _days = self.book.days();
@@ -86,10 +107,9 @@ impl Session {
             rt,
             self.alloc,
             &self.catalogue,
-            valid,
+            named,
             self.workers,
             self.watch,
-            self.grace,
             gate,
         )?;
         self.book.add_all(recorded.sheets)?;
@@ -116,14 +136,13 @@ impl Session {
         ensures cause { IfErr result (λ fault. (s : State) → Shows self s
             → HasAddCause events s fault) }
     {
-        valid_are_known();
         no_more_are_valid();
         add_leads_on();
         add_passes_days();
         add_is_told();
         let judged = judge_batch(rt, self.alloc, events, self.workers)?;
-        let mut session = self.add_names(&judged.valid)?;
-        let watched = session.add_days(rt, judged.valid, gate)?;
+        let NamedBatch { mut session, named } = self.add_names(rt, judged.valid)?;
+        let watched = session.add_days(rt, named, gate)?;
         Ok(AddedBatch {
             session,
             refused: judged.refused,

@@ -1,7 +1,7 @@
 use Rattle.std.proofs.Common.{◌≡◌, ◌∷◌, [], ◌∙◌, length, ap, append_assoc, arith}
 use Rattle.std.specs.Vec.Iter.{into_iter_items}
 use Rattle.batch_sheets.specs.Recorded.{AreLinesOfDay, IsSheetOfDay}
-use Rattle.batch_sheets.proofs.NameLemmas.{zip_more}
+use Rattle.batch_sheets.proofs.ZipLemmas.{zip_more}
 use Rattle.batch_sheets.proofs.recording.record_days.Goals as goal
 
 pub loop-traces-preserved : goal.loop-traces-preserved

@@ -1,4 +1,4 @@
-use Rattle.std.proofs.Common.{◌≡◌, ◌∙◌, ◌<◌, ◌≤◌, ◌+◌, ◌∷◌, [], ◌++◌, ℕ, List, Some, None, length, slice_get, refl, sym, ap, subst, below_more, arith}
+use Rattle.std.proofs.Common.{◌≡◌, ◌+◌, ◌∷◌, [], ◌++◌, ℕ, List, Some, None, length, slice_get, refl, sym, subst, below_more, arith}
 use Rattle.std.proofs.lemmas.Option.{slice_get_read}
 use Rattle.trace_types.specs.declared.named_segment.NamedSegment.{NamedSegment}
 use Rattle.trace_types.specs.Segments.{name_of}
@@ -6,7 +6,7 @@ use Rattle.segment_names.specs.Known.{Known, name_number}
 use Rattle.segment_names.specs.Limits.{IsKept}
 use Rattle.segment_names.specs.Naming.{IsUnknownAt}
 use Rattle.segment_names.specs.inner.Filing.{known_in}
-use Rattle.segment_names.specs.inner.Numbering.{AreNumbered, IsNumbered, NumbersFirst}
+use Rattle.segment_names.specs.inner.Numbering.{IsNumbered, NumbersFirst}
 use Rattle.segment_names.proofs.NumberingLemmas.{is_numbered, known_here, numbers_more, short_keys}
 use Rattle.segment_names.proofs.naming.name_segments.Goals as goal
 

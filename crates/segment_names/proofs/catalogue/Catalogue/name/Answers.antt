@@ -1,8 +1,7 @@
-use Rattle.std.proofs.Common.{◌≡◌, ℕ, List, refl, sym, subst, arith}
+use Rattle.std.proofs.Common.{List, refl, sym, subst, arith}
 use Rattle.std.specs.List.{enumerate_from}
 use Rattle.trace_types.specs.declared.named_segment.NamedSegment.{NamedSegment}
 use Rattle.trace_types.specs.declared.segment.Segment.{Segment}
-use Rattle.trace_types.specs.Renaming.{IsSegmentRenamed}
 use Rattle.segment_names.specs.declared.unnamed.Unnamed.{Unnamed}
 use Rattle.segment_names.specs.Naming.{IsFirstUnknown}
 use Rattle.segment_names.specs.inner.Numbering.{AreNumbered, IsCause}

@@ -1,4 +1,4 @@
-use Rattle.std.proofs.Common.{sym, ◌∙◌, subst}
+use Rattle.std.proofs.Common.{sym, ◌∙◌}
 use Rattle.trace_types.specs.Segments.{name_of}
 use Rattle.segment_names.specs.Known.{name_number}
 use Rattle.segment_names.specs.inner.Filing.{known_in}

@@ -1,10 +1,10 @@
-use Rattle.std.proofs.Common.{sym, ap, ◌∙◌, ◌≡◌, ◌∷◌, [], ◌++◌, List, None, subst, true, false}
+use Rattle.std.proofs.Common.{sym, ◌∙◌, ◌≡◌, ◌∷◌, [], ◌++◌, List, None, subst, false}
 use Rattle.std.specs.List.{list_any}
 use Rattle.trace_types.specs.Segments.{SegmentName, name_of}
 use Rattle.segment_names.specs.declared.name_key.NameKey.{NameKey}
-use Rattle.segment_names.specs.Known.{Known, same_name, name_number, with_segments}
-use Rattle.segment_names.specs.inner.Filing.{AreFiled, Filed, Grows, IsFiled, IsFiledAs, known_in, names_of_entries}
-use Rattle.segment_names.proofs.FilingLemmas.{grown_filed, name_filed, still_filed}
+use Rattle.segment_names.specs.Known.{same_name, name_number, with_segments}
+use Rattle.segment_names.specs.inner.Filing.{Filed, Grows, IsFiled, IsFiledAs, known_in, names_of_entries}
+use Rattle.segment_names.proofs.FilingLemmas.{grown_filed, name_filed}
 use Rattle.segment_names.proofs.FindLemmas.{any-none}
 use Rattle.segment_names.proofs.NotingLemmas.{note_new, entry_last}
 use Rattle.segment_names.proofs.tables.Tables.note_new.Goals as goal

@@ -1,4 +1,4 @@
-use Rattle.std.proofs.Common.{sym, ap, subst, ◌∙◌, ◌≡◌, ℕ, Option, None, Some, IfNone, slice_get}
+use Rattle.std.proofs.Common.{sym, ap, subst, ◌∙◌, ◌≡◌, Option, None, Some, IfNone, slice_get}
 use Rattle.segment_names.specs.Known.{name_number}
 use Rattle.segment_names.specs.inner.Filing.{Filed, known_in}
 use Rattle.segment_names.proofs.FilingLemmas.{no_task, no_start, no_end, found_as, key_found}

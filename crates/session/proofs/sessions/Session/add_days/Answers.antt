@@ -1,19 +1,26 @@
-use Rattle.std.proofs.Common.{◌≡◌, ◌^◌, ◌+◌, ◌<◌, ◌≤◌, All, length, sym, ap, ◌∙◌, subst}
-use Rattle.batch_sheets.specs.Named.{IsKnownTrace}
+use Rattle.std.proofs.Common.{◌≡◌, ◌^◌, ◌+◌, ◌<◌, ◌≤◌, ℕ, length, sym, ap, ◌∙◌, subst}
+use Rattle.std.proofs.lemmas.Result.{err_from_is_err_and}
+use Rattle.day_partitions.specs.Batches.{with_all}
 use Rattle.day_partitions.specs.Books.{BookState, all_traces}
+use Rattle.kept_books.specs.Shown.{AreShown}
 use Rattle.session.specs.Carrying.{kept_count}
 use Rattle.session.specs.SessionStates.{SessionState}
-use Rattle.session.proofs.CountLemmas.{count_after, same_names, sheets_for}
+use Rattle.session.specs.Sheets.{graced_by}
+use Rattle.session.specs.inner.AddFaults.{fault_of_sheets}
+use Rattle.session.specs.inner.AddSteps.{HasDaysCause}
+use Rattle.session.proofs.AddingLemmas.{days_cause, session_of}
+use Rattle.session.proofs.CountLemmas.{count_after, same_names, sheets_for, shown_long}
 use Rattle.session.proofs.sessions.Session.add_days.Goals as goal
-
-pub record_batch-requires-clause-known : goal.record_batch-requires-clause-known
-record_batch-requires-clause-known g c κs within = subst (λ (s : SessionState). All (IsKnownTrace s.known) c.args.valid.items) (sym c.self.view_is) c.requires.known
 
 pub add_all-requires : goal.add_all-requires
 add_all-requires g c =
     let old = c.self.inside in
-    sheets_for c.no_more_are_sheeted.ensures old.catalogue old.workers old.watch old.grace c.args.valid.items c.in_ok-recorded.recorded.sheets.items c.in_ok-recorded.recorded.watched.items c.in_ok-recorded.ensures old.book c.self.invariant.names
-    (subst (λ (s : SessionState). kept_count s + length c.args.valid.items < 2 ^ 32) (sym c.self.view_is) c.requires.many)
+    let valid = c.requires.shown.0 in
+    let named = c.args.named.items in
+    let shown = subst (λ (s : SessionState). AreShown s.known named (graced_by s.grace valid)) (sym c.self.view_is) c.requires.shown.1 in
+    let long : length valid ≡ length named = shown_long old.catalogue named old.grace valid shown in
+    sheets_for c.no_more_are_sheeted.ensures old.catalogue old.workers old.watch old.grace valid c.in_ok-recorded.recorded.sheets.items c.in_ok-recorded.recorded.watched.items (c.in_ok-recorded.ensures (graced_by old.grace valid) shown) old.book c.self.invariant.names
+    (subst (λ (n : ℕ). length (all_traces old.book.days) + n < 2 ^ 32) (sym long) (subst (λ (s : SessionState). kept_count s + length named < 2 ^ 32) (sym c.self.view_is) c.requires.many))
 
 pub invariant_of-self-2 : goal.invariant_of-self-2
 invariant_of-self-2 g c = record {
@@ -26,7 +33,23 @@ invariant_of-self-2 g c = record {
 pub returns-clause-kept : goal.returns-clause-kept
 returns-clause-kept g c =
     let old = c.self.inside in
-    let valid = c.args.valid.items in
-    subst (λ (s : SessionState). length (all_traces c.add_all.new.self.days) ≤ kept_count s + length valid) c.self.view_is
-    (subst (λ (b : BookState). length (all_traces b.days) ≤ length (all_traces old.book.days) + length valid) (sym c.in_ok-add_all.ensures.added)
-    (count_after c.no_more_are_sheeted.ensures old.catalogue old.workers old.watch old.grace valid c.in_ok-recorded.recorded.sheets.items c.in_ok-recorded.recorded.watched.items c.in_ok-recorded.ensures old.book))
+    let valid = c.requires.shown.0 in
+    let named = c.args.named.items in
+    let shown = subst (λ (s : SessionState). AreShown s.known named (graced_by s.grace valid)) (sym c.self.view_is) c.requires.shown.1 in
+    let long : length valid ≡ length named = shown_long old.catalogue named old.grace valid shown in
+    subst (λ (s : SessionState). length (all_traces c.add_all.new.self.days) ≤ kept_count s + length named) c.self.view_is
+    (subst (λ (b : BookState). length (all_traces b.days) ≤ length (all_traces old.book.days) + length named) (sym c.in_ok-add_all.ensures.added)
+    (subst (λ (n : ℕ). length (all_traces (with_all old.book c.in_ok-recorded.recorded.sheets.items).days) ≤ length (all_traces old.book.days) + n) long
+    (count_after c.no_more_are_sheeted.ensures old.catalogue old.workers old.watch old.grace valid c.in_ok-recorded.recorded.sheets.items c.in_ok-recorded.recorded.watched.items (c.in_ok-recorded.ensures (graced_by old.grace valid) shown) old.book)))
+
+pub returns-in_err-add_all-clause-cause : goal.returns-in_err-add_all-clause-cause
+returns-in_err-add_all-clause-cause g c =
+    let old = c.self.inside in
+    let sheets = c.in_ok-recorded.recorded.sheets.items in
+    let watched = c.in_ok-recorded.recorded.watched.items in
+    let fault = c.in_err-add_all.field-0.0 in
+    let p = err_from_is_err_and c.from_residual-in_err-add_all.result c.from_residual-in_err-add_all.ensures.1 in
+    rw (p.1, p.2) (λ valid given.
+    let shown = subst (λ (s : SessionState). AreShown s.known c.args.named.items (graced_by s.grace valid)) (sym c.self.view_is) given in
+    let cause = days_cause fault (session_of old.workers old.catalogue old.book old.watch old.grace) valid sheets watched c.days-days.ensures.kept (c.in_ok-recorded.ensures (graced_by old.grace valid) shown) c.in_err-add_all.ensures.fault in
+    subst (λ (s : SessionState). HasDaysCause s valid (fault_of_sheets fault)) c.self.view_is cause)

@@ -6,13 +6,13 @@ use Rattle.session.specs.inner.AddFaults.{HasNamesCause, fault_of_names}
 use Rattle.session.proofs.AddingLemmas.{are_named, names_cause}
 use Rattle.session.proofs.sessions.Session.add_names.Goals as goal
 
-pub returns-in_err-add_all-clause-cause : goal.returns-in_err-add_all-clause-cause
-returns-in_err-add_all-clause-cause c =
-    let fault = c.in_err-add_all.field-0.0 in
+pub returns-in_err-named-clause-cause : goal.returns-in_err-named-clause-cause
+returns-in_err-named-clause-cause g c =
+    let fault = c.in_err-named.field-0.0 in
     let p = err_from_is_err_and c.from_residual.result c.from_residual.ensures.1 in
-    rw (p.1, p.2) (subst (λ (k : Known). HasNamesCause k c.args.valid.now (fault_of_names fault)) (ap (λ (s : SessionState). s.known) c.self.view_is) (names_cause fault c.self.inside.catalogue c.args.valid.now c.in_err-add_all.ensures.cause))
+    rw (p.1, p.2) (subst (λ (k : Known). HasNamesCause k c.args.valid.items (fault_of_names fault)) (ap (λ (s : SessionState). s.known) c.self.view_is) (names_cause fault c.self.inside.catalogue c.args.valid.items c.in_err-named.ensures.cause))
 
-pub returns-clause-named : goal.returns-clause-named
-returns-clause-named c =
+pub returns-clause-added : goal.returns-clause-added
+returns-clause-added g c =
     let old = c.self.inside in
-    are_named c.args.self c.args.valid.now old.workers old.catalogue c.add_all.new.self old.book c.widen.new.self old.watch old.grace c.names.result c.self.view_is c.names-names.ensures.kept c.in_ok-add_all.ensures.none c.in_ok-add_all.ensures.added c.names.ensures.count c.in_ok-widen.ensures.ok
+    are_named c.args.self c.args.valid.items old.workers old.catalogue c.name_batch.new.catalogue old.book c.widen.new.self old.watch old.grace c.names.result c.self.view_is c.names-names.ensures.kept c.in_ok-named.ensures.none c.in_ok-named.ensures.added c.names.ensures.count c.in_ok-widen.ensures.ok
