@@ -7,9 +7,7 @@ use Rattle.std.proofs.lemmas.List.{length-append}
 use Rattle.std.proofs.lemmas.List.Elements.{Contains-append_left, Contains-append_right, Contains-append_cases}
 use Rattle.model_meet.specs.Counting.{AreExactly, CountsPairs}
 use Rattle.model_meet.specs.inner.Beside.{IsBeside, CountsBeside}
-use Rattle.model_meet.proofs.ElementLemmas.{Contains-itself, Contains-nil, Contains-one}
-use Rattle.model_meet.proofs.GrowingLemmas.{AllPairs-nil}
-use Rattle.model_meet.proofs.OrderLemmas.{AllPairs-append}
+use Rattle.model_meet.proofs.JoinLemmas.{AllPairs-append, AllPairs-nil, Contains-itself, Contains-nil, Contains-one}
 
 pub none_exactly : {X : Type 0} (P : X → Type 0) → ((x : X) → P x → ⊥) → AreExactly P 0
 none_exactly {X} P none = record {

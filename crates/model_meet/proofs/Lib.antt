@@ -1,13 +1,7 @@
-pub mod AnswerLemmas
 pub mod CountLemmas
 pub mod CountingLemmas
-pub mod DecisionLemmas
-pub mod ElementLemmas
-pub mod GrowingLemmas
+pub mod JoinLemmas
 pub mod LineLemmas
-pub mod NameLemmas
-pub mod OrderLemmas
-pub mod PairLemmas
 pub mod PairLineLemmas
-pub mod RefuterLemmas
+pub mod TableLemmas
 pub mod TellingLemmas

@@ -1,5 +1,6 @@
 pub mod CountLaws
 pub mod Counting
+pub mod ExclusionTables
 pub mod LineCounts
 pub mod ModelStates
 pub mod Pipes

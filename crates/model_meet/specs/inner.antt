@@ -1,4 +1,2 @@
 -- What private contracts alone cite.
-pub mod Answers
 pub mod Beside
-pub mod Growing

@@ -67,6 +67,23 @@ impl<'a> Model<'a> {
         Model { words, names }
     }
 
+    /// Makes another model of the same words. It takes no memory.
+    pub(crate) fn copy(&self) -> Model<'a>
+        ensures { result ≡ self.now }
+    {
+        Model {
+            words: self.words,
+            names: self.names,
+        }
+    }
+
+    /// Lends the words.
+    pub(crate) fn words(&self) -> &'a [u64]
+        ensures { result.now ≡ self.now.words }
+    {
+        self.words
+    }
+
     /// Gives the number of names.
     pub(crate) fn names(&self) -> u32
         ensures value { result ≡ self.now.names }

@@ -1,5 +1,6 @@
+use crate::plain::PlainModel;
 use hypothesis_index::width;
-use model_meet::{Model, PlainModel};
+use model_meet::Model;
 use segment_names::Catalogue;
 use std::alloc::{AllocError, Global};
 use trace_types::NameText;

@@ -1,7 +1,7 @@
 use crate::inputs::{are_below, are_few, cut_traces, name_traces};
 use crate::model_texts::{plain_relations_text, relations_text};
+use crate::plain::plain_model;
 use crate::worked_inputs::push_request;
-use model_meet::plain_model;
 use pipeline_tests::DaySheet;
 use std::alloc::Global;
 use std::rt::HostRuntime;

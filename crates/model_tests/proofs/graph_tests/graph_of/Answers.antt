@@ -1,4 +1,4 @@
-use Rattle.std.proofs.Common.{◌≡◌, ℕ, ap, sym, subst}
+use Rattle.std.proofs.Common.{ℕ, ap, sym, subst}
 use Rattle.refute_tests.specs.Clearing.{HaveNamesBelow}
 use Rattle.model_meet.specs.ModelStates.{ModelState}
 use Rattle.model_tests.proofs.graph_tests.graph_of.Goals as goal

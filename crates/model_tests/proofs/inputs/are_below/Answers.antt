@@ -1,8 +1,7 @@
-use Rattle.std.proofs.Common.{arith, subst, sym, ◌≡◌, take, All}
+use Rattle.std.proofs.Common.{arith, subst, All}
 use Rattle.std.proofs.lemmas.List.{take_all}
 use Rattle.std.proofs.lemmas.List.Elements.{All-more}
 use Rattle.refute_tests.specs.Clearing.{HaveNamesBelow}
-use Rattle.trace_types.specs.declared.named_trace.NamedTrace.{NamedTrace}
 use Rattle.model_tests.proofs.inputs.are_below.Goals as goal
 
 pub loop-trace-preserved : goal.loop-trace-preserved
