@@ -6,13 +6,13 @@ ghost use Rattle.refute_tests.specs.Clearing.{HaveNamesBelow};
 ghost use Rattle.trace_types.specs.declared.named_trace.NamedTrace.{NamedTrace};
 ghost use Rattle.what_if.specs.ForecastLaws.{IsLess};
 
-use model_meet::Model;
+use model_meet::{Exclusions, Model};
 use rayon::prelude::*;
 use segment_names::Catalogue;
 use session_rules::NamedChange;
 use std::alloc::{AllocError, Global};
 use std::thread::Threads;
-use trace_graph::graph;
+use trace_graph::graph_by;
 use trace_types::NamedTrace;
 use what_if::laws::{changes_make_less, graph_has_segments, loses_no_more};
 use what_if::{Change, Forecast, predict};
@@ -25,23 +25,52 @@ fn weights_have_words(weights: &[u64])
     ensures { All (λ w. w < 2 ^ 64) weights.now }
 {}
 
-/// Forecasts one trace, by its graph.
+/// Forecasts one trace, by its graph, which is made from the listed exclusions of a model.
 fn forecast_trace(
     alloc: Global,
     trace: &NamedTrace,
-    model: &Model,
+    exclusions: &Exclusions,
     changes: &[Change],
 ) -> Result<Forecast, AllocError>
-    requires below { HaveNamesBelow model.now.names trace.now }
+    requires below { HaveNamesBelow exclusions.now.names trace.now }
     requires less { All IsLess changes.now }
-    ensures { IfOk result (IsForecastUnder model.now.words changes.now trace.now) }
+    ensures { IfOk result (IsForecastUnder exclusions.now.words changes.now trace.now) }
 {
     graph_has_segments();
     changes_make_less();
     loses_no_more();
-    let ordered = graph(alloc, trace, model)?;
+    let ordered = graph_by(alloc, trace, exclusions)?;
     weights_have_words(ordered.dag.weights());
     predict(alloc, trace, &ordered, changes)
+}
+
+/// Forecasts each trace, by all processors, from the listed exclusions of a model.
+fn forecast_by<R: Threads + Sync>(
+    rt: &R,
+    alloc: Global,
+    traces: &[&NamedTrace],
+    exclusions: &Exclusions,
+    changes: &[Change],
+) -> Result<Vec<Forecast>, AllocError>
+    requires below { All (λ (t : Bor NamedTrace). HaveNamesBelow exclusions.now.names t.now)
+        traces.now }
+    requires less { All IsLess changes.now }
+    ensures { IfOk result (λ forecasts. AllZip (λ (t : Bor NamedTrace) f.
+        IsForecastUnder exclusions.now.words changes.now t.now f) traces.now forecasts.items) }
+{
+    let forecasts: Result<Vec<Forecast>, AllocError> = traces
+        .par_iter()
+        .with_min_len(LEAST_PIECE)
+        .map(
+            |trace: &&NamedTrace| -> Result<Forecast, AllocError>
+                requires below { HaveNamesBelow exclusions.now.names trace.now.now }
+                requires less { All IsLess changes.now }
+                ensures { IfOk result
+                    (IsForecastUnder exclusions.entry.now.words changes.entry.now trace.now.now) }
+            { forecast_trace(alloc, trace, exclusions, changes) },
+        )
+        .collect(rt, alloc)?;
+    forecasts
 }
 
 /// Forecasts each trace, by all processors.
@@ -57,19 +86,8 @@ fn forecast_each<R: Threads + Sync>(
     ensures { IfOk result (λ forecasts. AllZip (λ (t : Bor NamedTrace) f.
         IsForecastUnder model.now.words changes.now t.now f) traces.now forecasts.items) }
 {
-    let forecasts: Result<Vec<Forecast>, AllocError> = traces
-        .par_iter()
-        .with_min_len(LEAST_PIECE)
-        .map(
-            |trace: &&NamedTrace| -> Result<Forecast, AllocError>
-                requires below { HaveNamesBelow model.now.names trace.now.now }
-                requires less { All IsLess changes.now }
-                ensures { IfOk result
-                    (IsForecastUnder model.entry.now.words changes.entry.now trace.now.now) }
-            { forecast_trace(alloc, trace, model, changes) },
-        )
-        .collect(rt, alloc)?;
-    forecasts
+    let exclusions = Exclusions::of(alloc, model)?;
+    forecast_by(rt, alloc, traces, &exclusions, changes)
 }
 
 /// Forecasts each trace with a change of the name that has a text in a catalogue; where there is no

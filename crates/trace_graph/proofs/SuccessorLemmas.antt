@@ -1,8 +1,9 @@
 -- The successors of a vertex, found one by one.
-use Rattle.std.proofs.Common.{◌≡◌, ℕ, ◌+◌, ◌<◌, ◌≤◌, List, [], ◌∷◌, ◌++◌, length, get_or, Contains, arith, sym, ap, ◌∙◌, subst, ⊎_elim}
+use Rattle.std.proofs.Common.{◌≡◌, ◌↔◌, ℕ, ◌+◌, ◌<◌, ◌≤◌, Bool, true, false, List, [], ◌∷◌, ◌++◌, length, get_or, set, take, drop, Contains, arith, refl, sym, ap, ◌∙◌, subst, ⊎_elim}
+use Rattle.std.specs.Int.{from_bool}
 use Rattle.std.specs.List.Sorted.{IsStrictlyIncreasing}
-use Rattle.std.proofs.lemmas.Bool.{cases_lt}
-use Rattle.std.proofs.lemmas.List.{get_or_append_left, get_or_at, get_or_push, length_push}
+use Rattle.std.proofs.lemmas.Bool.{cases_lt, false≢true}
+use Rattle.std.proofs.lemmas.List.{get_or_append_left, get_or_at, get_or_push, length_push, take_at, take_more_set, take-set}
 use Rattle.std.proofs.lemmas.List.Elements.{Contains-push, Contains-push_cases, Contains-append_left, Contains-get_or}
 use Rattle.model_meet.specs.ModelStates.{ModelState}
 use Rattle.refute_tests.specs.Survivors.{AreSurvivors}
@@ -75,6 +76,12 @@ module _ (model : ModelState) (names : List ℕ) (v : ℕ) where
     );
   }
 
+-- the next vertex is written, and counts where it is one of them
+pub one_written : (model : ModelState) (names : List ℕ) (v n count : ℕ) (found : List ℕ) (is : Bool) → v < n → count < length found → AreExclusive model names v n (take count found) → ((traces : List NamedTrace) → AreSurvivors traces model.words → (is ≡ true) ↔ Excludes model names v traces n)
+    → AreExclusive model names v (n + 1) (take (count + from_bool is) (set found count n))
+one_written model names v n count found true after room a told = subst (AreExclusive model names v (n + 1)) (sym (take_more_set found count n room)) (one_more model names v n (take count found) after a (λ traces s. (told traces s).0 refl))
+one_written model names v n count found false after room a told = subst (λ (k : ℕ). AreExclusive model names v (n + 1) (take k (set found count n))) (let e : count ≡ count + from_bool false = omega arith in e) (subst (AreExclusive model names v (n + 1)) (sym (take-set found count n)) (none_more model names v n (take count found) a (λ traces s survives. false≢true ((told traces s).1 survives))))
+
 pub lists_push : (model : ModelState) (names : List ℕ) (n : ℕ) (lists : List (List ℕ)) (list : List ℕ) → AreLists model names n lists → AreExclusive model names n (length names) list → AreLists model names (n + 1) (lists ++ list ∷ [])
 lists_push model names n lists list a one = record {
   each = length_push lists list ∙ ap (λ k. k + 1) a.each;
@@ -83,3 +90,7 @@ lists_push model names n lists list a one = record {
       (λ (above : n ≤ v). let same : n ≡ v = omega arith in subst (AreExclusive model names v (length names)) (sym (get_or_push lists list d v (a.each ∙ same))) (subst (λ (x : ℕ). AreExclusive model names x (length names) list) same one))
       (cases_lt v n);
 }
+
+-- what a call wrote over all of a vector is what stands in it
+pub written : {X : Type 0} (n : ℕ) (new old : List X) → length new ≡ n → take n (new ++ drop (length new) old) ≡ new
+written n new old e = take_at new (drop (length new) old) n e

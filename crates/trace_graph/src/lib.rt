@@ -5,8 +5,9 @@ mod dependency_graph;
 pub mod laws;
 mod ordered_graph;
 mod ordering;
+mod pair_test;
 mod successors;
 mod vertices;
 
-pub use dependency_graph::graph;
+pub use dependency_graph::{graph, graph_by};
 pub use ordered_graph::OrderedGraph;

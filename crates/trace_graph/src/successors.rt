@@ -1,48 +1,48 @@
-ghost use Rattle.std.specs.Prelude.{◌≡◌, ◌^◌, ◌<◌, [], IfOk, OnOk, length};
+ghost use Rattle.std.specs.Prelude.{◌≡◌, ◌^◌, ◌<◌, ◌≤◌, IfOk, length, take};
 ghost use Rattle.trace_graph.specs.inner.Successors.{AreExclusive, AreKnown, AreLists};
 
-use model_meet::Model;
+use crate::pair_test::PairTest;
 use std::alloc::{AllocError, Global};
 use weighted_dag::NumberList;
 
-/// Collects the later vertices whose names are mutually exclusive with that of this one.
-fn collect_exclusive(
-    model: &Model,
-    names: &[u32],
-    vertex: usize,
-    found: &mut Vec<u32>,
-) -> Result<(), AllocError>
-    requires names { AreKnown model.now names.now }
+/// Writes the later vertices whose names are mutually exclusive with that of this one to the front
+/// of the list, and gives their number. Each later vertex is written, and counts where it is one of
+/// them, so that the loop has no branch.
+fn write_exclusive<P: PairTest>(pairs: P, names: &[u32], vertex: usize, found: &mut [u32]) -> usize
+    requires names { AreKnown (P.model pairs) names.now }
     requires few { length names.now < 2 ^ 32 }
     requires vertex { vertex < length names.now }
-    requires empty { found.old.items ≡ [] }
-    ensures { OnOk result (AreExclusive model.now names.now vertex (length names.now)
-        found.new.items) }
+    requires room { length found.old ≡ length names.now }
+    ensures room { length found.new ≡ length names.now }
+    ensures count { result ≤ length names.now }
+    ensures exclusive { AreExclusive (P.model pairs) names.now vertex (length names.now)
+        (take result found.new) }
 {
+    let name = names[vertex];
+    let mut count = 0;
     for later in vertex + 1..names.len() {
-        if model.exclusive(names[vertex], names[later]) {
-            found.push(later as u32)?;
-        }
+        found[count] = later as u32;
+        count += usize::from(pairs.exclusive(name, names[later]));
     }
-    Ok(())
+    count
 }
 
 /// Lists the successors of each vertex, each list with its exact room.
-pub(crate) fn list_successors(
+pub(crate) fn list_successors<P: PairTest>(
     alloc: Global,
-    model: &Model,
+    pairs: P,
     names: &[u32],
 ) -> Result<Vec<NumberList>, AllocError>
     requires few { length names.now < 2 ^ 32 }
-    requires names { AreKnown model.now names.now }
-    ensures { IfOk result (λ lists. AreLists model.now names.now (length names.now) lists.items) }
+    requires names { AreKnown (P.model pairs) names.now }
+    ensures { IfOk result
+        (λ lists. AreLists (P.model pairs) names.now (length names.now) lists.items) }
 {
     let mut lists = Vec::with_capacity(alloc, names.len())?;
-    let mut found = Vec::with_capacity(alloc, names.len())?;
+    let mut found = vec![in alloc; 0u32; names.len()]?;
     for vertex in 0..names.len() {
-        found.clear();
-        collect_exclusive(model, names, vertex, &mut found)?;
-        lists.push(NumberList::of(found.to_vec(alloc)?))?;
+        let count = write_exclusive(pairs, names, vertex, &mut found);
+        lists.push(NumberList::of(Vec::from_slice(alloc, &found[..count])?))?;
     }
     Ok(lists)
 }

@@ -2,3 +2,4 @@ pub mod CriticalPaths
 pub mod Durations
 pub mod NameOrders
 pub mod Tables
+pub mod inner

@@ -5,8 +5,8 @@ ghost use Rattle.refute_tests.specs.Clearing.{HaveNamesBelow};
 ghost use Rattle.trace_paths.specs.CriticalPaths.{IsPathUnder};
 ghost use Rattle.trace_types.specs.declared.named_trace.NamedTrace.{NamedTrace};
 
-use crate::critical::critical_path;
-use model_meet::Model;
+use crate::critical::critical_path_by;
+use model_meet::{Exclusions, Model};
 use rayon::prelude::*;
 use std::alloc::{AllocError, Global};
 use std::thread::Threads;
@@ -14,6 +14,30 @@ use trace_types::{NamedSegmentList, NamedTrace};
 
 /// How few traces are worth a thread of their own.
 const LEAST_PIECE: usize = 16;
+
+/// Finds the critical path of each trace, by all processors, from the listed exclusions of a model.
+fn paths_by<R: Threads + Sync>(
+    rt: &R,
+    alloc: Global,
+    traces: &[&NamedTrace],
+    exclusions: &Exclusions,
+) -> Result<Vec<NamedSegmentList>, AllocError>
+    requires { All (λ (t : Bor NamedTrace). HaveNamesBelow exclusions.now.names t.now) traces.now }
+    ensures { IfOk result (λ paths. AllZip (λ (t : Bor NamedTrace) path.
+        IsPathUnder exclusions.now t.now path) traces.now paths.items) }
+{
+    let paths: Result<Vec<NamedSegmentList>, AllocError> = traces
+        .par_iter()
+        .with_min_len(LEAST_PIECE)
+        .map(
+            |trace: &&NamedTrace| -> Result<NamedSegmentList, AllocError>
+                requires { HaveNamesBelow exclusions.now.names trace.now.now }
+                ensures { IfOk result (IsPathUnder exclusions.entry.now trace.now.now) }
+            { critical_path_by(alloc, trace, exclusions) },
+        )
+        .collect(rt, alloc)?;
+    paths
+}
 
 /// Finds the critical path of each trace, by all processors. The names of the traces are below the
 /// model's. The only error is that memory ran out.
@@ -27,15 +51,6 @@ pub fn critical_paths<R: Threads + Sync>(
     ensures { IfOk result (λ paths. AllZip
         (λ (t : Bor NamedTrace) path. IsPathUnder model.now t.now path) traces.now paths.items) }
 {
-    let paths: Result<Vec<NamedSegmentList>, AllocError> = traces
-        .par_iter()
-        .with_min_len(LEAST_PIECE)
-        .map(
-            |trace: &&NamedTrace| -> Result<NamedSegmentList, AllocError>
-                requires { HaveNamesBelow model.now.names trace.now.now }
-                ensures { IfOk result (IsPathUnder model.entry.now trace.now.now) }
-            { critical_path(alloc, trace, model) },
-        )
-        .collect(rt, alloc)?;
-    paths
+    let exclusions = Exclusions::of(alloc, model)?;
+    paths_by(rt, alloc, traces, &exclusions)
 }

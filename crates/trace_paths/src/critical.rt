@@ -1,12 +1,16 @@
 ghost use Rattle.std.specs.Prelude.{◌<◌, All, IfOk, length};
 ghost use Rattle.std.specs.List.{AllZip};
 ghost use Rattle.refute_tests.specs.Clearing.{HaveNamesBelow};
+ghost use Rattle.model_meet.specs.ModelStates.{ModelState};
+ghost use Rattle.trace_graph.specs.TraceGraphs.{HasVertices};
 ghost use Rattle.trace_paths.specs.CriticalPaths.{IsPathUnder, StandsFor};
+ghost use Rattle.trace_paths.specs.inner.ModelGraphs.{IsGraphUnder};
+ghost use Rattle.trace_types.specs.Parts.{by_number};
 
 use critical_path::critical;
-use model_meet::Model;
+use model_meet::{Exclusions, Model};
 use std::alloc::{AllocError, Global};
-use trace_graph::graph;
+use trace_graph::{OrderedGraph, graph, graph_by};
 use trace_types::{NamedSegment, NamedSegmentList, NamedTrace};
 
 /// Lists the segments for which the vertices of a chain stand.
@@ -28,6 +32,27 @@ fn segments_on(
     Ok(path)
 }
 
+/// Finds the critical path of a trace by its graph, under each model that the graph is made of.
+fn path_in(
+    alloc: Global,
+    trace: &NamedTrace,
+    graph: &OrderedGraph,
+) -> Result<NamedSegmentList, AllocError>
+    requires { HasVertices by_number trace.now graph.now.order graph.now.dag }
+    ensures { IfOk result (λ path. (model : ModelState) → HaveNamesBelow model.names trace.now
+        → IsGraphUnder model trace.now graph.now.order graph.now.dag
+        → IsPathUnder model trace.now path) }
+{
+    let chain = critical(alloc, &graph.dag)?;
+    let path = segments_on(
+        alloc,
+        trace.segments.items(),
+        graph.order.items(),
+        chain.vertices.items(),
+    )?;
+    Ok(NamedSegmentList::of(path))
+}
+
 /// Finds the critical path of a trace whose names are below the model's: the segments on the first
 /// longest chain of its graph, in order (Chow et al., "The Mystery Machine", OSDI 2014, section
 /// 3.4). It takes one pass over the graph. The only error is that memory ran out.
@@ -40,12 +65,19 @@ pub fn critical_path(
     ensures { IfOk result (IsPathUnder model.now trace.now) }
 {
     let graph = graph(alloc, trace, model)?;
-    let chain = critical(alloc, &graph.dag)?;
-    let path = segments_on(
-        alloc,
-        trace.segments.items(),
-        graph.order.items(),
-        chain.vertices.items(),
-    )?;
-    Ok(NamedSegmentList::of(path))
+    path_in(alloc, trace, &graph)
+}
+
+/// Finds the critical path of a trace as `critical_path` does, from the listed exclusions of the
+/// model.
+pub(crate) fn critical_path_by(
+    alloc: Global,
+    trace: &NamedTrace,
+    exclusions: &Exclusions,
+) -> Result<NamedSegmentList, AllocError>
+    requires { HaveNamesBelow exclusions.now.names trace.now }
+    ensures { IfOk result (IsPathUnder exclusions.now trace.now) }
+{
+    let graph = graph_by(alloc, trace, exclusions)?;
+    path_in(alloc, trace, &graph)
 }

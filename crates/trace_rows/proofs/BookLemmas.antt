@@ -1,28 +1,22 @@
 -- The traces and graphs of a book by numbers.
-use Rattle.std.proofs.Common.{◌≡◌, ℕ, zero, suc, ◌+◌, ◌<◌, ◌≤◌, List, [], ◌∷◌, ◌++◌, length, take, length-append, get_or, slice_get, Some, refl, sym, ◌∙◌, ap, subst, arith}
+use Rattle.std.proofs.Common.{◌≡◌, ℕ, zero, suc, ◌+◌, ◌<◌, ◌≤◌, List, [], ◌∷◌, ◌++◌, length, take, length-append, get_or, slice_get, Some, refl, sym, ◌∙◌, ap, arith}
 use Rattle.std.specs.Option.{option_map}
 use Rattle.std.proofs.lemmas.List.{flat_map_more, take_all, take_more}
 use Rattle.std.proofs.lemmas.List.Folds.{length-flat_map-take}
 use Rattle.std.proofs.lemmas.Option.{slice_get-get_or, get_or_from_slice_get}
 use Rattle.day_partitions.specs.Books.{KeptDay, all_traces}
-use Rattle.model_meet.specs.ModelStates.{ModelState}
 use Rattle.refute_tests.specs.Clearing.{HaveNamesBelow}
-use Rattle.refute_tests.specs.Survivors.{AreSurvivors}
 use Rattle.trace_graph.specs.TraceGraphs.{IsTraceGraph}
-use Rattle.trace_rows.specs.inner.NumberedGraphs.{IsNumbered}
+use Rattle.trace_rows.specs.inner.NumberedTraces.{IsNumbered}
 use Rattle.trace_types.specs.Parts.{by_number}
 use Rattle.trace_types.specs.Segments.{SegmentName}
 use Rattle.trace_types.specs.declared.named_trace.NamedTrace.{NamedTrace}
-use Rattle.weighted_dag.specs.Graphs.{Graph}
-
--- the graph under a model of words
-pub graph_told : (traces : List NamedTrace) (words : List ℕ) (names : ℕ) (m : ModelState) (t : NamedTrace) (order : List ℕ) (g : Graph) → m ≡ record { words = words; names = names } → AreSurvivors traces words
-    → ((ts : List NamedTrace) → AreSurvivors ts m.words → IsTraceGraph by_number ts t order g) → IsTraceGraph by_number traces t order g
-graph_told traces words names m t order g is tell told = told traces (subst (λ (n : ModelState). AreSurvivors traces n.words) (sym is) tell)
+use Rattle.weighted_dag.specs.Graphs.{Graph, IsGraph}
 
 -- each vertex has a weight, a segment and a name
-pub numbered_graph : (traces : List NamedTrace) (names : List SegmentName) (t : NamedTrace) (order : List ℕ) (g : Graph) → HaveNamesBelow (length names) t → IsTraceGraph by_number traces t order g → IsNumbered (record { names = names; trace = t; order = order; graph = g })
-numbered_graph traces names t order g below graph = record {
+pub numbered_graph : (traces : List NamedTrace) (names : List SegmentName) (t : NamedTrace) (order : List ℕ) (g : Graph) → HaveNamesBelow (length names) t → IsTraceGraph by_number traces t order g → IsGraph g → IsNumbered (record { names = names; trace = t; order = order; weights = g.weights })
+numbered_graph traces names t order g below graph form = record {
+  few = form.small;
   weighted = graph.count;
   placed = λ v d lt. (graph.vertices.all (get_or order v d)).0 (v, lt, get_or_from_slice_get order v (get_or order v d) (get_or order v d) (slice_get-get_or order v d lt));
   named = below;

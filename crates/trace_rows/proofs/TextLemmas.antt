@@ -1,5 +1,5 @@
 -- The rows of a trace by numbers are a text of the kept trace that it shows.
-use Rattle.std.proofs.Common.{◌≡◌, ℕ, zero, suc, ◌<◌, ◌++◌, ◌↔◌, List, [], ◌∷◌, length, get_or, slice_index, codes, decimal, refl, sym, ◌∙◌, ap, subst, zero-add, arith}
+use Rattle.std.proofs.Common.{◌≡◌, ℕ, zero, suc, ◌^◌, ◌<◌, ◌++◌, ◌↔◌, List, [], ◌∷◌, length, get_or, slice_index, codes, decimal, refl, sym, ◌∙◌, ap, subst, zero-add, arith}
 use Rattle.std.specs.List.{All, EachIndex, flat_map, range_with_len}
 use Rattle.std.proofs.lemmas.List.FromFn.{length-range_with_len, get_or-range_with_len}
 use Rattle.kept_books.specs.Shown.{AreShown, IsShown}
@@ -12,7 +12,7 @@ use Rattle.trace_graph.specs.TraceGraphs.{IsTraceGraph}
 use Rattle.trace_types.specs.Parts.{by_number}
 use Rattle.trace_types.specs.declared.named_trace.NamedTrace.{NamedTrace}
 use Rattle.kept_books.specs.GraphLaws.{GraphIsShown}
-use Rattle.trace_rows.specs.inner.NumberedGraphs.{IsNumbered, NumberedGraph, edge_row, edge_rows, graph_rows, name_row, named_row, path_rows, segment_row, slack_rows, step_row, vertex_row}
+use Rattle.trace_rows.specs.inner.NumberedTraces.{IsNumbered, NumberedTrace, edge_row, edge_rows, graph_rows, name_row, named_row, path_rows, segment_row, slack_rows, step_row, vertex_row}
 use Rattle.trace_rows.specs.inner.ShownTraces.{NamesAreShown, NumberedBook, traces_in}
 use Rattle.trace_rows.proofs.EdgeLemmas.{edge_rows_are}
 use Rattle.weighted_dag.specs.Chains.{IsChain, IsLongestLength, NoLongestIsBefore, NoneIsLonger, chain_length}
@@ -20,9 +20,13 @@ use Rattle.weighted_dag.specs.Graphs.{Graph, IsEdge, IsGraph, order_of, weight_o
 use Rattle.weighted_dag.specs.Reductions.{IsKeptEdge}
 use Rattle.weighted_dag.specs.Slacks.{IsSlack}
 
--- a graph with the names of a catalogue
-abbrev pub with_names : NamedTrace → List ℕ → Graph → Known → NumberedGraph
-with_names t order g known = record { names = known.names; trace = t; order = order; graph = g }
+-- the vertices of a graph with the names of a catalogue
+abbrev pub with_names : NamedTrace → List ℕ → List ℕ → Known → NumberedTrace
+with_names t order weights known = record { names = known.names; trace = t; order = order; weights = weights }
+
+pub same_names : (t : NamedTrace) (o order ws weights : List ℕ) (k known : Known) → o ≡ order → ws ≡ weights → k ≡ known → with_names t o ws k ≡ with_names t order weights known
+same_names t o order ws weights k known same_order same_weights same_known =
+    ap (λ x. with_names t x ws k) same_order ∙ (ap (λ x. with_names t order x k) same_weights ∙ ap (with_names t order weights) same_known)
 
 -- the vertices of a chain are vertices of the graph
 pub chain_within : (g : Graph) (n : ℕ) (chain : List ℕ) → order_of g ≡ n → IsChain g chain → All (λ v. v < n) chain
@@ -50,17 +54,17 @@ same_row word t k more request day latency =
     ∙ (ap (λ d. row_of (word ∷ k.trace.request ∷ decimal d ∷ decimal t.latency ∷ more)) day ∙ ap (λ l. row_of (word ∷ k.trace.request ∷ decimal k.trace.day ∷ decimal l ∷ more)) latency)
 
 module _ (b : NumberedBook) (t : NamedTrace) (order : List ℕ) (g : Graph) (graphs : GraphIsShown) (names : NamesAreShown) (fits : IsKept b.known) (form : IsGraph g)
-    (graph : IsTraceGraph by_number (traces_in b) t order g) (numbered : IsNumbered (record { names = b.known.names; trace = t; order = order; graph = g })) where
+    (graph : IsTraceGraph by_number (traces_in b) t order g) (numbered : IsNumbered (record { names = b.known.names; trace = t; order = order; weights = g.weights })) where
   -- a path
-  path_same : (k : Kept) (long : ℕ) (chain : List ℕ) → IsShown b.known t k → IsChain g chain → long ≡ chain_length g chain → path_rows (record { names = b.known.names; trace = t; order = order; graph = g }) long chain ≡ path_text k order g chain
+  path_same : (k : Kept) (long : ℕ) (chain : List ℕ) → IsShown b.known t k → IsChain g chain → long ≡ chain_length g chain → path_rows (record { names = b.known.names; trace = t; order = order; weights = g.weights }) long chain ≡ path_text k order g chain
   path_same k long chain shown is len =
-      ap (λ m. named_row (codes "path") t (decimal m ∷ decimal (length chain) ∷ []) ++ flat_map (step_row (record { names = b.known.names; trace = t; order = order; graph = g })) chain) len
-      ∙ (ap (λ r. r ++ flat_map (step_row (record { names = b.known.names; trace = t; order = order; graph = g })) chain) (same_row (codes "path") t k (decimal (chain_length g chain) ∷ decimal (length chain) ∷ []) shown.request shown.day shown.latency)
+      ap (λ m. named_row (codes "path") t (decimal m ∷ decimal (length chain) ∷ []) ++ flat_map (step_row (record { names = b.known.names; trace = t; order = order; weights = g.weights })) chain) len
+      ∙ (ap (λ r. r ++ flat_map (step_row (record { names = b.known.names; trace = t; order = order; weights = g.weights })) chain) (same_row (codes "path") t k (decimal (chain_length g chain) ∷ decimal (length chain) ∷ []) shown.request shown.day shown.latency)
       ∙ ap (λ rs. trace_row (codes "path") k (decimal (chain_length g chain) ∷ decimal (length chain) ∷ []) ++ rs)
-      (same_rows (λ v. v < length order) (step_row (record { names = b.known.names; trace = t; order = order; graph = g })) (λ v. name_row (codes "step" ∷ []) (name_at k order v) (decimal (weight_of g v) ∷ [])) chain (chain_within g (length order) chain numbered.weighted is)
-      (λ v lt. ap (λ name. name_row (codes "step" ∷ []) name (decimal (weight_of g v) ∷ [])) (names b.known k (record { names = b.known.names; trace = t; order = order; graph = g }) v refl numbered shown lt))))
+      (same_rows (λ v. v < length order) (step_row (record { names = b.known.names; trace = t; order = order; weights = g.weights })) (λ v. name_row (codes "step" ∷ []) (name_at k order v) (decimal (weight_of g v) ∷ [])) chain (chain_within g (length order) chain numbered.weighted is)
+      (λ v lt. ap (λ name. name_row (codes "step" ∷ []) name (decimal (weight_of g v) ∷ [])) (names b.known k (record { names = b.known.names; trace = t; order = order; weights = g.weights }) v refl numbered shown lt))))
 
-  pub path_shown : (n : NumberedGraph) (long : ℕ) (chain : List ℕ) → n ≡ record { names = b.known.names; trace = t; order = order; graph = g } → IsChain g chain → NoneIsLonger g (chain_length g chain) → NoLongestIsBefore g chain → long ≡ chain_length g chain
+  pub path_shown : (n : NumberedTrace) (long : ℕ) (chain : List ℕ) → n ≡ record { names = b.known.names; trace = t; order = order; weights = g.weights } → IsChain g chain → NoneIsLonger g (chain_length g chain) → NoLongestIsBefore g chain → long ≡ chain_length g chain
       → (kept : List Kept) (k : Kept) → AreShown b.known (traces_in b) kept → IsShown b.known t k → IsPathText kept k (path_rows n long chain)
   path_shown n long chain is chained longest first len kept k all shown = record {
     order = order;
@@ -73,14 +77,14 @@ module _ (b : NumberedBook) (t : NamedTrace) (order : List ℕ) (g : Graph) (gra
   }
 
   -- slacks
-  slack_same : (k : Kept) (longest : ℕ) (slacks : List ℕ) → IsShown b.known t k → slack_rows (record { names = b.known.names; trace = t; order = order; graph = g }) longest slacks ≡ slack_text k order g longest slacks
+  slack_same : (k : Kept) (longest : ℕ) (slacks : List ℕ) → IsShown b.known t k → slack_rows (record { names = b.known.names; trace = t; order = order; weights = g.weights }) longest slacks ≡ slack_text k order g longest slacks
   slack_same k longest slacks shown =
-      ap (λ r. r ++ flat_map (segment_row (record { names = b.known.names; trace = t; order = order; graph = g }) slacks) (range_with_len 0 (order_of g))) (same_row (codes "trace") t k (decimal longest ∷ []) shown.request shown.day shown.latency)
+      ap (λ r. r ++ flat_map (segment_row (record { names = b.known.names; trace = t; order = order; weights = g.weights }) slacks) (range_with_len 0 (order_of g))) (same_row (codes "trace") t k (decimal longest ∷ []) shown.request shown.day shown.latency)
       ∙ ap (λ rs. trace_row (codes "trace") k (decimal longest ∷ []) ++ rs)
-      (same_rows (λ v. v < order_of g) (segment_row (record { names = b.known.names; trace = t; order = order; graph = g }) slacks) (λ v. name_row (codes "segment" ∷ []) (name_at k order v) (decimal (weight_of g v) ∷ decimal (slice_index slacks v) ∷ [])) (range_with_len 0 (order_of g)) (range_within (order_of g))
-      (λ v lt. ap (λ name. name_row (codes "segment" ∷ []) name (decimal (weight_of g v) ∷ decimal (slice_index slacks v) ∷ [])) (names b.known k (record { names = b.known.names; trace = t; order = order; graph = g }) v refl numbered shown (subst (λ m. v < m) numbered.weighted lt))))
+      (same_rows (λ v. v < order_of g) (segment_row (record { names = b.known.names; trace = t; order = order; weights = g.weights }) slacks) (λ v. name_row (codes "segment" ∷ []) (name_at k order v) (decimal (weight_of g v) ∷ decimal (slice_index slacks v) ∷ [])) (range_with_len 0 (order_of g)) (range_within (order_of g))
+      (λ v lt. ap (λ name. name_row (codes "segment" ∷ []) name (decimal (weight_of g v) ∷ decimal (slice_index slacks v) ∷ [])) (names b.known k (record { names = b.known.names; trace = t; order = order; weights = g.weights }) v refl numbered shown (subst (λ m. v < m) numbered.weighted lt))))
 
-  pub slack_shown : (n : NumberedGraph) (longest : ℕ) (slacks : List ℕ) → n ≡ record { names = b.known.names; trace = t; order = order; graph = g } → IsLongestLength g longest → EachIndex g.weights (λ v. IsSlack g v (slice_index slacks v))
+  pub slack_shown : (n : NumberedTrace) (longest : ℕ) (slacks : List ℕ) → n ≡ record { names = b.known.names; trace = t; order = order; weights = g.weights } → IsLongestLength g longest → EachIndex g.weights (λ v. IsSlack g v (slice_index slacks v))
       → (kept : List Kept) (k : Kept) → AreShown b.known (traces_in b) kept → IsShown b.known t k → IsSlackText kept k (slack_rows n longest slacks)
   slack_shown n longest slacks is long each kept k all shown = record {
     order = order;
@@ -94,19 +98,19 @@ module _ (b : NumberedBook) (t : NamedTrace) (order : List ℕ) (g : Graph) (gra
   }
 
   -- a reduced graph
-  reduced_numbered : (h : Graph) → h.weights ≡ g.weights → IsNumbered (record { names = b.known.names; trace = t; order = order; graph = h })
-  reduced_numbered h same = record { weighted = ap length same ∙ numbered.weighted; placed = numbered.placed; named = numbered.named }
+  reduced_numbered : (h : Graph) → h.weights ≡ g.weights → IsNumbered (record { names = b.known.names; trace = t; order = order; weights = h.weights })
+  reduced_numbered h same = record { few = subst (λ (ws : List ℕ). length ws < 2 ^ 32) (sym same) numbered.few; weighted = ap length same ∙ numbered.weighted; placed = numbered.placed; named = numbered.named }
 
-  graph_same : (h : Graph) (k : Kept) → IsShown b.known t k → h.weights ≡ g.weights → graph_rows (record { names = b.known.names; trace = t; order = order; graph = h }) ≡ graph_text k order h
+  graph_same : (h : Graph) (k : Kept) → IsShown b.known t k → h.weights ≡ g.weights → graph_rows (record { names = b.known.names; trace = t; order = order; weights = h.weights }) h ≡ graph_text k order h
   graph_same h k shown same =
-      ap (λ r. r ++ (flat_map (vertex_row (record { names = b.known.names; trace = t; order = order; graph = h })) (range_with_len 0 (order_of h)) ++ flat_map (edge_rows (record { names = b.known.names; trace = t; order = order; graph = h })) (range_with_len 0 (order_of h)))) (same_row (codes "trace") t k (decimal (order_of h) ∷ decimal (length (edges_of h)) ∷ []) shown.request shown.day shown.latency)
-      ∙ (ap (λ rs. trace_row (codes "trace") k (decimal (order_of h) ∷ decimal (length (edges_of h)) ∷ []) ++ (rs ++ flat_map (edge_rows (record { names = b.known.names; trace = t; order = order; graph = h })) (range_with_len 0 (order_of h))))
-      (same_rows (λ v. v < order_of h) (vertex_row (record { names = b.known.names; trace = t; order = order; graph = h })) (λ v. name_row (codes "vertex" ∷ decimal v ∷ []) (name_at k order v) (decimal (weight_of h v) ∷ [])) (range_with_len 0 (order_of h)) (range_within (order_of h))
-      (λ v lt. ap (λ name. name_row (codes "vertex" ∷ decimal v ∷ []) name (decimal (weight_of h v) ∷ [])) (names b.known k (record { names = b.known.names; trace = t; order = order; graph = h }) v refl (reduced_numbered h same) shown (subst (λ m. v < m) (ap length same ∙ numbered.weighted) lt))))
+      ap (λ r. r ++ (flat_map (vertex_row (record { names = b.known.names; trace = t; order = order; weights = h.weights })) (range_with_len 0 (order_of h)) ++ flat_map (edge_rows h) (range_with_len 0 (order_of h)))) (same_row (codes "trace") t k (decimal (order_of h) ∷ decimal (length (edges_of h)) ∷ []) shown.request shown.day shown.latency)
+      ∙ (ap (λ rs. trace_row (codes "trace") k (decimal (order_of h) ∷ decimal (length (edges_of h)) ∷ []) ++ (rs ++ flat_map (edge_rows h) (range_with_len 0 (order_of h))))
+      (same_rows (λ v. v < order_of h) (vertex_row (record { names = b.known.names; trace = t; order = order; weights = h.weights })) (λ v. name_row (codes "vertex" ∷ decimal v ∷ []) (name_at k order v) (decimal (weight_of h v) ∷ [])) (range_with_len 0 (order_of h)) (range_within (order_of h))
+      (λ v lt. ap (λ name. name_row (codes "vertex" ∷ decimal v ∷ []) name (decimal (weight_of h v) ∷ [])) (names b.known k (record { names = b.known.names; trace = t; order = order; weights = h.weights }) v refl (reduced_numbered h same) shown (subst (λ m. v < m) (ap length same ∙ numbered.weighted) lt))))
       ∙ ap (λ rs. trace_row (codes "trace") k (decimal (order_of h) ∷ decimal (length (edges_of h)) ∷ []) ++ (flat_map (λ v. name_row (codes "vertex" ∷ decimal v ∷ []) (name_at k order v) (decimal (weight_of h v) ∷ [])) (range_with_len 0 (order_of h)) ++ rs)) (edge_rows_are (λ (e : ℕ × ℕ). edge_row e.0 e.1) h))
 
-  pub graph_shown : (n : NumberedGraph) (h : Graph) → n ≡ record { names = b.known.names; trace = t; order = order; graph = h } → IsGraph h → h.weights ≡ g.weights → ((v w : ℕ) → IsEdge h v w ↔ IsKeptEdge g v w)
-      → (kept : List Kept) (k : Kept) → AreShown b.known (traces_in b) kept → IsShown b.known t k → IsGraphText kept k (graph_rows n)
+  pub graph_shown : (n : NumberedTrace) (h : Graph) → n ≡ record { names = b.known.names; trace = t; order = order; weights = h.weights } → IsGraph h → h.weights ≡ g.weights → ((v w : ℕ) → IsEdge h v w ↔ IsKeptEdge g v w)
+      → (kept : List Kept) (k : Kept) → AreShown b.known (traces_in b) kept → IsShown b.known t k → IsGraphText kept k (graph_rows n h)
   graph_shown n h is keeps same edges kept k all shown = record {
     order = order;
     graph = g;
@@ -115,5 +119,5 @@ module _ (b : NumberedBook) (t : NamedTrace) (order : List ℕ) (g : Graph) (gra
     keeps = keeps;
     weights = same;
     edges = edges;
-    text = ap graph_rows is ∙ graph_same h k shown same;
+    text = ap (λ m. graph_rows m h) is ∙ graph_same h k shown same;
   }

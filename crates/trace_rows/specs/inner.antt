@@ -1,4 +1,5 @@
 -- What private contracts alone cite.
 pub mod ComputedParts
-pub mod NumberedGraphs
+pub mod NumberedTraces
+pub mod PreparedBooks
 pub mod ShownTraces

@@ -5,7 +5,7 @@ ghost use Rattle.std.specs.Prelude.{◌<◌, ◌≤◌, length};
 use trace_types::NamedTrace;
 
 /// How much the traces of a chunk cost together, at most, unless one alone costs more.
-const CHUNK_COST: u64 = 4_000_000;
+const CHUNK_COST: u64 = 32_000_000;
 
 /// How much a piece of a chunk costs that is worth a thread of its own.
 const PIECE_COST: u64 = 250_000;

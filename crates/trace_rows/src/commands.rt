@@ -75,8 +75,8 @@ fn print_whole<R: Threads + Sync, S: Sink, K: TraceTexts>(
 /// the traces were taken. Times are in nanoseconds.
 ///
 /// Graphs are made by all processors, a chunk of traces at a time, and what is told of a chunk is
-/// printed before the next is made. After an error a prefix of the text was
-/// printed, and nothing is said of the buffer.
+/// printed before the next is made. After an error a prefix of the text was printed, and nothing is
+/// said of the buffer.
 pub fn print_paths<R: Threads + Sync, S: Sink>(
     rt: &R,
     alloc: Global,

@@ -4,13 +4,13 @@ ghost use Rattle.session_rules.specs.Parts.{GraphOf};
 ghost use Rattle.session_rules.specs.TraceTexts.{edges_of};
 ghost use Rattle.text_rows.specs.Printing.{PrintsText};
 ghost use Rattle.trace_rows.specs.inner.ComputedParts.{IsReducedUnderBook};
-ghost use Rattle.trace_rows.specs.inner.NumberedGraphs.{edge_row, edge_rows, graph_rows};
-ghost use Rattle.trace_rows.specs.inner.NumberedGraphs.{named_row, vertex_row};
+ghost use Rattle.trace_rows.specs.inner.NumberedTraces.{edge_row, edge_rows, graph_rows};
+ghost use Rattle.trace_rows.specs.inner.NumberedTraces.{named_row, vertex_row};
 ghost use Rattle.weighted_dag.specs.Graphs.{order_of};
 
 use crate::laws::names_are_shown;
-use crate::numbered_book::NumberedBook;
-use crate::numbered_graph::NumberedGraph;
+use crate::numbered_trace::NumberedTrace;
+use crate::prepared_book::PreparedBook;
 use crate::trace_texts::TraceTexts;
 use crate::vertex_rows::{VertexRows, print_first};
 use kept_books::laws::graph_is_shown;
@@ -21,7 +21,7 @@ use text_rows::laws::{calls_follow, part_calls_follow};
 use text_rows::{Field, PrintFault, RowBuffer, Rows, print_row, print_rows};
 use trace_graph::OrderedGraph;
 use trace_types::NamedTrace;
-use weighted_dag::reduce;
+use weighted_dag::{Dag, reduce};
 
 /// The reduced graphs of traces.
 #[derive(Clone, Copy)]
@@ -30,13 +30,13 @@ pub(crate) struct GraphTexts;
 /// The vertices of a graph.
 #[derive(Drop)]
 struct NumberRows<'a> {
-    graph: &'a NumberedGraph<'a>,
+    trace: &'a NumberedTrace<'a>,
 }
 
 /// The edges of a graph, by the vertex that they begin with.
 #[derive(Drop)]
 struct EdgeRows<'a> {
-    graph: &'a NumberedGraph<'a>,
+    graph: &'a Dag,
 }
 
 /// The edges that begin with one vertex, by the vertex that they lead to.
@@ -46,9 +46,9 @@ struct EdgesFrom {
 }
 
 impl VertexRows for NumberRows<'_> {
-    ghost text = { λ rows v. vertex_row rows.graph.now v };
+    ghost text = { λ rows v. vertex_row rows.trace.now v };
 
-    ghost has = { λ rows v. v < length rows.graph.now.order };
+    ghost has = { λ rows v. v < length rows.trace.now.order };
 
     fn print<S: Sink>(
         &self,
@@ -56,7 +56,7 @@ impl VertexRows for NumberRows<'_> {
         buffer: &mut RowBuffer,
         vertex: u32,
     ) -> Result<(), PrintFault> {
-        let name = self.graph.name(vertex);
+        let name = self.trace.name(vertex);
         print_row(
             sink,
             buffer,
@@ -66,7 +66,7 @@ impl VertexRows for NumberRows<'_> {
                 Field::Word(name.task.as_str()),
                 Field::Word(name.start.as_str()),
                 Field::Word(name.end.as_str()),
-                Field::Number(u128::from(self.graph.weights()[vertex as usize])),
+                Field::Number(u128::from(self.trace.weights()[vertex as usize])),
             ],
         )
     }
@@ -98,7 +98,7 @@ impl Rows for EdgesFrom {
 impl VertexRows for EdgeRows<'_> {
     ghost text = { λ rows v. edge_rows rows.graph.now v };
 
-    ghost has = { λ rows v. v < length rows.graph.now.order };
+    ghost has = { λ rows v. v < order_of rows.graph.now };
 
     fn print<S: Sink>(
         &self,
@@ -112,11 +112,11 @@ impl VertexRows for EdgeRows<'_> {
 }
 
 /// Counts the edges of a graph.
-fn count_edges(graph: &NumberedGraph<'_>) -> u128
-    ensures { result ≡ length (edges_of graph.now.graph) }
+fn count_edges(graph: &Dag) -> u128
+    ensures { result ≡ length (edges_of graph.now) }
 {
     let mut count = 0;
-    for vertex in 0..graph.count() {
+    for vertex in 0..graph.weights().len() as u32 {
         count += graph.successors(vertex).len() as u128;
     }
     count
@@ -126,13 +126,14 @@ fn count_edges(graph: &NumberedGraph<'_>) -> u128
 fn print_counts_row<S: Sink>(
     sink: &mut S,
     buffer: &mut RowBuffer,
-    graph: &NumberedGraph<'_>,
+    numbered: &NumberedTrace<'_>,
+    graph: &Dag,
 ) -> Result<(), PrintFault>
     ensures { PrintsText S.written S.faults result sink.old sink.new buffer.old buffer.new
-        (named_row (codes "trace") graph.now.trace
-        (decimal (order_of graph.now.graph) ∷ decimal (length (edges_of graph.now.graph)) ∷ [])) }
+        (named_row (codes "trace") numbered.now.trace
+        (decimal (order_of graph.now) ∷ decimal (length (edges_of graph.now)) ∷ [])) }
 {
-    let trace = graph.trace();
+    let trace = numbered.trace();
     print_row(
         sink,
         buffer,
@@ -141,7 +142,7 @@ fn print_counts_row<S: Sink>(
             Field::Word(trace.request.as_str()),
             Field::Number(u128::from(trace.day)),
             Field::Number(u128::from(trace.latency)),
-            Field::Number(u128::from(graph.count())),
+            Field::Number(graph.weights().len() as u128),
             Field::Number(count_edges(graph)),
         ],
     )
@@ -151,15 +152,17 @@ fn print_counts_row<S: Sink>(
 fn print_parts_of_graph<S: Sink>(
     sink: &mut S,
     buffer: &mut RowBuffer,
-    graph: &NumberedGraph<'_>,
+    numbered: &NumberedTrace<'_>,
+    graph: &Dag,
 ) -> Result<(), PrintFault>
+    requires { graph.now.weights ≡ numbered.now.weights }
     ensures { PrintsText S.written S.faults result sink.old sink.new buffer.old buffer.new
-        (flat_map (vertex_row graph.now) (range_with_len 0 (order_of graph.now.graph))
-        ++ flat_map (edge_rows graph.now) (range_with_len 0 (order_of graph.now.graph))) }
+        (flat_map (vertex_row numbered.now) (range_with_len 0 (order_of graph.now))
+        ++ flat_map (edge_rows graph.now) (range_with_len 0 (order_of graph.now))) }
 {
     calls_follow::<S>();
-    let count = graph.count();
-    print_first(sink, buffer, &NumberRows { graph }, count)?;
+    let count = numbered.count();
+    print_first(sink, buffer, &NumberRows { trace: numbered }, count)?;
     print_first(sink, buffer, &EdgeRows { graph }, count)
 }
 
@@ -167,14 +170,16 @@ fn print_parts_of_graph<S: Sink>(
 fn print_graph<S: Sink>(
     sink: &mut S,
     buffer: &mut RowBuffer,
-    graph: &NumberedGraph<'_>,
+    numbered: &NumberedTrace<'_>,
+    graph: &Dag,
 ) -> Result<(), PrintFault>
+    requires { graph.now.weights ≡ numbered.now.weights }
     ensures { PrintsText S.written S.faults result sink.old sink.new buffer.old buffer.new
-        (graph_rows graph.now) }
+        (graph_rows numbered.now graph.now) }
 {
     calls_follow::<S>();
-    print_counts_row(sink, buffer, graph)?;
-    print_parts_of_graph(sink, buffer, graph)
+    print_counts_row(sink, buffer, numbered, graph)?;
+    print_parts_of_graph(sink, buffer, numbered, graph)
 }
 
 impl TraceTexts for GraphTexts {
@@ -187,7 +192,7 @@ impl TraceTexts for GraphTexts {
     fn compute(
         &self,
         alloc: Global,
-        book: &NumberedBook<'_>,
+        book: &PreparedBook<'_>,
         trace: &NamedTrace,
     ) -> Result<OrderedGraph, AllocError> {
         let OrderedGraph { order, dag } = book.graph_of(alloc, trace)?;
@@ -200,7 +205,7 @@ impl TraceTexts for GraphTexts {
 
     fn print<S: Sink>(
         &self,
-        book: &NumberedBook<'_>,
+        book: &PreparedBook<'_>,
         trace: &NamedTrace,
         computed: &OrderedGraph,
         sink: &mut S,
@@ -209,7 +214,12 @@ impl TraceTexts for GraphTexts {
         graph_is_shown();
         names_are_shown();
         part_calls_follow::<S, SessionPart>();
-        let numbered = NumberedGraph::new(book.catalogue(), trace, computed);
-        print_graph(sink, buffer, &numbered)
+        let numbered = NumberedTrace::new(
+            book.catalogue(),
+            trace,
+            computed.order.items(),
+            computed.dag.weights(),
+        );
+        print_graph(sink, buffer, &numbered, &computed.dag)
     }
 }

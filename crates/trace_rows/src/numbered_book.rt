@@ -1,8 +1,7 @@
 use day_partitions::DayBook;
-use model_meet::Model;
+use model_meet::{Exclusions, Model};
 use segment_names::Catalogue;
 use std::alloc::{AllocError, Global};
-use trace_graph::{OrderedGraph, graph};
 use trace_paths::kept_traces;
 use trace_types::NamedTrace;
 
@@ -31,12 +30,9 @@ impl<'a> NumberedBook<'a> {
     ghost use Rattle.std.specs.Option.{option_map};
     ghost use Rattle.refute_tests.specs.Clearing.{HaveNamesBelow};
     ghost use Rattle.segment_names.specs.Limits.{IsKept};
-    ghost use Rattle.trace_graph.specs.TraceGraphs.{IsTraceGraph};
-    ghost use Rattle.trace_rows.specs.inner.NumberedGraphs.{IsNumbered};
+    ghost use Rattle.trace_rows.specs.inner.PreparedBooks.{AreExclusionsOf};
     ghost use Rattle.trace_rows.specs.inner.ShownTraces.{traces_in};
-    ghost use Rattle.trace_types.specs.Parts.{by_number};
     ghost use Rattle.trace_types.specs.declared.named_trace.NamedTrace.{NamedTrace};
-    ghost use Rattle.weighted_dag.specs.Graphs.{IsGraph};
 
     /// Lends a book and the catalogue of its names. It takes no memory.
     pub(crate) fn new(book: &'a DayBook, catalogue: &'a Catalogue) -> NumberedBook<'a>
@@ -84,27 +80,11 @@ impl<'a> NumberedBook<'a> {
         kept_traces(alloc, self.book)
     }
 
-    /// Makes the graph of a trace under what the traces of the book leave. The only error is that
-    /// memory ran out.
-    pub(crate) fn graph_of(
-        &self,
-        alloc: Global,
-        trace: &NamedTrace,
-    ) -> Result<OrderedGraph, AllocError>
-        requires { HaveNamesBelow (length self.now.known.names) trace.now }
-        ensures graph { IfOk result (λ g.
-            IsTraceGraph by_number (traces_in self.now) trace.now g.order g.dag) }
-        ensures numbered { IfOk result (λ g. IsNumbered (record {
-          names = self.now.known.names;
-          trace = trace.now;
-          order = g.order;
-          graph = g.dag;
-        })) }
-        ensures form { IfOk result (λ g. IsGraph g.dag) }
+    /// Lists the mutual exclusions that the traces leave. The only error is that memory ran out.
+    pub(crate) fn exclusions(&self, alloc: Global) -> Result<Exclusions<'_>, AllocError>
+        ensures { IfOk result (AreExclusionsOf self.now) }
     {
         let model = Model::new(self.book.words(), self.catalogue.names());
-        let made = graph(alloc, trace, &model)?;
-        let _weights = made.dag.weights();
-        Ok(made)
+        Exclusions::of(alloc, &model)
     }
 }

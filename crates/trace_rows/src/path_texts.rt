@@ -3,11 +3,11 @@ ghost use Rattle.std.specs.List.{All};
 ghost use Rattle.session_rules.specs.Parts.{PathOf};
 ghost use Rattle.text_rows.specs.Printing.{PrintsText};
 ghost use Rattle.trace_rows.specs.inner.ComputedParts.{IsPathUnderBook};
-ghost use Rattle.trace_rows.specs.inner.NumberedGraphs.{named_row, path_rows, step_row};
+ghost use Rattle.trace_rows.specs.inner.NumberedTraces.{named_row, path_rows, step_row};
 
 use crate::laws::names_are_shown;
-use crate::numbered_book::NumberedBook;
-use crate::numbered_graph::NumberedGraph;
+use crate::numbered_trace::NumberedTrace;
+use crate::prepared_book::PreparedBook;
 use crate::trace_texts::TraceTexts;
 use crate::vertex_rows::{VertexRows, print_chain};
 use critical_path::{Chain, critical};
@@ -19,28 +19,30 @@ use text_rows::laws::{calls_follow, part_calls_follow};
 use text_rows::{Field, PrintFault, RowBuffer, print_row};
 use trace_graph::OrderedGraph;
 use trace_types::NamedTrace;
+use weighted_dag::NumberList;
 
 /// The critical paths of traces.
 #[derive(Clone, Copy)]
 pub(crate) struct PathTexts;
 
-/// The graph of a trace and its critical path.
+/// The critical path of a trace, and its graph without the edges.
 #[derive(Drop)]
 pub(crate) struct TracePath {
-    graph: OrderedGraph,
+    order: NumberList,
+    weights: Vec<u64>,
     chain: Chain,
 }
 
 /// The steps of a path.
 #[derive(Drop)]
 struct StepRows<'a> {
-    graph: &'a NumberedGraph<'a>,
+    trace: &'a NumberedTrace<'a>,
 }
 
 impl VertexRows for StepRows<'_> {
-    ghost text = { λ rows v. step_row rows.graph.now v };
+    ghost text = { λ rows v. step_row rows.trace.now v };
 
-    ghost has = { λ rows v. v < length rows.graph.now.order };
+    ghost has = { λ rows v. v < length rows.trace.now.order };
 
     fn print<S: Sink>(
         &self,
@@ -48,7 +50,7 @@ impl VertexRows for StepRows<'_> {
         buffer: &mut RowBuffer,
         vertex: u32,
     ) -> Result<(), PrintFault> {
-        let name = self.graph.name(vertex);
+        let name = self.trace.name(vertex);
         print_row(
             sink,
             buffer,
@@ -57,7 +59,7 @@ impl VertexRows for StepRows<'_> {
                 Field::Word(name.task.as_str()),
                 Field::Word(name.start.as_str()),
                 Field::Word(name.end.as_str()),
-                Field::Number(u128::from(self.graph.weights()[vertex as usize])),
+                Field::Number(u128::from(self.trace.weights()[vertex as usize])),
             ],
         )
     }
@@ -67,14 +69,14 @@ impl VertexRows for StepRows<'_> {
 fn print_path_row<S: Sink>(
     sink: &mut S,
     buffer: &mut RowBuffer,
-    graph: &NumberedGraph<'_>,
+    numbered: &NumberedTrace<'_>,
     chain: &Chain,
 ) -> Result<(), PrintFault>
     ensures { PrintsText S.written S.faults result sink.old sink.new buffer.old buffer.new
-        (named_row (codes "path") graph.now.trace
+        (named_row (codes "path") numbered.now.trace
         (decimal chain.now.length ∷ decimal (length chain.now.vertices) ∷ [])) }
 {
-    let trace = graph.trace();
+    let trace = numbered.trace();
     print_row(
         sink,
         buffer,
@@ -93,16 +95,21 @@ fn print_path_row<S: Sink>(
 fn print_path<S: Sink>(
     sink: &mut S,
     buffer: &mut RowBuffer,
-    graph: &NumberedGraph<'_>,
+    numbered: &NumberedTrace<'_>,
     chain: &Chain,
 ) -> Result<(), PrintFault>
-    requires { All (λ v. v < length graph.now.order) chain.now.vertices }
+    requires { All (λ v. v < length numbered.now.order) chain.now.vertices }
     ensures { PrintsText S.written S.faults result sink.old sink.new buffer.old buffer.new
-        (path_rows graph.now chain.now.length chain.now.vertices) }
+        (path_rows numbered.now chain.now.length chain.now.vertices) }
 {
     calls_follow::<S>();
-    print_path_row(sink, buffer, graph, chain)?;
-    print_chain(sink, buffer, &StepRows { graph }, chain.vertices.items())
+    print_path_row(sink, buffer, numbered, chain)?;
+    print_chain(
+        sink,
+        buffer,
+        &StepRows { trace: numbered },
+        chain.vertices.items(),
+    )
 }
 
 impl TraceTexts for PathTexts {
@@ -111,22 +118,27 @@ impl TraceTexts for PathTexts {
     ghost part = { λ _ kept k. PathOf kept k };
 
     ghost computes = { λ _ b t path.
-        IsPathUnderBook b t path.graph.order path.graph.dag path.chain.length path.chain.vertices };
+        IsPathUnderBook b t path.order path.weights.items path.chain.length path.chain.vertices };
 
     fn compute(
         &self,
         alloc: Global,
-        book: &NumberedBook<'_>,
+        book: &PreparedBook<'_>,
         trace: &NamedTrace,
     ) -> Result<TracePath, AllocError> {
-        let graph = book.graph_of(alloc, trace)?;
-        let chain = critical(alloc, &graph.dag)?;
-        Ok(TracePath { graph, chain })
+        let OrderedGraph { order, dag } = book.graph_of(alloc, trace)?;
+        let chain = critical(alloc, &dag)?;
+        let weights = Vec::from_slice(alloc, dag.weights())?;
+        Ok(TracePath {
+            order,
+            weights,
+            chain,
+        })
     }
 
     fn print<S: Sink>(
         &self,
-        book: &NumberedBook<'_>,
+        book: &PreparedBook<'_>,
         trace: &NamedTrace,
         computed: &TracePath,
         sink: &mut S,
@@ -135,7 +147,12 @@ impl TraceTexts for PathTexts {
         graph_is_shown();
         names_are_shown();
         part_calls_follow::<S, SessionPart>();
-        let numbered = NumberedGraph::new(book.catalogue(), trace, &computed.graph);
+        let numbered = NumberedTrace::new(
+            book.catalogue(),
+            trace,
+            computed.order.items(),
+            computed.weights.as_slice(),
+        );
         print_path(sink, buffer, &numbered, &computed.chain)
     }
 }

@@ -2,11 +2,11 @@ ghost use Rattle.std.specs.Prelude.{◌≡◌, ◌<◌, [], ◌∷◌, codes, de
 ghost use Rattle.session_rules.specs.Parts.{SlacksOf};
 ghost use Rattle.text_rows.specs.Printing.{PrintsText};
 ghost use Rattle.trace_rows.specs.inner.ComputedParts.{AreSlacksUnderBook};
-ghost use Rattle.trace_rows.specs.inner.NumberedGraphs.{named_row, segment_row, slack_rows};
+ghost use Rattle.trace_rows.specs.inner.NumberedTraces.{named_row, segment_row, slack_rows};
 
 use crate::laws::names_are_shown;
-use crate::numbered_book::NumberedBook;
-use crate::numbered_graph::NumberedGraph;
+use crate::numbered_trace::NumberedTrace;
+use crate::prepared_book::PreparedBook;
 use crate::trace_texts::TraceTexts;
 use crate::vertex_rows::{VertexRows, print_first};
 use kept_books::laws::graph_is_shown;
@@ -18,29 +18,31 @@ use text_rows::laws::{calls_follow, part_calls_follow};
 use text_rows::{Field, PrintFault, RowBuffer, print_row};
 use trace_graph::OrderedGraph;
 use trace_types::NamedTrace;
+use weighted_dag::NumberList;
 
 /// The slacks of traces.
 #[derive(Clone, Copy)]
 pub(crate) struct SlackTexts;
 
-/// The graph of a trace, its longest length and its slacks.
+/// The longest length of a trace's graph and its slacks, and the graph without the edges.
 #[derive(Drop)]
 pub(crate) struct TraceSlacks {
-    graph: OrderedGraph,
+    order: NumberList,
+    weights: Vec<u64>,
     table: SlackTable,
 }
 
 /// The segments of a trace with their slacks.
 #[derive(Drop)]
 struct SegmentRows<'a> {
-    graph: &'a NumberedGraph<'a>,
+    trace: &'a NumberedTrace<'a>,
     slacks: &'a [u128],
 }
 
 impl VertexRows for SegmentRows<'_> {
-    ghost text = { λ rows v. segment_row rows.graph.now rows.slacks.now v };
+    ghost text = { λ rows v. segment_row rows.trace.now rows.slacks.now v };
 
-    ghost has = { λ rows v. (v < length rows.graph.now.order) × (v < length rows.slacks.now) };
+    ghost has = { λ rows v. (v < length rows.trace.now.order) × (v < length rows.slacks.now) };
 
     fn print<S: Sink>(
         &self,
@@ -48,7 +50,7 @@ impl VertexRows for SegmentRows<'_> {
         buffer: &mut RowBuffer,
         vertex: u32,
     ) -> Result<(), PrintFault> {
-        let name = self.graph.name(vertex);
+        let name = self.trace.name(vertex);
         print_row(
             sink,
             buffer,
@@ -57,7 +59,7 @@ impl VertexRows for SegmentRows<'_> {
                 Field::Word(name.task.as_str()),
                 Field::Word(name.start.as_str()),
                 Field::Word(name.end.as_str()),
-                Field::Number(u128::from(self.graph.weights()[vertex as usize])),
+                Field::Number(u128::from(self.trace.weights()[vertex as usize])),
                 Field::Number(self.slacks[vertex as usize]),
             ],
         )
@@ -68,13 +70,13 @@ impl VertexRows for SegmentRows<'_> {
 fn print_length_row<S: Sink>(
     sink: &mut S,
     buffer: &mut RowBuffer,
-    graph: &NumberedGraph<'_>,
+    numbered: &NumberedTrace<'_>,
     longest: u128,
 ) -> Result<(), PrintFault>
     ensures { PrintsText S.written S.faults result sink.old sink.new buffer.old buffer.new
-        (named_row (codes "trace") graph.now.trace (decimal longest ∷ [])) }
+        (named_row (codes "trace") numbered.now.trace (decimal longest ∷ [])) }
 {
-    let trace = graph.trace();
+    let trace = numbered.trace();
     print_row(
         sink,
         buffer,
@@ -92,17 +94,21 @@ fn print_length_row<S: Sink>(
 fn print_table<S: Sink>(
     sink: &mut S,
     buffer: &mut RowBuffer,
-    graph: &NumberedGraph<'_>,
+    numbered: &NumberedTrace<'_>,
     table: &SlackTable,
 ) -> Result<(), PrintFault>
-    requires { length table.now.slacks.items ≡ length graph.now.order }
+    requires { length table.now.slacks.items ≡ length numbered.now.order }
     ensures { PrintsText S.written S.faults result sink.old sink.new buffer.old buffer.new
-        (slack_rows graph.now table.now.longest table.now.slacks.items) }
+        (slack_rows numbered.now table.now.longest table.now.slacks.items) }
 {
     calls_follow::<S>();
-    print_length_row(sink, buffer, graph, table.longest)?;
+    print_length_row(sink, buffer, numbered, table.longest)?;
     let slacks = table.slacks.as_slice();
-    print_first(sink, buffer, &SegmentRows { graph, slacks }, graph.count())
+    let rows = SegmentRows {
+        trace: numbered,
+        slacks,
+    };
+    print_first(sink, buffer, &rows, numbered.count())
 }
 
 impl TraceTexts for SlackTexts {
@@ -110,23 +116,28 @@ impl TraceTexts for SlackTexts {
 
     ghost part = { λ _ kept k. SlacksOf kept k };
 
-    ghost computes = { λ _ b t slacks. AreSlacksUnderBook b t slacks.graph.order slacks.graph.dag
+    ghost computes = { λ _ b t slacks. AreSlacksUnderBook b t slacks.order slacks.weights.items
         slacks.table.longest slacks.table.slacks.items };
 
     fn compute(
         &self,
         alloc: Global,
-        book: &NumberedBook<'_>,
+        book: &PreparedBook<'_>,
         trace: &NamedTrace,
     ) -> Result<TraceSlacks, AllocError> {
-        let graph = book.graph_of(alloc, trace)?;
-        let table = longest_and_slacks(alloc, &graph.dag)?;
-        Ok(TraceSlacks { graph, table })
+        let OrderedGraph { order, dag } = book.graph_of(alloc, trace)?;
+        let table = longest_and_slacks(alloc, &dag)?;
+        let weights = Vec::from_slice(alloc, dag.weights())?;
+        Ok(TraceSlacks {
+            order,
+            weights,
+            table,
+        })
     }
 
     fn print<S: Sink>(
         &self,
-        book: &NumberedBook<'_>,
+        book: &PreparedBook<'_>,
         trace: &NamedTrace,
         computed: &TraceSlacks,
         sink: &mut S,
@@ -135,7 +146,12 @@ impl TraceTexts for SlackTexts {
         graph_is_shown();
         names_are_shown();
         part_calls_follow::<S, SessionPart>();
-        let numbered = NumberedGraph::new(book.catalogue(), trace, &computed.graph);
+        let numbered = NumberedTrace::new(
+            book.catalogue(),
+            trace,
+            computed.order.items(),
+            computed.weights.as_slice(),
+        );
         print_table(sink, buffer, &numbered, &computed.table)
     }
 }

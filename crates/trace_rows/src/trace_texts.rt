@@ -11,6 +11,7 @@ ghost use Rattle.trace_types.specs.declared.named_trace.NamedTrace.{NamedTrace};
 
 use crate::chunks::{chunk_length, least_piece};
 use crate::numbered_book::NumberedBook;
+use crate::prepared_book::PreparedBook;
 use mystery_io::Sink;
 use rayon::prelude::*;
 use session_rules::SessionPart;
@@ -36,7 +37,7 @@ pub(crate) trait TraceTexts: Sync {
     fn compute(
         &self,
         alloc: Global,
-        book: &NumberedBook<'_>,
+        book: &PreparedBook<'_>,
         trace: &NamedTrace,
     ) -> Result<Self::Computed, AllocError>
         requires { HaveNamesBelow (length book.now.known.names) trace.now }
@@ -46,7 +47,7 @@ pub(crate) trait TraceTexts: Sync {
     /// text.
     fn print<S: Sink>(
         &self,
-        book: &NumberedBook<'_>,
+        book: &PreparedBook<'_>,
         trace: &NamedTrace,
         computed: &Self::Computed,
         sink: &mut S,
@@ -62,7 +63,7 @@ pub(crate) trait TraceTexts: Sync {
 fn compute_each<R: Threads + Sync, K: TraceTexts>(
     rt: &R,
     alloc: Global,
-    book: &NumberedBook<'_>,
+    book: &PreparedBook<'_>,
     texts: &K,
     traces: &[&NamedTrace],
 ) -> Result<Vec<K::Computed>, AllocError>
@@ -87,7 +88,7 @@ fn compute_each<R: Threads + Sync, K: TraceTexts>(
 
 /// Prints the parts of these traces, in order, from what was computed of them.
 fn print_computed<S: Sink, K: TraceTexts>(
-    book: &NumberedBook<'_>,
+    book: &PreparedBook<'_>,
     texts: &K,
     traces: &[&NamedTrace],
     computed: &[K::Computed],
@@ -113,7 +114,7 @@ fn print_computed<S: Sink, K: TraceTexts>(
 fn print_chunk<R: Threads + Sync, S: Sink, K: TraceTexts>(
     rt: &R,
     alloc: Global,
-    book: &NumberedBook<'_>,
+    book: &PreparedBook<'_>,
     texts: &K,
     traces: &[&NamedTrace],
     sink: &mut S,
@@ -131,12 +132,12 @@ fn print_chunk<R: Threads + Sync, S: Sink, K: TraceTexts>(
     print_computed(book, texts, traces, &computed, sink, buffer)
 }
 
-/// Prints the parts of these traces, in order. They are computed a chunk at a time, so that only
-/// one chunk's graphs are held at once.
+/// Prints the parts of these traces, in order. They are computed a chunk at a time, and what was
+/// computed of a chunk is freed before the next.
 pub(crate) fn print_each<R: Threads + Sync, S: Sink, K: TraceTexts>(
     rt: &R,
     alloc: Global,
-    book: &NumberedBook<'_>,
+    book: &PreparedBook<'_>,
     texts: &K,
     traces: &[&NamedTrace],
     sink: &mut S,
@@ -175,5 +176,6 @@ pub(crate) fn print_days<R: Threads + Sync, S: Sink, K: TraceTexts>(
 {
     parts_follow::<SessionPart>();
     let traces = book.all_traces(alloc)?;
-    print_each(rt, alloc, book, texts, &traces, sink, buffer)
+    let prepared = PreparedBook::of(alloc, book)?;
+    print_each(rt, alloc, &prepared, texts, &traces, sink, buffer)
 }

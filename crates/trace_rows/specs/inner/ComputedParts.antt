@@ -2,7 +2,7 @@
 use Rattle.std.specs.Prelude.{◌≡◌, ℕ, ◌↔◌, List, length, slice_index}
 use Rattle.std.specs.List.{EachIndex}
 use Rattle.trace_graph.specs.TraceGraphs.{IsTraceGraph}
-use Rattle.trace_rows.specs.inner.NumberedGraphs.{IsNumbered}
+use Rattle.trace_rows.specs.inner.NumberedTraces.{IsNumbered}
 use Rattle.trace_rows.specs.inner.ShownTraces.{NumberedBook, traces_in}
 use Rattle.trace_types.specs.Parts.{by_number}
 use Rattle.trace_types.specs.declared.named_trace.NamedTrace.{NamedTrace}
@@ -22,25 +22,31 @@ pub record IsGraphUnderBook (b : NumberedBook) (t : NamedTrace) (order : List �
     names = b.known.names;
     trace = t;
     order = order;
-    graph = g;
+    weights = g.weights;
   })
 
--- the graph of a trace, and of its longest chains the first, with its length
-pub record IsPathUnderBook (b : NumberedBook) (t : NamedTrace) (order : List ℕ) (g : Graph)
-    (total : ℕ) (chain : List ℕ) : Type 0 where
-  pub of_trace : IsGraphUnderBook b t order g
-  pub chained : IsChain g chain
-  pub none_longer : NoneIsLonger g (chain_length g chain)
-  pub first : NoLongestIsBefore g chain
-  pub adds_up : total ≡ chain_length g chain
+-- of the longest chains of a trace's graph, whose vertices have this order and these weights, the
+-- first, with its length
+pub record IsPathUnderBook (b : NumberedBook) (t : NamedTrace) (order weights : List ℕ) (total : ℕ)
+    (chain : List ℕ) : Type 0 where
+  pub graph : Graph
+  pub of_trace : IsGraphUnderBook b t order graph
+  pub weighted : weights ≡ graph.weights
+  pub chained : IsChain graph chain
+  pub none_longer : NoneIsLonger graph (chain_length graph chain)
+  pub first : NoLongestIsBefore graph chain
+  pub adds_up : total ≡ chain_length graph chain
 
--- the graph of a trace, its longest length, and the slack of each vertex
-pub record AreSlacksUnderBook (b : NumberedBook) (t : NamedTrace) (order : List ℕ) (g : Graph)
+-- the longest length of a trace's graph, whose vertices have this order and these weights, and the
+-- slack of each vertex
+pub record AreSlacksUnderBook (b : NumberedBook) (t : NamedTrace) (order weights : List ℕ)
     (longest : ℕ) (slacks : List ℕ) : Type 0 where
-  pub of_trace : IsGraphUnderBook b t order g
-  pub is_longest : IsLongestLength g longest
-  pub entries : length slacks ≡ order_of g
-  pub each : EachIndex g.weights (λ v. IsSlack g v (slice_index slacks v))
+  pub graph : Graph
+  pub of_trace : IsGraphUnderBook b t order graph
+  pub weighted : weights ≡ graph.weights
+  pub is_longest : IsLongestLength graph longest
+  pub entries : length slacks ≡ order_of graph
+  pub each : EachIndex graph.weights (λ v. IsSlack graph v (slice_index slacks v))
 
 -- the transitive reduction of the graph of a trace
 pub record IsReducedUnderBook (b : NumberedBook) (t : NamedTrace) (order : List ℕ)

@@ -10,7 +10,7 @@ use Rattle.kept_books.specs.Shown.{AreShown, IsShown}
 use Rattle.text_rows.specs.TextsOfParts.{PrintsTexts}
 use Rattle.text_rows.specs.declared.print_fault.PrintFault.{PrintFault}
 use Rattle.trace_types.specs.declared.named_trace.NamedTrace.{NamedTrace}
-use Rattle.trace_rows.specs.inner.NumberedGraphs.{IsNumbered, NumberedGraph, vertex_name}
+use Rattle.trace_rows.specs.inner.NumberedTraces.{IsNumbered, NumberedTrace, vertex_name}
 
 -- a book of days and the catalogue of its names
 pub record NumberedBook : Type 0 where
@@ -29,7 +29,7 @@ traces_in b = all_traces b.book.days
 
 -- the names of the vertices of a trace's graph are those of the kept trace
 abbrev pub NamesAreShown : Type 0
-NamesAreShown = (known : Known) (k : Kept) (n : NumberedGraph) (v : ℕ) → n.names ≡ known.names
+NamesAreShown = (known : Known) (k : Kept) (n : NumberedTrace) (v : ℕ) → n.names ≡ known.names
     → IsNumbered n → IsShown known n.trace k → v < length n.order
     → vertex_name n v ≡ name_at k n.order v
 

@@ -1,26 +1,11 @@
-use Rattle.std.proofs.Common.{List, Result, IfOk, sym, ◌∙◌, subst}
+use Rattle.std.proofs.Common.{IfOk, subst}
 use Rattle.std.specs.Borrow.{Bor}
-use Rattle.std.specs.declared.alloc.AllocError.{AllocError}
-use Rattle.rayon.proofs.ToStd.{slice-AllZip}
-use Rattle.refute_tests.specs.Clearing.{HaveNamesBelow}
+use Rattle.std.specs.List.{AllZip}
+use Rattle.model_meet.specs.ModelStates.{ModelState}
 use Rattle.trace_paths.specs.CriticalPaths.{IsPathUnder}
-use Rattle.trace_types.specs.declared.named_segment.NamedSegment.{NamedSegment}
 use Rattle.trace_types.specs.declared.named_trace.NamedTrace.{NamedTrace}
-use Rattle.trace_paths.proofs.AllPathsLemmas.{collected}
 use Rattle.trace_paths.proofs.all_paths.critical_paths.Goals as goal
-
-pub collect-requires-clause-ready : goal.collect-requires-clause-ready
-collect-requires-clause-ready g c κs within =
-    let base = c.map.ensures.base in
-    let least = c.with_min_len.ensures.base in
-    let slice = c.par_iter.ensures in
-    rw (c.map.ensures.base, c.map.ensures.f, c.with_min_len.ensures.base, slice) (λ k d lt x e. (subst (λ (t : Bor NamedTrace). HaveNamesBelow c.args.model.now.names t.now) (sym e) (c.requires k d lt), λ y p. tt))
 
 pub returns : goal.returns
 returns g c =
-    let model = c.args.model.now in
-    let traces = c.args.traces.now in
-    let chain = rw (c.map.ensures.base, c.map.ensures.f, c.with_min_len.ensures.base) at c.in_ok-paths.ensures.1 in
-    collected (λ (t : Bor NamedTrace) (path : List NamedSegment). IsPathUnder model t.now path) traces c.in_ok-paths.ensures.0 c.in_ok-paths.paths
-    (slice-AllZip chain.0 traces (chain.1 ∙ c.par_iter.ensures) (λ (t : Bor NamedTrace) (y : Result (List NamedSegment) AllocError). IfOk y (IsPathUnder model t.now)) c.in_ok-paths.ensures.0 chain.2)
-    c.in_ok-paths.ensures.2
+    subst (λ (m : ModelState). IfOk c.paths_by.result (λ paths. AllZip (λ (t : Bor NamedTrace) path. IsPathUnder m t.now path) c.args.traces.now paths.items)) c.in_ok-exclusions.ensures c.paths_by.ensures

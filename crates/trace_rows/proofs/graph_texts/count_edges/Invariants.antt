@@ -7,6 +7,6 @@ use Rattle.trace_rows.proofs.graph_texts.count_edges.Given as goal
 -- the edges of the vertices so far
 abbrev pub invariant-loop-vertex : goal.invariant-loop-vertex
 invariant-loop-vertex l = record {
-  so_far : l.count ≡ length (flat_map (edges_from l.graph.graph) (take l.vertex (range_with_len 0 (order_of l.graph.graph))));
+  so_far : l.count ≡ length (flat_map (edges_from l.graph) (take l.vertex (range_with_len 0 (order_of l.graph))));
   few : l.count ≤ l.vertex * 18446744073709551616;
 }

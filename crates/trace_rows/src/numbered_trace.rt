@@ -1,66 +1,66 @@
 use segment_names::Catalogue;
 use std::marker::Model;
-use trace_graph::OrderedGraph;
 use trace_types::{NameText, NamedTrace};
 
-/// A trace with its graph, and the catalogue of its names.
+/// A trace with the order and the weights of its graph's vertices, and the catalogue of its names.
 #[derive(Drop)]
-pub(crate) struct NumberedGraph<'a> {
+pub(crate) struct NumberedTrace<'a> {
     catalogue: &'a Catalogue,
     trace: &'a NamedTrace,
-    graph: &'a OrderedGraph,
+    order: &'a [u32],
+    weights: &'a [u64],
 }
 
-impl<'a> Model for NumberedGraph<'a> {
-    ghost use Rattle.trace_rows.specs.inner.NumberedGraphs as numbered;
+impl<'a> Model for NumberedTrace<'a> {
+    ghost use Rattle.trace_rows.specs.inner.NumberedTraces as numbered;
 
-    ghost Value = { numbered.NumberedGraph };
+    ghost Value = { numbered.NumberedTrace };
 
     ghost view = { λ n. record {
       names = n.catalogue.now.names;
       trace = n.trace.now;
-      order = n.graph.now.order;
-      graph = n.graph.now.dag;
+      order = n.order.now;
+      weights = n.weights.now;
     } };
 
     ghost invariant = { λ n. numbered.IsNumbered (record {
       names = n.catalogue.now.names;
       trace = n.trace.now;
-      order = n.graph.now.order;
-      graph = n.graph.now.dag;
+      order = n.order.now;
+      weights = n.weights.now;
     }) };
 }
 
-impl<'a> NumberedGraph<'a> {
+impl<'a> NumberedTrace<'a> {
     ghost use Rattle.std.specs.Prelude.{◌≡◌, ◌<◌, length};
-    ghost use Rattle.trace_rows.specs.inner.NumberedGraphs.{IsNumbered, vertex_name};
-    ghost use Rattle.weighted_dag.specs.Graphs.{IsGraph, order_of, successors_of};
+    ghost use Rattle.trace_rows.specs.inner.NumberedTraces.{IsNumbered, vertex_name};
 
-    /// Lends a trace, its graph and the catalogue. It takes no memory.
+    /// Lends a trace, the order and the weights of its graph's vertices, and the catalogue. It takes
+    /// no memory.
     pub(crate) fn new(
         catalogue: &'a Catalogue,
         trace: &'a NamedTrace,
-        graph: &'a OrderedGraph,
-    ) -> NumberedGraph<'a>
+        order: &'a [u32],
+        weights: &'a [u64],
+    ) -> NumberedTrace<'a>
         requires { IsNumbered (record {
           names = catalogue.now.names;
           trace = trace.now;
-          order = graph.now.order;
-          graph = graph.now.dag;
+          order = order.now;
+          weights = weights.now;
         }) }
-        ensures graph { result ≡ record {
+        ensures { result ≡ record {
           names = catalogue.now.names;
           trace = trace.now;
-          order = graph.now.order;
-          graph = graph.now.dag;
+          order = order.now;
+          weights = weights.now;
         } }
-        ensures form { IsGraph graph.now.dag }
     {
-        let _weights = graph.dag.weights();
-        NumberedGraph {
+        NumberedTrace {
             catalogue,
             trace,
-            graph,
+            order,
+            weights,
         }
     }
 
@@ -73,26 +73,18 @@ impl<'a> NumberedGraph<'a> {
 
     /// Returns the number of vertices.
     pub(crate) fn count(&self) -> u32
-        ensures count { result ≡ order_of self.now.graph }
+        ensures count { result ≡ length self.now.weights }
         ensures each { result ≡ length self.now.order }
     {
-        self.graph.dag.weights().len() as u32
+        self.weights.len() as u32
     }
 
     /// Returns the weight of each vertex, in nanoseconds.
     pub(crate) fn weights(&self) -> &[u64]
-        ensures weights { result.now ≡ self.now.graph.weights }
+        ensures weights { result.now ≡ self.now.weights }
         ensures each { length result.now ≡ length self.now.order }
     {
-        self.graph.dag.weights()
-    }
-
-    /// Returns the successors of a vertex.
-    pub(crate) fn successors(&self, vertex: u32) -> &[u32]
-        requires { vertex < length self.now.order }
-        ensures { result.now ≡ successors_of self.now.graph vertex }
-    {
-        self.graph.dag.successors(vertex)
+        self.weights
     }
 
     /// Returns the name of a vertex's segment.
@@ -100,7 +92,7 @@ impl<'a> NumberedGraph<'a> {
         requires { vertex < length self.now.order }
         ensures { result.now ≡ vertex_name self.now vertex }
     {
-        let place = self.graph.order.items()[vertex as usize];
+        let place = self.order[vertex as usize];
         let segment = self.trace.segments.items()[place as usize];
         self.catalogue.text_of(segment.name)
     }

@@ -1,0 +1,79 @@
+use crate::numbered_book::NumberedBook;
+use model_meet::Exclusions;
+use segment_names::Catalogue;
+use std::alloc::{AllocError, Global};
+use trace_graph::{OrderedGraph, graph_by};
+use trace_types::NamedTrace;
+
+/// A book by numbers with the mutual exclusions that its traces leave, from which the graphs of all
+/// of its traces are made. It is seen as the book.
+#[derive(Drop)]
+pub(crate) struct PreparedBook<'a> {
+    book: &'a NumberedBook<'a>,
+    exclusions: Exclusions<'a>,
+}
+
+impl<'a> std::marker::Model for PreparedBook<'a> {
+    ghost use Rattle.trace_rows.specs.inner.ShownTraces as shown;
+    ghost use Rattle.trace_rows.specs.inner.PreparedBooks.{AreExclusionsOf};
+
+    ghost Value = { shown.NumberedBook };
+
+    ghost view = { λ p. p.book.now };
+
+    ghost invariant = { λ p. AreExclusionsOf p.book.now p.exclusions };
+}
+
+impl<'a> PreparedBook<'a> {
+    ghost use Rattle.std.specs.Prelude.{◌≡◌, IfOk, length};
+    ghost use Rattle.refute_tests.specs.Clearing.{HaveNamesBelow};
+    ghost use Rattle.segment_names.specs.Limits.{IsKept};
+    ghost use Rattle.trace_graph.specs.TraceGraphs.{IsTraceGraph};
+    ghost use Rattle.trace_rows.specs.inner.NumberedTraces.{IsNumbered};
+    ghost use Rattle.trace_rows.specs.inner.ShownTraces.{traces_in};
+    ghost use Rattle.trace_types.specs.Parts.{by_number};
+    ghost use Rattle.weighted_dag.specs.Graphs.{IsGraph};
+
+    /// Lists the mutual exclusions that the traces of a book leave. The only error is that memory
+    /// ran out.
+    pub(crate) fn of(
+        alloc: Global,
+        book: &'a NumberedBook<'a>,
+    ) -> Result<PreparedBook<'a>, AllocError>
+        ensures { IfOk result (λ p. p ≡ book.now) }
+    {
+        let exclusions = book.exclusions(alloc)?;
+        Ok(PreparedBook { book, exclusions })
+    }
+
+    /// Lends the catalogue.
+    pub(crate) fn catalogue(&self) -> &Catalogue
+        ensures catalogue { result.now ≡ self.now.known }
+        ensures kept { IsKept self.now.known }
+    {
+        self.book.catalogue()
+    }
+
+    /// Makes the graph of a trace under what the traces of the book leave. The only error is that
+    /// memory ran out.
+    pub(crate) fn graph_of(
+        &self,
+        alloc: Global,
+        trace: &NamedTrace,
+    ) -> Result<OrderedGraph, AllocError>
+        requires { HaveNamesBelow (length self.now.known.names) trace.now }
+        ensures graph { IfOk result (λ g.
+            IsTraceGraph by_number (traces_in self.now) trace.now g.order g.dag) }
+        ensures numbered { IfOk result (λ g. IsNumbered (record {
+          names = self.now.known.names;
+          trace = trace.now;
+          order = g.order;
+          weights = g.dag.weights;
+        })) }
+        ensures form { IfOk result (λ g. IsGraph g.dag) }
+    {
+        let made = graph_by(alloc, trace, &self.exclusions)?;
+        let _weights = made.dag.weights();
+        Ok(made)
+    }
+}
