@@ -16,5 +16,6 @@ pub mod PlaceLemmas
 pub mod ReadingLemmas
 pub mod RiseLemmas
 pub mod TableLemmas
+pub mod TakingLemmas
 pub mod TotalLemmas
 pub mod TraceLemmas

@@ -30,7 +30,7 @@ input_lines-cut front back = slice_split-append is_line_feed front 10 back refl
 
 -- ---- what a front says and then what the back after it says
 
-both_said-assoc : (a b c : Result (List Line) LineFault) → both_said a (both_said b c) ≡ both_said (both_said a b) c
+pub both_said-assoc : (a b c : Result (List Line) LineFault) → both_said a (both_said b c) ≡ both_said (both_said a b) c
 both_said-assoc (Ok xs) (Ok ys) (Ok zs) = ap Ok (sym (append_assoc xs ys zs))
 both_said-assoc (Ok xs) (Ok ys) (Err e) = refl
 both_said-assoc (Ok xs) (Err e) c = refl

@@ -6,6 +6,7 @@ pub mod GoodLines
 pub mod InputLines
 pub mod LineParts
 pub mod LineResults
+pub mod LinesTaken
 pub mod Members
 pub mod Reasons
 pub mod TimeUnits

@@ -2,4 +2,5 @@
 pub mod Fields
 pub mod FlatObjects
 pub mod Gathered
+pub mod LinesSoFar
 pub mod Readings

@@ -1,6 +1,7 @@
-ghost use Rattle.std.specs.Prelude.{◌≡◌, ◌≤◌, ◌<◌, ◌+◌, All, length, Ok, IfOk, IfErr};
+ghost use Rattle.std.specs.Prelude.{◌≡◌, ◌≤◌, ◌<◌, ◌+◌, ◌^◌, All, length, Ok, IfOk, IfErr};
 ghost use Rattle.event_lines.specs.GoodLines.{IsLimited, IsTimely, NumbersRise};
-ghost use Rattle.event_lines.specs.InputLines.{lines_said, IsLineError};
+ghost use Rattle.event_lines.specs.Cut.{input_lines};
+ghost use Rattle.event_lines.specs.InputLines.{lines_said, lines_said_from, IsLineError};
 ghost use Rattle.event_lines.specs.inner.Readings.{IsReading};
 
 use crate::pieces::read_pieces;
@@ -9,22 +10,24 @@ use std::alloc::Global;
 use std::thread::Threads;
 
 /// The least length at which a piece of an input is worth a thread of its own, in bytes.
-const LEAST_PIECE: usize = 65_536;
+pub(crate) const LEAST_PIECE: usize = 65_536;
 
-/// Reads the lines of an input by up to so many workers, each a piece of at least about this length.
+/// Reads the lines of bytes, numbered from this one on, by up to so many workers, each a piece of at
+/// least about this length.
 pub(crate) fn read_shared<R: Threads + Sync>(
     rt: &R,
     alloc: Global,
+    first: u32,
     bytes: &[u8],
     workers: u32,
     least: usize,
 ) -> Result<LineParts, LineError>
-    requires few { length bytes.now < u32.MAX }
+    requires few { first + length bytes.now < 2 ^ 32 }
     requires some { 0 < least }
-    ensures { IsReading (lines_said bytes.now) result }
+    ensures { IsReading (lines_said_from first (input_lines bytes.now)) result }
 {
     let pieces = workers.min((bytes.len() / least) as u32);
-    read_pieces(rt, alloc, 1, bytes, pieces)
+    read_pieces(rt, alloc, first, bytes, pieces)
 }
 
 /// Reads the lines of an input: one entry for each line that is not blank, in order. Up to so many
@@ -49,5 +52,5 @@ pub fn read_lines<R: Threads + Sync>(
     ensures limited { IfOk result (λ v. All IsLimited v) }
     ensures few { IfOk result (λ v. length v ≤ length bytes.now + 1) }
 {
-    read_shared(rt, alloc, bytes, workers, LEAST_PIECE)
+    read_shared(rt, alloc, 1, bytes, workers, LEAST_PIECE)
 }

@@ -8,7 +8,7 @@ ghost use Rattle.event_lines.specs.inner.Readings.{IsReading};
 
 use crate::lines::read_piece;
 use crate::{LineError, LineParts};
-use memchr::memchr;
+use memchr::{memchr, memrchr};
 use std::alloc::Global;
 use std::thread::{Threads, join};
 
@@ -22,12 +22,20 @@ fn first_length(bytes: usize, pieces: u32) -> usize
 }
 
 /// Cuts bytes in two at the first line feed from an index on. Neither part has this line feed.
-fn cut_at_line_feed(bytes: &[u8], from: usize) -> Option<(&[u8], &[u8])>
+pub(crate) fn cut_at_line_feed(bytes: &[u8], from: usize) -> Option<(&[u8], &[u8])>
     requires { from ≤ length bytes.now }
     ensures { IfSome result (λ cut. bytes.now ≡ cut.0.now ++ 10 ∷ cut.1.now) }
 {
     let feed = from + memchr(b'\n', &bytes[from..])?;
     Some((&bytes[..feed], &bytes[feed + 1..]))
+}
+
+/// Cuts bytes in two at the last line feed. Neither part has this line feed.
+pub(crate) fn cut_at_last_line_feed(bytes: &[u8]) -> Option<(&[u8], &[u8])>
+    ensures { IfSome result (λ cut. bytes.now ≡ cut.0.now ++ 10 ∷ cut.1.now) }
+{
+    let last = memrchr(b'\n', bytes)?;
+    Some((&bytes[..last], &bytes[last + 1..]))
 }
 
 /// Counts the line feeds of bytes. It loops by index, which the compiler vectorizes.
@@ -44,7 +52,7 @@ fn count_line_feeds(bytes: &[u8]) -> u32
 }
 
 /// Counts the lines of bytes, blank ones too.
-fn count_lines(bytes: &[u8]) -> usize
+pub(crate) fn count_lines(bytes: &[u8]) -> usize
     requires { length bytes.now < 2 ^ 32 }
     ensures count { result ≡ length (input_lines bytes.now) }
     ensures few { result ≤ length bytes.now + 1 }
@@ -54,7 +62,7 @@ fn count_lines(bytes: &[u8]) -> usize
 
 /// Joins what was read of the first part of bytes and of the second. The error is that of the first
 /// part, where it has one.
-fn join_readings(
+pub(crate) fn join_readings(
     front: Result<LineParts, LineError>,
     back: Result<LineParts, LineError>,
 ) -> Result<LineParts, LineError>

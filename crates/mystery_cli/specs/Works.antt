@@ -69,9 +69,13 @@ jobs_with None lines = Jobs (jobs_of lines)
 jobs_with (Some job) lines =
     Jobs (jobs_of (lines ++ line_kinds.Control 0 commands.Add ∷ []) ++ job ∷ [])
 
--- the jobs of the lines of an input and the last job, or the first bad line
+-- the jobs of what lines say and the last job, or the first bad line
+abbrev pub jobs_from : Option Job → Result (List Line) LineFault → Result Work BadInput
+jobs_from last said = result_map_both (jobs_with last) bad_line said
+
+-- the same of the lines of an input
 abbrev pub jobs_said : Option Job → List ℕ → Result Work BadInput
-jobs_said last input = result_map_both (jobs_with last) bad_line (lines_said input)
+jobs_said last input = jobs_from last (lines_said input)
 
 -- the steps of an input, or the first line outside the form
 abbrev pub steps_said : List ℕ → Result Work BadInput

@@ -1,6 +1,7 @@
 -- What private contracts alone cite.
 pub mod Actions
 pub mod InputEnds
+pub mod Inputs
 pub mod LastJobs
 pub mod Leaving
 pub mod OutcomeFaults

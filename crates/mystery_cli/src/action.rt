@@ -1,7 +1,9 @@
 ghost use Rattle.std.specs.Prelude.{◌≡◌};
 ghost use Rattle.mystery_cli.specs.CommandLines.{action_of, certificate_of_action, files_of_action};
+ghost use Rattle.mystery_cli.specs.inner.Inputs.{form_of_action};
 
 use crate::change_words::ChangeWords;
+use crate::input_form::InputForm;
 use crate::view::View;
 use std::slice;
 use trace_types::Text;
@@ -64,6 +66,16 @@ impl<'w> Action<'w> {
             Action::Verify { files, .. } => files,
             Action::Drill { .. } => &[],
             Action::Replay { file } => slice::from_ref(file),
+        }
+    }
+
+    /// Returns what the input is read as.
+    pub(crate) fn form(self) -> InputForm
+        ensures { result ≡ form_of_action (action_of self.entry) }
+    {
+        match self {
+            Action::Replay { .. } => InputForm::Steps,
+            _ => InputForm::Lines,
         }
     }
 

@@ -7,6 +7,7 @@ ghost use Rattle.mystery_cli.specs.inner.Leaving.{LeavesSink};
 ghost use Rattle.mystery_cli.specs.inner.OutcomeFaults.{outcome_faults};
 
 use crate::Outcome;
+use crate::input::Input;
 use crate::session_run::run_session;
 use drill_input::generate;
 use mystery_io::{Gate, Sink};
@@ -33,7 +34,10 @@ pub(crate) fn run_drill<R: Threads + Sync, S: Sink, G: Gate + Sync>(
     ensures counted { S.faults out.new ≡ outcome_faults result (S.faults out.old) }
 {
     match generate(alloc, number, traces) {
-        Ok(input) => run_session(rt, alloc, workers, Some(Job::Summary), input, out, gate),
+        Ok(bytes) => {
+            let input = Input::Bytes { bytes };
+            run_session(rt, alloc, workers, Some(Job::Summary), input, out, gate)
+        }
         Err(_) => Outcome::Memory,
     }
 }

@@ -1,14 +1,15 @@
-ghost use Rattle.std.specs.Prelude.{◌≡◌, ◌≤◌, ◌<◌, Some, length};
-ghost use Rattle.mystery_io.specs.Input.{input_limit};
+ghost use Rattle.std.specs.Prelude.{◌≡◌, ◌≤◌, ◌<◌, Some};
 ghost use Rattle.session_rules.specs.declared.job.Job.TheVariants.{WhatIf};
 ghost use Rattle.mystery_cli.specs.CommandLines.{change_of};
-ghost use Rattle.mystery_cli.specs.Works.{jobs_said};
+ghost use Rattle.mystery_cli.specs.Works.{jobs_from};
 ghost use Rattle.mystery_cli.specs.inner.InputEnds.{InputEnds};
+ghost use Rattle.mystery_cli.specs.inner.Inputs.{IsWithin, lines_said_by};
 ghost use Rattle.mystery_cli.specs.inner.Leaving.{LeavesSink};
 ghost use Rattle.mystery_cli.specs.inner.OutcomeFaults.{outcome_faults};
 
 use crate::Outcome;
 use crate::change_words::ChangeWords;
+use crate::input::Input;
 use crate::session_run::run_session;
 use mystery_io::{Gate, Sink};
 use session::Job;
@@ -22,7 +23,7 @@ pub(crate) fn run_forecast<R: Threads + Sync, S: Sink, G: Gate + Sync>(
     alloc: Global,
     workers: u32,
     change: ChangeWords<'_>,
-    input: Vec<u8>,
+    input: Input,
     out: &mut S,
     gate: &G,
 ) -> Outcome
@@ -30,9 +31,9 @@ pub(crate) fn run_forecast<R: Threads + Sync, S: Sink, G: Gate + Sync>(
     requires most { workers ≤ 64 }
     requires positive { 0 < change.den }
     requires less { change.num ≤ change.den }
-    requires fits { length input.items ≤ input_limit }
+    requires within { IsWithin input }
     ensures ends { let last = WhatIf (change_of change.entry) in
-        InputEnds workers (jobs_said (Some last) input.items) result
+        InputEnds workers (jobs_from (Some last) (lines_said_by input)) result
         (S.written out.old) (S.written out.new) }
     ensures leaves { LeavesSink result out.old out.new }
     ensures counted { S.faults out.new ≡ outcome_faults result (S.faults out.old) }

@@ -1,13 +1,15 @@
-ghost use Rattle.std.specs.Prelude.{◌≡◌, ◌≤◌, ◌++◌, ◌∷◌, [], Ok, length, IfErr, IfOk, IfSome};
+ghost use Rattle.std.specs.Prelude.{◌≡◌, ◌++◌, ◌∷◌, [], Ok, IfErr, IfOk, IfSome};
 ghost use Rattle.std.specs.Prelude.{OnOk};
 ghost use Rattle.event_lines.specs.declared.command.Command.TheVariants.{Add};
 ghost use Rattle.event_lines.specs.declared.line.Line.TheVariants.{Control};
-ghost use Rattle.event_lines.specs.InputLines.{IsLineError, lines_said};
+ghost use Rattle.event_lines.specs.InputLines.{IsLineError};
 ghost use Rattle.job_runs.specs.Running.{AreReady};
-ghost use Rattle.mystery_io.specs.Input.{input_limit};
-ghost use Rattle.mystery_cli.specs.Works.{Jobs, jobs_said, jobs_with};
+ghost use Rattle.mystery_cli.specs.Works.{Jobs, jobs_from, jobs_with};
+ghost use Rattle.mystery_cli.specs.inner.Inputs.{IsWithin, lines_said_by};
 ghost use Rattle.mystery_cli.specs.inner.LastJobs.{IsLastJob};
 
+use crate::input::Input;
+use event_lines::laws::lines_of_an_input_are_good;
 use event_lines::{Command, LineError, LineParts, read_lines};
 use job_runs::laws::jobs_are_ready;
 use session::{Job, jobs};
@@ -35,26 +37,43 @@ fn make_jobs(alloc: Global, mut lines: LineParts, last: Option<Job>) -> Result<V
     Ok(made)
 }
 
-/// Reads the jobs of the lines of an input, by up to so many workers, and the last job, which no
-/// control line asks for.
+/// Gives the lines of an input; those of bytes are read by up to so many workers.
+fn into_lines<R: Threads + Sync>(
+    rt: &R,
+    alloc: Global,
+    workers: u32,
+    input: Input,
+) -> Result<LineParts, LineError>
+    requires { IsWithin input }
+    ensures lines { IfOk result (λ lines. lines_said_by input ≡ Ok lines) }
+    ensures bad { IfErr result (IsLineError (lines_said_by input)) }
+{
+    match input {
+        Input::Bytes { bytes } => read_lines(rt, alloc, &bytes, workers),
+        Input::Lines { lines } => Ok(lines),
+        Input::Bad { line, why } => Err(LineError::Bad { line, why }),
+    }
+}
+
+/// Makes the jobs of the lines of an input and the last job, which no control line asks for.
 ///
 /// The errors are an allocation failure and the first bad line of the input.
 pub(crate) fn read_jobs<R: Threads + Sync>(
     rt: &R,
     alloc: Global,
     workers: u32,
-    input: Vec<u8>,
+    input: Input,
     last: Option<Job>,
 ) -> Result<Vec<Job>, LineError>
-    requires fits { length input.items ≤ input_limit }
+    requires within { IsWithin input }
     requires last { IfSome last IsLastJob }
     ensures said { IfOk result
-        (λ jobs. jobs_said last input.items ≡ Ok (Jobs jobs.items)) }
+        (λ jobs. jobs_from last (lines_said_by input) ≡ Ok (Jobs jobs.items)) }
     ensures ready { IfOk result (λ jobs. AreReady jobs.items) }
-    ensures bad { IfErr result (IsLineError (lines_said input.items)) }
+    ensures bad { IfErr result (IsLineError (lines_said_by input)) }
 {
     jobs_are_ready();
-    let lines = read_lines(rt, alloc, &input, workers)?;
-    drop(input);
+    lines_of_an_input_are_good();
+    let lines = into_lines(rt, alloc, workers, input)?;
     Ok(make_jobs(alloc, lines, last)?)
 }

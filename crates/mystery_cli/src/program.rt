@@ -1,7 +1,6 @@
 ghost use Rattle.std.specs.Prelude.{◌≡◌, ◌≤◌, ◌<◌, ◌==◌, ◌⊎◌, ◌^◌, List, [], ℕ, length, not};
 ghost use Rattle.std.specs.Prelude.{if◌then◌else◌, IfOk};
 ghost use Rattle.mystery_io.specs.Counts.{counted_up};
-ghost use Rattle.mystery_io.specs.Input.{input_limit};
 ghost use Rattle.mystery_io.specs.Prefixes.{Sends};
 ghost use Rattle.mystery_io.specs.ReadFaults.{files_seen, OpensFirst};
 ghost use Rattle.session_rules.specs.declared.limit.Limit.{Limit};
@@ -17,6 +16,7 @@ ghost use Rattle.mystery_cli.specs.Runs.{run_seen, EndsAs, Explains, OfInputs, R
 ghost use Rattle.mystery_cli.specs.Works.{work_after, work_with};
 ghost use Rattle.mystery_cli.specs.inner.Actions.{IsInRange};
 ghost use Rattle.mystery_cli.specs.inner.InputEnds.{InputEnds};
+ghost use Rattle.mystery_cli.specs.inner.Inputs.{IsInputOf, IsWithin, form_of_action};
 ghost use Rattle.mystery_cli.specs.inner.Leaving.{LeavesFiles, LeavesSink};
 ghost use Rattle.mystery_cli.specs.inner.OutcomeFaults.{outcome_faults, outcome_read_faults};
 ghost use Rattle.mystery_cli.specs.inner.ReadingTwice.{said_by};
@@ -26,6 +26,7 @@ use crate::certificate::Certificate;
 use crate::command_line::CommandLine;
 use crate::drill::run_drill;
 use crate::forecast::run_forecast;
+use crate::input::Input;
 use crate::laws::an_input_has_one_ending;
 use crate::readings::{Readings, read_both};
 use crate::replay::replay_input;
@@ -44,7 +45,7 @@ fn perform_with<R: Threads + Sync, S: Sink, G: Gate + Sync>(
     alloc: Global,
     line: CommandLine<'_>,
     claims: ClaimList,
-    input: Vec<u8>,
+    input: Input,
     out: &mut S,
     gate: &G,
 ) -> Outcome
@@ -52,9 +53,10 @@ fn perform_with<R: Threads + Sync, S: Sink, G: Gate + Sync>(
     requires most { line.workers ≤ 64 }
     requires numbers { IsInRange (action_of line.action) }
     requires few { length claims < 2 ^ 32 }
-    requires fits { length input.items ≤ input_limit }
+    requires within { IsWithin input }
     ensures ends { let call = call_of_line line.entry in
-        InputEnds call.workers (work_with call.action claims input.items) result
+        (bytes : List ℕ) → IsInputOf (form_of_action call.action) input bytes
+        → InputEnds call.workers (work_with call.action claims bytes) result
         (S.written out.old) (S.written out.new) }
     ensures leaves { LeavesSink result out.old out.new }
     ensures counted { S.faults out.new ≡ outcome_faults result (S.faults out.old) }
@@ -80,7 +82,7 @@ fn perform_with<R: Threads + Sync, S: Sink, G: Gate + Sync>(
         Action::Drill { number, traces } => {
             run_drill(rt, alloc, workers, number, traces, out, gate)
         }
-        Action::Replay { .. } => replay_input(alloc, &input, out),
+        Action::Replay { .. } => replay_input(alloc, input.bytes(), out),
     }
 }
 
@@ -97,11 +99,11 @@ fn perform_over<R: Threads + Sync, S: Sink, G: Gate + Sync>(
     requires most { line.workers ≤ 64 }
     requires numbers { IsInRange (action_of line.action) }
     requires few { IfOk (said_by readings.certificate) (λ claims. length claims < 2 ^ 32) }
-    requires fits { length readings.input.items ≤ input_limit }
+    requires within { IsWithin readings.input }
     ensures ends { let call = call_of_line line.entry in
-        InputEnds call.workers
-        (work_after call.action (said_by readings.certificate) readings.input.items) result
-        (S.written out.old) (S.written out.new) }
+        (bytes : List ℕ) → IsInputOf (form_of_action call.action) readings.input bytes
+        → InputEnds call.workers (work_after call.action (said_by readings.certificate) bytes)
+        result (S.written out.old) (S.written out.new) }
     ensures leaves { LeavesSink result out.old out.new }
     ensures counted { S.faults out.new ≡ outcome_faults result (S.faults out.old) }
 {
@@ -137,7 +139,16 @@ fn perform<R: Threads + Sync, F: Files, S: Sink, G: Gate + Sync>(
     let Some(line) = CommandLine::parse(words) else {
         return Outcome::Arguments;
     };
-    match read_both(alloc, files, line.action.certificate(), line.action.files()) {
+    let (form, certificate) = (line.action.form(), line.action.certificate());
+    match read_both(
+        rt,
+        alloc,
+        line.workers,
+        form,
+        files,
+        certificate,
+        line.action.files(),
+    ) {
         Err(ReadFault::Memory) => Outcome::Memory,
         Err(ReadFault::File { index }) => Outcome::File { index },
         Err(ReadFault::TooBig) => Outcome::Size,

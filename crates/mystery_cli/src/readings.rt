@@ -5,25 +5,38 @@ ghost use Rattle.certificates.specs.Certificates.{certificate_said};
 ghost use Rattle.mystery_io.specs.Input.{input_limit};
 ghost use Rattle.mystery_io.specs.ReadFaults.{files_seen, HasReadCause, OpensFirst, read_faults};
 ghost use Rattle.mystery_cli.specs.Readings.{told_input};
+ghost use Rattle.mystery_cli.specs.declared.input_form.InputForm.TheVariants.{Lines};
+ghost use Rattle.mystery_cli.specs.inner.Inputs.{IsReadAs};
 ghost use Rattle.mystery_cli.specs.inner.ReadingTwice.{HasReadingCause, said_by};
 
 use crate::certificate::Certificate;
+use crate::input::Input;
+use crate::input_form::InputForm;
+use crate::line_intake::LineIntake;
 use certificates::{CertificateError, ClaimList, read_certificate};
-use mystery_io::{Files, ReadFault, read_all};
+use event_lines::{LineError, LineReader};
+use mystery_io::{Files, ReadFault, read_all, read_into};
 use std::alloc::Global;
+use std::thread::Threads;
 use trace_types::Text;
+
+/// The bytes of an input that are kept for one worker.
+const WORKER_BYTES: usize = 4_194_304;
+
+/// The most workers for which bytes are kept.
+const MOST_BUFFERED_WORKERS: u32 = 4;
 
 /// What was read for a call.
 #[derive(Debug, Drop)]
 pub(crate) struct Readings {
     /// What the certificate says.
     pub(crate) certificate: Certificate,
-    /// The bytes of the input.
-    pub(crate) input: Vec<u8>,
+    /// What the input says, or its bytes.
+    pub(crate) input: Input,
 }
 
-/// Reads the files of these names as one input. That of no file is empty and takes no call.
-fn read_input<F: Files>(alloc: Global, files: &mut F, names: &[Text]) -> Result<Vec<u8>, ReadFault>
+/// Reads the files of these names as one list of bytes. That of no file is empty and takes no call.
+fn read_bytes<F: Files>(alloc: Global, files: &mut F, names: &[Text]) -> Result<Vec<u8>, ReadFault>
     requires { length names.now < 2 ^ 32 }
     ensures input { IfOk result (λ v.
         IfSome (told_input (F.contents files.old) names.now) (λ input. v.items ≡ input)) }
@@ -68,7 +81,7 @@ fn read_claims<F: Files>(
     ensures contents { F.contents files.new ≡ F.contents files.old }
     ensures tallied { F.faults files.new ≡ read_faults result (F.faults files.old) }
 {
-    let bytes = read_input(alloc, files, names)?;
+    let bytes = read_bytes(alloc, files, names)?;
     match read_certificate(alloc, &bytes) {
         Ok(claims) => Ok(Certificate::Claims {
             claims: ClaimList::of(claims),
@@ -78,17 +91,91 @@ fn read_claims<F: Files>(
     }
 }
 
+/// Reads the lines of the files of these names by up to so many workers, while the files are read. A
+/// bad line ends nothing, since a later file may fail to be read.
+fn read_input_lines<R: Threads + Sync, F: Files>(
+    rt: &R,
+    alloc: Global,
+    workers: u32,
+    files: &mut F,
+    names: &[Text],
+) -> Result<Input, ReadFault>
+    requires workers { 0 < workers }
+    requires some { 0 < length names.now }
+    requires few { length names.now < 2 ^ 32 }
+    ensures input { IfOk result
+        (λ read. IsReadAs Lines read (told_input (F.contents files.old) names.now)) }
+    ensures end { OnOk result (0 < length names.now → IsAtEnd (F.left files.new)) }
+    ensures opened { OnOk result
+        (OpensFirst (files_seen F.contents F.left F.is_open F.names F.opens files.old files.new)
+        names.now (length names.now)) }
+    ensures cause { IfErr result
+        (HasReadCause (files_seen F.contents F.left F.is_open F.names F.opens files.old files.new)
+        names.now) }
+    ensures contents { F.contents files.new ≡ F.contents files.old }
+    ensures tallied { F.faults files.new ≡ read_faults result (F.faults files.old) }
+{
+    let reader = LineReader::new(alloc, workers);
+    let piece = workers.min(MOST_BUFFERED_WORKERS) as usize * WORKER_BYTES;
+    let intake = read_into(alloc, files, names, LineIntake { rt, reader }, piece)?;
+    match intake.reader.finish() {
+        Ok(lines) => Ok(Input::Lines { lines }),
+        Err(LineError::Bad { line, why }) => Ok(Input::Bad { line, why }),
+        Err(LineError::Memory) => Err(ReadFault::Memory),
+    }
+}
+
+/// Reads the files of these names as one input of this form. That of no file is empty and takes no
+/// call.
+fn read_input<R: Threads + Sync, F: Files>(
+    rt: &R,
+    alloc: Global,
+    workers: u32,
+    form: InputForm,
+    files: &mut F,
+    names: &[Text],
+) -> Result<Input, ReadFault>
+    requires workers { 0 < workers }
+    requires few { length names.now < 2 ^ 32 }
+    ensures input { IfOk result
+        (λ read. IsReadAs form read (told_input (F.contents files.old) names.now)) }
+    ensures end { OnOk result (0 < length names.now → IsAtEnd (F.left files.new)) }
+    ensures opened { OnOk result
+        (OpensFirst (files_seen F.contents F.left F.is_open F.names F.opens files.old files.new)
+        names.now (length names.now)) }
+    ensures cause { IfErr result
+        (HasReadCause (files_seen F.contents F.left F.is_open F.names F.opens files.old files.new)
+        names.now) }
+    ensures unread { names.now ≡ [] → files.new ≡ files.old }
+    ensures contents { F.contents files.new ≡ F.contents files.old }
+    ensures tallied { F.faults files.new ≡ read_faults result (F.faults files.old) }
+{
+    match form {
+        InputForm::Lines if !names.is_empty() => {
+            read_input_lines(rt, alloc, workers, files, names)
+        }
+        _ => {
+            let bytes = read_bytes(alloc, files, names)?;
+            Ok(Input::Bytes { bytes })
+        }
+    }
+}
+
 /// Reads the file of a certificate, if one is named, and then the files of an input, each reading
 /// within the limit of size by itself.
 ///
 /// The error says why not all was read; it counts files over both readings.
-pub(crate) fn read_both<F: Files>(
+pub(crate) fn read_both<R: Threads + Sync, F: Files>(
+    rt: &R,
     alloc: Global,
+    workers: u32,
+    form: InputForm,
     files: &mut F,
     certificate: &[Text],
     names: &[Text],
 ) -> Result<Readings, ReadFault>
-    requires { length certificate.now + length names.now < 2 ^ 32 }
+    requires workers { 0 < workers }
+    requires few { length certificate.now + length names.now < 2 ^ 32 }
     ensures said { IfOk result (λ read.
         IfSome (told_input (F.contents files.old) certificate.now)
         (λ bytes. certificate_said bytes ≡ said_by read.certificate)) }
@@ -97,10 +184,8 @@ pub(crate) fn read_both<F: Files>(
         (λ bytes. length bytes ≤ input_limit)) }
     ensures few { IfOk result (λ read.
         IfOk (said_by read.certificate) (λ claims. length claims < 2 ^ 32)) }
-    ensures input { IfOk result (λ read.
-        IfSome (told_input (F.contents files.old) names.now)
-        (λ input. read.input.items ≡ input)) }
-    ensures fits { IfOk result (λ read. length read.input.items ≤ input_limit) }
+    ensures input { IfOk result
+        (λ read. IsReadAs form read.input (told_input (F.contents files.old) names.now)) }
     ensures end { OnOk result
         (0 < length (certificate.now ++ names.now) → IsAtEnd (F.left files.new)) }
     ensures opened { OnOk result
@@ -115,7 +200,7 @@ pub(crate) fn read_both<F: Files>(
     ensures tallied { F.faults files.new ≡ read_faults result (F.faults files.old) }
 {
     let said = read_claims(alloc, files, certificate)?;
-    match read_input(alloc, files, names) {
+    match read_input(rt, alloc, workers, form, files, names) {
         Ok(input) => Ok(Readings {
             certificate: said,
             input,

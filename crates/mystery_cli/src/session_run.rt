@@ -1,12 +1,13 @@
-ghost use Rattle.std.specs.Prelude.{◌≡◌, ◌≤◌, ◌<◌, length, IfSome};
+ghost use Rattle.std.specs.Prelude.{◌≡◌, ◌≤◌, ◌<◌, IfSome};
 ghost use Rattle.job_runs.specs.Running.{AreReady};
-ghost use Rattle.mystery_io.specs.Input.{input_limit};
-ghost use Rattle.mystery_cli.specs.Works.{Jobs, jobs_said};
+ghost use Rattle.mystery_cli.specs.Works.{Jobs, jobs_from};
 ghost use Rattle.mystery_cli.specs.inner.InputEnds.{InputEnds};
+ghost use Rattle.mystery_cli.specs.inner.Inputs.{IsWithin, lines_said_by};
 ghost use Rattle.mystery_cli.specs.inner.LastJobs.{IsLastJob};
 ghost use Rattle.mystery_cli.specs.inner.Leaving.{LeavesSink};
 ghost use Rattle.mystery_cli.specs.inner.OutcomeFaults.{outcome_faults};
 
+use crate::input::Input;
 use crate::job_reading::read_jobs;
 use crate::{Outcome, Reason};
 use event_lines::LineError;
@@ -46,15 +47,15 @@ pub(crate) fn run_session<R: Threads + Sync, S: Sink, G: Gate + Sync>(
     alloc: Global,
     workers: u32,
     last: Option<Job>,
-    input: Vec<u8>,
+    input: Input,
     out: &mut S,
     gate: &G,
 ) -> Outcome
     requires some { 0 < workers }
     requires most { workers ≤ 64 }
     requires last { IfSome last IsLastJob }
-    requires fits { length input.items ≤ input_limit }
-    ensures ends { InputEnds workers (jobs_said last input.items) result
+    requires within { IsWithin input }
+    ensures ends { InputEnds workers (jobs_from last (lines_said_by input)) result
         (S.written out.old) (S.written out.new) }
     ensures leaves { LeavesSink result out.old out.new }
     ensures counted { S.faults out.new ≡ outcome_faults result (S.faults out.old) }

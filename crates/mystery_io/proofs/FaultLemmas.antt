@@ -17,21 +17,21 @@ fits_unread count (Some xs) None le e = tt
 fits_unread count (Some xs) (Some ys) le e = let k : ys ≡ xs = cc in omega (arith, le, ap length k)
 
 -- the same bytes, seen from an earlier place
-fits_earlier : (a b : List ℕ) (l m left : Option (List ℕ)) → prepend_known a l ≡ prepend_known b m → FitsBefore (length b) m left → FitsBefore (length a) l left
-fits_earlier a b None m left e h = tt
-fits_earlier a b (Some xs) m None e h = tt
-fits_earlier a b (Some xs) None (Some rest) e h = cc
-fits_earlier a b (Some xs) (Some ys) (Some rest) e h = let k : a ++ xs ≡ b ++ ys = cc in omega (arith, h, simp length-append at (ap length k))
+fits_earlier : (n k : ℕ) (read : List ℕ) (l m left : Option (List ℕ)) → l ≡ prepend_known read m → k ≡ n + length read → FitsBefore k m left → FitsBefore n l left
+fits_earlier n k read None m left e is h = tt
+fits_earlier n k read (Some xs) m None e is h = tt
+fits_earlier n k read (Some xs) None (Some rest) e is h = cc
+fits_earlier n k read (Some xs) (Some ys) (Some rest) e is h = let same : xs ≡ read ++ ys = cc in omega (arith, h, is, ap length same, length-append read ys)
 
-passes_earlier : (a b : List ℕ) (l m : Option (List ℕ)) → prepend_known a l ≡ prepend_known b m → PassesInputLimit (length b) m → PassesInputLimit (length a) l
-passes_earlier a b None m e h = tt
-passes_earlier a b (Some xs) None e h = cc
-passes_earlier a b (Some xs) (Some ys) e h = let k : a ++ xs ≡ b ++ ys = cc in omega (arith, simp length-append at (ap length k))
+passes_earlier : (n k : ℕ) (read : List ℕ) (l m : Option (List ℕ)) → l ≡ prepend_known read m → k ≡ n + length read → PassesInputLimit k m → PassesInputLimit n l
+passes_earlier n k read None m e is h = tt
+passes_earlier n k read (Some xs) None e is h = cc
+passes_earlier n k read (Some xs) (Some ys) e is h = let same : xs ≡ read ++ ys = cc in omega (arith, h, is, ap length same, length-append read ys)
 
-pub cause_earlier : (e : ReadFault) (index : ℕ) (a b : List ℕ) (l m left : Option (List ℕ)) → prepend_known a l ≡ prepend_known b m → HasFileCause index (length b) m left e → HasFileCause index (length a) l left e
-cause_earlier Memory index a b l m left eq h = tt
-cause_earlier (File i) index a b l m left eq h = (h.0, fits_earlier a b l m left eq h.1)
-cause_earlier TooBig index a b l m left eq h = passes_earlier a b l m eq h
+pub cause_earlier : (e : ReadFault) (index n k : ℕ) (read : List ℕ) (l m left : Option (List ℕ)) → l ≡ prepend_known read m → k ≡ n + length read → HasFileCause index k m left e → HasFileCause index n l left e
+cause_earlier Memory index n k read l m left eq is h = tt
+cause_earlier (File i) index n k read l m left eq is h = (h.0, fits_earlier n k read l m left eq is h.1)
+cause_earlier TooBig index n k read l m left eq is h = passes_earlier n k read l m eq is h
 
 passes_ended : (count : ℕ) (content : Option (List ℕ)) → PassesInputLimit count content → PassesInputLimit count (option_map ended content)
 passes_ended count None h = tt

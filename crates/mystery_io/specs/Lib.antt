@@ -1,6 +1,7 @@
 pub mod Counts
 pub mod FilesState
 pub mod Input
+pub mod Intakes
 pub mod NamedBytes
 pub mod Prefixes
 pub mod ReadFaults

@@ -6,8 +6,10 @@
 
 mod byte_list;
 mod calls;
+mod feeder;
 mod files;
 mod gate;
+mod intake;
 pub mod laws;
 mod mem_file;
 mod mem_files;
@@ -24,10 +26,11 @@ mod writing;
 pub use byte_list::ByteList;
 pub use files::{Failed, Files};
 pub use gate::{Gate, OpenGate};
+pub use intake::Intake;
 pub use mem_file::MemFile;
 pub use mem_files::MemFiles;
 pub use mem_sink::MemSink;
-pub use reading::{MAX_INPUT, ReadFault, read_all};
+pub use reading::{MAX_INPUT, ReadFault, read_all, read_into};
 pub use real_files::RealFiles;
 pub use real_sink::RealSink;
 pub use sink::Sink;

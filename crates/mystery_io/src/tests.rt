@@ -1,6 +1,6 @@
 use crate::{
     ByteList, Failed, Files, Gate, MemFile, MemFiles, MemSink, OpenGate, ReadFault, Sink,
-    SureFiles, SureSink, laws, read_all, send_text, write_text,
+    SureFiles, SureSink, laws, read_all, read_into, send_text, write_text,
 };
 use std::alloc::{AllocError, Global};
 use std::test::Fail;
@@ -52,6 +52,11 @@ fn each_file_ends_its_last_line(rt: HostRuntime) -> Result<(), Fail> {
         let mut files = SureFiles::new(files_of(alloc, &FILES)?);
         let got = read_all(alloc, &mut files, &names);
         assert_eq!(rt; got.as_deref(), Ok(want));
+        for most in [1, 2, 3] {
+            assert!(rt; most > 0);
+            let got = read_into(alloc, &mut files, &names, Vec::new(alloc), most);
+            assert_eq!(rt; got.as_deref(), Ok(want), "{most} bytes at a time");
+        }
     }
     Ok(())
 }

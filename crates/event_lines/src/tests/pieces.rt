@@ -1,14 +1,14 @@
 ghost use Rattle.std.specs.Prelude.{◌<◌};
 
 use crate::input_reading::read_shared;
-use crate::{LineError, LineRun, read_lines};
+use crate::{LineError, LineParts, LineReader, LineRun, read_lines};
 use std::alloc::{AllocError, Global};
 use std::test::Fail;
 use std::thread::Threads;
 
 /// Inputs, and what they say: the numbers of their lines, each with the name of its event or its
 /// command, or the number of the first bad line with its reason.
-const INPUTS: [(&str, &str); 11] = [
+const INPUTS: [(&str, &str); 13] = [
     ("", ""),
     ("\n\r\n \n\t\n", ""),
     (r#"{"do":"add"}"#, "1 Add"),
@@ -44,6 +44,15 @@ const INPUTS: [(&str, &str); 11] = [
         "{\"do\":\"add\"}\n{\"do\":\"graph\"}\n{\"do\":\"paths\"}\n{\"do\":\"slack\"}\n{\"do\":\"model\"}",
         "1 Add,2 Graph,3 Paths,4 Slack,5 Model",
     ),
+    (
+        "{\"request\":\"r\",\"machine\":\"m\",\"task\":\"t\",\"event\":\"\\u0061\\u00e9b\",\"time\":1}\n\n\
+            {\"do\":\"add\"}",
+        "1 a\u{e9}b,3 Add",
+    ),
+    (
+        "{\"do\":\"add\"}\n[\n{\"do\":\"add\"}\n[",
+        "2 not a JSON object",
+    ),
 ];
 
 /// Prints the number of each line of a run with the name of its event or its command.
@@ -55,6 +64,26 @@ fn print_run(alloc: Global, run: &LineRun, printed: &mut Vec<String>) -> Result<
         printed.push(format!(in alloc; "{} {:?}", control.line, control.command)?)?;
     }
     Ok(())
+}
+
+/// Prints what lines say, or the first bad one.
+fn print_reading(
+    alloc: Global,
+    reading: Result<LineParts, LineError>,
+) -> Result<String, AllocError> {
+    let mut printed = Vec::new(alloc);
+    match reading {
+        Err(LineError::Memory) => return Err(AllocError),
+        Err(LineError::Bad { line, why }) => {
+            printed.push(format!(in alloc; "{line} {}", why.as_str())?)?;
+        }
+        Ok(lines) => {
+            for run in lines.into_runs() {
+                print_run(alloc, &run, &mut printed)?;
+            }
+        }
+    }
+    printed.join(alloc, ",")
 }
 
 /// Prints what a short input says that so many workers share in pieces of about this length or
@@ -71,19 +100,7 @@ fn print_shared<R: Threads + Sync>(
     if bytes.len() > 1000 {
         return Err(AllocError);
     }
-    let mut printed = Vec::new(alloc);
-    match read_shared(rt, alloc, bytes, workers, least) {
-        Err(LineError::Memory) => return Err(AllocError),
-        Err(LineError::Bad { line, why }) => {
-            printed.push(format!(in alloc; "{line} {}", why.as_str())?)?;
-        }
-        Ok(lines) => {
-            for run in lines.into_runs() {
-                print_run(alloc, &run, &mut printed)?;
-            }
-        }
-    }
-    printed.join(alloc, ",")
+    print_reading(alloc, read_shared(rt, alloc, 1, bytes, workers, least))
 }
 
 #[test]
@@ -94,6 +111,36 @@ fn an_input_says_the_same_in_any_number_of_pieces(rt: HostRuntime) -> Result<(),
                 let printed = print_shared(&rt, rt.alloc(), input.as_bytes(), workers, least)?;
                 assert_eq!(rt; printed.as_str(), said, "{workers} workers, {least} bytes");
             }
+        }
+    }
+    Ok(())
+}
+
+/// Prints what an input says that a reader takes in pieces of this length.
+fn print_taken<R: Threads + Sync>(
+    rt: &R,
+    alloc: Global,
+    bytes: &[u8],
+    length: usize,
+) -> Result<String, AllocError>
+    requires { 0 < length }
+{
+    let mut reader = LineReader::new(alloc, 2);
+    for piece in bytes.chunks(length) {
+        if piece.len() > reader.room() as usize {
+            return Err(AllocError);
+        }
+        reader.take(rt, piece)?;
+    }
+    print_reading(alloc, reader.finish())
+}
+
+#[test]
+fn an_input_says_the_same_wherever_it_is_cut(rt: HostRuntime) -> Result<(), Fail> {
+    for (input, said) in INPUTS {
+        for length in [1, 7, 20, 1000] {
+            let printed = print_taken(&rt, rt.alloc(), input.as_bytes(), length)?;
+            assert_eq!(rt; printed.as_str(), said, "pieces of {length} bytes");
         }
     }
     Ok(())

@@ -115,3 +115,35 @@ fn the_first_bad_line_is_told(rt: HostRuntime) -> Result<(), Fail> {
     }
     Ok(())
 }
+
+#[test]
+fn a_later_read_fault_is_told_before_a_bad_line(rt: HostRuntime) -> Result<(), Fail> {
+    let setting = Setting {
+        words: &["model", "f", "missing"],
+        f: b"[]\n",
+        ..SETTING
+    };
+    expect(&rt, rt.alloc(), setting, 4, b"", b"file 2: read failed\n")
+}
+
+/// One worker reads 1,048,576 bytes at a time: the last line of the first file goes on in the bytes
+/// after these.
+#[test]
+fn lines_are_numbered_over_all_bytes(rt: HostRuntime) -> Result<(), Fail> {
+    let table: [(&[u8], &[u8]); 2] = [
+        (b"{\"do\":\"add\"}", b"line 1048572: not a JSON object\n"),
+        (b"{\"do\":\"stop\"}", b"line 1048571: unknown command\n"),
+    ];
+    for (last, err) in table {
+        let mut f = vec![in rt.alloc(); b'\n'; 1_048_570]?;
+        f.extend_from_slice(last)?;
+        let setting = Setting {
+            words: &["--workers", "1", "model", "f", "g"],
+            f: &f,
+            g: b"[]",
+            ..SETTING
+        };
+        expect(&rt, rt.alloc(), setting, 3, b"", err)?;
+    }
+    Ok(())
+}

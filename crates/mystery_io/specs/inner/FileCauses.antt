@@ -1,5 +1,5 @@
 -- Why one file of an input was not read.
-use Rattle.std.specs.Prelude.{◌≡◌, ℕ, Bool, true, List, Option, IfSome, ◌+◌, ◌<◌, ◌≤◌, length}
+use Rattle.std.specs.Prelude.{◌≡◌, ℕ, Bool, true, false, List, Option, IfSome, ◌+◌, ◌<◌, ◌≤◌, length}
 use Rattle.std.specs.Prelude.{option_map, ⊤}
 use Rattle.mystery_io.specs.Input.{ended, input_limit}
 use Rattle.mystery_io.specs.declared.reading.ReadFault.{ReadFault}
@@ -27,8 +27,8 @@ HasEndedCause index count content left is_open (File i) =
     (i ≡ index) × (is_open ≡ true → FitsBefore count content left)
 HasEndedCause index count content left is_open TooBig = PassesInputLimit count (option_map ended content)
 
--- the line feed that ends the bytes passes the limit
-abbrev pub IsPassedByFeed : List ℕ → ReadFault → Type 0
-IsPassedByFeed bytes Memory = ⊤
-IsPassedByFeed bytes (File i) = ⊥
-IsPassedByFeed bytes TooBig = input_limit < length (ended bytes)
+-- after so many bytes, the line feed that ends the last line passes the limit
+abbrev pub IsPassedByFeed : ℕ → Bool → ReadFault → Type 0
+IsPassedByFeed count ends_line Memory = ⊤
+IsPassedByFeed count ends_line (File i) = ⊥
+IsPassedByFeed count ends_line TooBig = (count ≡ input_limit) × (ends_line ≡ false)

@@ -11,21 +11,21 @@ returns-in-Err-Memory-clause-explains g c =
     let call : Call = call_of_line c.in-Some.line in
     let F = g.F.Files in
     let seen : Seen = run_seen c.args.words.now (files_seen F.contents F.left F.is_open F.names F.opens c.args.files.now c.read_both.new.files) g.S.Sink.written c.args.out.now c.args.out.now in
-    explains_memory seen call c.in-Some.ensures.call (rw (c.in-Err-Memory.field-0-is, c.certificate.ensures, c.files.ensures) at c.in-Err-Memory.ensures.cause) refl
+    explains_memory seen call c.in-Some.ensures.call (rw (c.in-Err-Memory.field-0-is, c.certificate-certificate.ensures, c.files.ensures) at c.in-Err-Memory.ensures.cause) refl
 
 pub returns-in-Err-File-clause-explains : goal.returns-in-Err-File-clause-explains
 returns-in-Err-File-clause-explains g c =
     let call : Call = call_of_line c.in-Some.line in
     let F = g.F.Files in
     let seen : Seen = run_seen c.args.words.now (files_seen F.contents F.left F.is_open F.names F.opens c.args.files.now c.read_both.new.files) g.S.Sink.written c.args.out.now c.args.out.now in
-    rw c.in-Err-File.field-0-is (explains_file seen call c.in-Some.ensures.call c.in-Err-File.index (rw (c.in-Err-File.field-0-is, c.certificate.ensures, c.files.ensures) at c.in-Err-File.ensures.cause) refl)
+    rw c.in-Err-File.field-0-is (explains_file seen call c.in-Some.ensures.call c.in-Err-File.index (rw (c.in-Err-File.field-0-is, c.certificate-certificate.ensures, c.files.ensures) at c.in-Err-File.ensures.cause) refl)
 
 pub returns-in-Err-TooBig-clause-explains : goal.returns-in-Err-TooBig-clause-explains
 returns-in-Err-TooBig-clause-explains g c =
     let call : Call = call_of_line c.in-Some.line in
     let F = g.F.Files in
     let seen : Seen = run_seen c.args.words.now (files_seen F.contents F.left F.is_open F.names F.opens c.args.files.now c.read_both.new.files) g.S.Sink.written c.args.out.now c.args.out.now in
-    explains_size seen call c.in-Some.ensures.call (rw (c.in-Err-TooBig.field-0-is, c.certificate.ensures, c.files.ensures) at c.in-Err-TooBig.ensures.cause) refl
+    explains_size seen call c.in-Some.ensures.call (rw (c.in-Err-TooBig.field-0-is, c.certificate-certificate.ensures, c.files.ensures) at c.in-Err-TooBig.ensures.cause) refl
 
 pub returns-in-Ok-clause-explains : goal.returns-in-Ok-clause-explains
 returns-in-Ok-clause-explains g c =
@@ -34,9 +34,9 @@ returns-in-Ok-clause-explains g c =
     let seen : Seen = run_seen c.args.words.now (files_seen F.contents F.left F.is_open F.names F.opens c.args.files.now c.read_both.new.files) g.S.Sink.written c.args.out.now c.perform_over.new.out in
     let known = c.in-Some.ensures.call in
     let read = c.in-Ok.ensures in
-    let said = rw c.certificate.ensures at read.said in
-    let cert_fits = rw c.certificate.ensures at read.certificate_fits in
-    let input = rw c.files.ensures at read.input in
-    let opened = rw (c.certificate.ensures, c.files.ensures) at read.opened in
-    let end = rw (c.certificate.ensures, c.files.ensures) at read.end in
-    explains_read seen call known (said_by c.in-Ok.readings.certificate) c.in-Ok.readings.input.items read.fits c.perform_over.result said cert_fits input (reads_all seen call known opened end) c.perform_over.ensures.ends
+    let said = rw c.certificate-certificate.ensures at read.said in
+    let cert_fits = rw c.certificate-certificate.ensures at read.certificate_fits in
+    let input = rw (c.form-form.ensures, c.files.ensures) at read.input in
+    let opened = rw (c.certificate-certificate.ensures, c.files.ensures) at read.opened in
+    let end = rw (c.certificate-certificate.ensures, c.files.ensures) at read.end in
+    explains_read seen call known (said_by c.in-Ok.readings.certificate) input.bytes input.fits c.perform_over.result said cert_fits input.same (reads_all seen call known opened end) (c.perform_over.ensures.ends input.bytes input.is)

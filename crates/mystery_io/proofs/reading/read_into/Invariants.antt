@@ -1,15 +1,17 @@
-use Rattle.std.proofs.Common.{◌≡◌, ◌<◌, ◌≤◌, take, true, vec_len}
+use Rattle.std.proofs.Common.{◌≡◌, ◌<◌, List, ℕ, length, take, true}
 use Rattle.std.specs.Prelude.{IfSome}
 use Rattle.std.specs.Io.KnownBytes.{IsAtEnd}
 use Rattle.mystery_io.specs.Counts.{CountsCalls}
-use Rattle.mystery_io.specs.Input.{input_limit, input_of, ends_line}
+use Rattle.mystery_io.specs.Input.{input_of}
 use Rattle.mystery_io.specs.ReadFaults.{append_names}
-use Rattle.mystery_io.proofs.reading.read_all.Given as goal
+use Rattle.mystery_io.specs.inner.Feeding.{Holds, IsFeeder}
+use Rattle.mystery_io.proofs.reading.read_into.Given as goal
 
 -- the input of the names so far
 abbrev pub invariant-loop-name : goal.invariant-loop-name
 invariant-loop-name g l =
     let F = g.F.Files in
+    let I = g.I.Intake in
     record {
       index : l.index ≡ l.name-index;
       contents : F.contents l.files ≡ F.contents l.fn.files;
@@ -17,7 +19,7 @@ invariant-loop-name g l =
       opens : CountsCalls l.name-index (F.opens l.fn.files) (F.opens l.files);
       tallied : F.faults l.files ≡ F.faults l.fn.files;
       end : 0 < l.name-index → IsAtEnd (F.left l.files);
-      fits : vec_len l.bytes ≤ input_limit;
-      lines : ends_line l.bytes.items ≡ true;
-      input : IfSome (F.contents l.fn.files) (λ c. l.bytes.items ≡ input_of c (take l.name-index l.names));
+      sound : IsFeeder I.room I.ready l.feeder;
+      lines : l.feeder.ends_line ≡ true;
+      input : (bytes : List ℕ) × Holds I.took l.feeder bytes × (l.feeder.count ≡ length bytes) × IfSome (F.contents l.fn.files) (λ c. bytes ≡ input_of c (take l.name-index l.names));
     }

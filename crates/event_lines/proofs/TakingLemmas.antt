@@ -1,0 +1,59 @@
+-- An input that is taken in pieces.
+use Rattle.std.proofs.Common.{◌≡◌, ℕ, ◌+◌, ◌-◌, ◌^◌, ◌≤◌, List, [], ◌∷◌, ◌++◌, length, true, Result, Ok, Err, arith, refl, sym, ap, subst, ◌∙◌, append_assoc, append-nil}
+use Rattle.std.specs.Prelude.{◌==◌, IfOk, IfErr}
+use Rattle.std.proofs.lemmas.List.{length-append, nil_from_length}
+use Rattle.std.proofs.lemmas.Bool.{eqb-true}
+use Rattle.event_lines.specs.declared.line.Line.{Line}
+use Rattle.event_lines.specs.declared.line_error.LineError.{LineError}
+use Rattle.event_lines.specs.Cut.{input_lines}
+use Rattle.event_lines.specs.InputLines.{LineFault, both_said, lines_said_from, IsLineError}
+use Rattle.event_lines.specs.LinesTaken.{LinesTaken, TakesBytes, said_with}
+use Rattle.event_lines.specs.inner.Readings.{IsReading}
+use Rattle.event_lines.proofs.PieceLemmas.{both_said-assoc, both_pieces}
+
+-- lines that end are read, and the bytes after them begin a new line
+lines_ended : (said new : Result (List Line) LineFault) (n next : ℕ) (front later : List ℕ) → new ≡ both_said said (lines_said_from n (input_lines front)) → next ≡ n + length (input_lines front)
+    → both_said new (lines_said_from next (input_lines later)) ≡ both_said said (lines_said_from n (input_lines (front ++ 10 ∷ later)))
+lines_ended said new n next front later e is =
+    ap (λ r. both_said r (lines_said_from next (input_lines later))) e ∙ sym (both_said-assoc said (lines_said_from n (input_lines front)) (lines_said_from next (input_lines later)))
+    ∙ ap (λ k. both_said said (both_said (lines_said_from n (input_lines front)) (lines_said_from k (input_lines later)))) is ∙ ap (both_said said) (sym (both_pieces n front later))
+
+-- bytes were taken that end lines
+pub ends_lines : (old new : LinesTaken) (bytes front : List ℕ) → front ≡ old.rest ++ bytes → new.ended ≡ both_said old.ended (lines_said_from old.number (input_lines front))
+    → new.number ≡ old.number + length (input_lines front) → length (input_lines front) ≤ length front + 1 → new.rest ≡ [] → TakesBytes old (bytes ++ 10 ∷ []) new
+ends_lines old new bytes front whole e is few none = record {
+  said = λ later.
+      let joined : front ++ 10 ∷ later ≡ old.rest ++ ((bytes ++ 10 ∷ []) ++ later) =
+      ap (λ xs. xs ++ 10 ∷ later) whole ∙ append_assoc old.rest bytes (10 ∷ later) ∙ ap (λ xs. old.rest ++ xs) (sym (append_assoc bytes (10 ∷ []) later)) in
+      ap (λ xs. both_said new.ended (lines_said_from new.number (input_lines (xs ++ later)))) none
+      ∙ lines_ended old.ended new.ended old.number new.number front later e is
+      ∙ ap (λ xs. both_said old.ended (lines_said_from old.number (input_lines xs))) joined;
+  room = omega (arith, is, few, ap length none, ap length whole ∙ length-append old.rest bytes, length-append bytes (10 ∷ []));
+}
+
+-- bytes are taken after others
+pub takes_both : (a b c : LinesTaken) (xs ys bytes : List ℕ) → TakesBytes a xs b → TakesBytes b ys c → bytes ≡ xs ++ ys → TakesBytes a bytes c
+takes_both a b c xs ys bytes h k joined = record {
+  said = λ later. k.said later ∙ h.said (ys ++ later) ∙ ap (said_with a) (sym (append_assoc xs ys later) ∙ ap (λ zs. zs ++ later) (sym joined));
+  room = omega (arith, h.room, k.room, ap length joined ∙ length-append xs ys);
+}
+
+-- a line feed is the end of what is before it
+pub feed_between : (bytes front back : List ℕ) → bytes ≡ front ++ 10 ∷ back → bytes ≡ (front ++ 10 ∷ []) ++ back
+feed_between bytes front back cut = cut ∙ sym (append_assoc front (10 ∷ []) back)
+
+-- nothing more is taken
+reading_with_none : (said : Result (List Line) LineFault) (n : ℕ) (rest : List ℕ) → both_said said (lines_said_from n (input_lines rest)) ≡ both_said said (lines_said_from n (input_lines (rest ++ [])))
+reading_with_none said n rest = ap (λ xs. both_said said (lines_said_from n (input_lines xs))) (sym (append-nil rest))
+
+pub finished_lines : (taken : LinesTaken) (r : Result (List Line) LineError) → IsReading (both_said taken.ended (lines_said_from taken.number (input_lines taken.rest))) r → IfOk r (λ v. said_with taken [] ≡ Ok v)
+finished_lines taken (Ok v) h = sym (reading_with_none taken.ended taken.number taken.rest) ∙ h
+finished_lines taken (Err e) h = tt
+
+pub finished_error : (taken : LinesTaken) (r : Result (List Line) LineError) → IsReading (both_said taken.ended (lines_said_from taken.number (input_lines taken.rest))) r → IfErr r (IsLineError (said_with taken []))
+finished_error taken (Ok v) h = tt
+finished_error taken (Err e) h = subst (λ said. IsLineError said e) (reading_with_none taken.ended taken.number taken.rest) h
+
+-- no byte is kept where their number is 0
+pub nothing_kept : (rest : List ℕ) (count : ℕ) → length rest ≡ count → (count == 0) ≡ true → rest ≡ []
+nothing_kept rest count is e = nil_from_length rest (is ∙ eqb-true count 0 e)

@@ -1,0 +1,126 @@
+ghost use Rattle.std.specs.Prelude.{◌≡◌, ◌≤◌, ◌<◌, ◌+◌, ◌-◌, ◌∷◌, [], ◌++◌, length, Ok};
+ghost use Rattle.std.specs.Prelude.{List, ℕ, IfOk, IfErr, OnOk};
+ghost use Rattle.event_lines.specs.InputLines.{lines_said, IsLineError};
+ghost use Rattle.event_lines.specs.LinesTaken.{TakesBytes, room_after, said_with};
+
+use crate::lines::read_piece;
+use crate::lines_so_far::LinesSoFar;
+use crate::pieces::{count_lines, cut_at_last_line_feed, cut_at_line_feed, join_readings};
+use crate::{LineError, LineParts};
+use std::alloc::{AllocError, Global};
+use std::marker::Model;
+use std::thread::Threads;
+
+/// Reads the lines of an input that comes in pieces, cut anywhere, and keeps of its bytes only those
+/// after the last line feed. Contracts see it as what it says of the bytes.
+#[derive(Debug, Drop)]
+pub struct LineReader {
+    alloc: Global,
+    workers: u32,
+    lines: LinesSoFar,
+    number: u32,
+    rest: Vec<u8>,
+}
+
+impl Model for LineReader {
+    ghost use Rattle.std.specs.Prelude.{◌+◌, ◌<◌, ◌^◌, length};
+    ghost use Rattle.event_lines.specs.LinesTaken.{LinesTaken};
+    ghost use Rattle.event_lines.specs.inner.LinesSoFar.{said_so_far};
+
+    ghost Value = { LinesTaken };
+
+    ghost view = { λ a. record {
+      ended = said_so_far a.lines;
+      number = a.number;
+      rest = a.rest.items;
+    } };
+
+    ghost invariant = { λ a. a.number + length a.rest.items < 2 ^ 32 };
+}
+
+impl LineReader {
+    /// Makes a reader that took nothing. Up to so many workers read each piece.
+    pub fn new(alloc: Global, workers: u32) -> LineReader
+        ensures said { (bytes : List ℕ) → said_with result bytes ≡ lines_said bytes }
+        ensures room { room_after result ≡ u32.MAX - 1 }
+    {
+        LineReader {
+            alloc,
+            workers,
+            lines: LinesSoFar::Good {
+                lines: LineParts::of(Vec::new(alloc)),
+            },
+            number: 1,
+            rest: Vec::new(alloc),
+        }
+    }
+
+    /// Returns how many bytes more it takes, so that the number of each line fits 32 bits.
+    pub fn room(&self) -> u32
+        ensures { result ≡ room_after self.now }
+    {
+        u32::MAX - (self.number + self.rest.len() as u32)
+    }
+
+    /// Takes bytes that are followed by a line feed, and this line feed.
+    fn take_lines<R: Threads + Sync>(&mut self, rt: &R, bytes: &[u8]) -> Result<(), AllocError>
+        requires { length bytes.now < room_after self.old }
+        ensures { OnOk result (TakesBytes self.old (bytes.now ++ 10 ∷ []) self.new) }
+    {
+        if self.rest.is_empty() {
+            self.lines
+                .add(rt, self.alloc, self.workers, self.number, bytes)?;
+            self.number += count_lines(bytes) as u32;
+            return Ok(());
+        }
+        self.rest.extend_from_slice(bytes)?;
+        self.lines
+            .add(rt, self.alloc, self.workers, self.number, &self.rest)?;
+        self.number += count_lines(&self.rest) as u32;
+        self.rest.clear();
+        Ok(())
+    }
+
+    /// Takes bytes and keeps them.
+    fn keep(&mut self, bytes: &[u8]) -> Result<(), AllocError>
+        requires { length bytes.now ≤ room_after self.old }
+        ensures { OnOk result (TakesBytes self.old bytes.now self.new) }
+    {
+        self.rest.extend_from_slice(bytes)
+    }
+
+    /// Takes the next bytes of the input. Lines that end are read; after the first bad line no
+    /// further one is. The only error is out of memory.
+    pub fn take<R: Threads + Sync>(&mut self, rt: &R, bytes: &[u8]) -> Result<(), AllocError>
+        requires { length bytes.now ≤ room_after self.old }
+        ensures { OnOk result (TakesBytes self.old bytes.now self.new) }
+    {
+        let Some((first, later)) = cut_at_line_feed(bytes, 0) else {
+            return self.keep(bytes);
+        };
+        self.take_lines(rt, first)?;
+        let Some((lines, rest)) = cut_at_last_line_feed(later) else {
+            return self.keep(later);
+        };
+        self.take_lines(rt, lines)?;
+        self.keep(rest)
+    }
+
+    /// Ends the input and gives its lines.
+    ///
+    /// The errors are `Memory`, and `Bad` with the number of the first bad line and the first reason
+    /// that holds of it.
+    pub fn finish(self) -> Result<LineParts, LineError>
+        ensures lines_read { IfOk result (λ v. said_with self [] ≡ Ok v) }
+        ensures first_bad { IfErr result (IsLineError (said_with self [])) }
+    {
+        let LineReader {
+            alloc,
+            lines,
+            number,
+            rest,
+            ..
+        } = self;
+        join_readings(lines.into_reading(), read_piece(alloc, number, &rest))
+    }
+}

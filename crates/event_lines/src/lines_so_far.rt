@@ -1,0 +1,58 @@
+ghost use Rattle.std.specs.Prelude.{◌≡◌, ◌<◌, ◌+◌, ◌^◌, length, OnOk};
+ghost use Rattle.event_lines.specs.Cut.{input_lines};
+ghost use Rattle.event_lines.specs.InputLines.{both_said, lines_said_from};
+ghost use Rattle.event_lines.specs.inner.LinesSoFar.{said_so_far};
+ghost use Rattle.event_lines.specs.inner.Readings.{IsReading};
+
+use crate::input_reading::{LEAST_PIECE, read_shared};
+use crate::{LineError, LineParts, Why};
+use std::alloc::{AllocError, Global};
+use std::thread::Threads;
+
+/// What the lines so far say.
+#[derive(Debug, Drop)]
+pub(crate) enum LinesSoFar {
+    /// All are good.
+    Good { lines: LineParts },
+    /// This is the first bad one. No later line matters.
+    Bad { line: u32, why: Why },
+}
+
+impl LinesSoFar {
+    /// Reads the lines of bytes, numbered from this one on, by up to so many workers, and appends
+    /// what they say. The only error is out of memory.
+    pub(crate) fn add<R: Threads + Sync>(
+        &mut self,
+        rt: &R,
+        alloc: Global,
+        workers: u32,
+        first: u32,
+        bytes: &[u8],
+    ) -> Result<(), AllocError>
+        requires { first + length bytes.now < 2 ^ 32 }
+        ensures { OnOk result (said_so_far self.new
+            ≡ both_said (said_so_far self.old) (lines_said_from first (input_lines bytes.now))) }
+    {
+        let LinesSoFar::Good { lines } = self else {
+            return Ok(());
+        };
+        match read_shared(rt, alloc, first, bytes, workers, LEAST_PIECE) {
+            Ok(more) => lines.append(more),
+            Err(LineError::Memory) => Err(AllocError),
+            Err(LineError::Bad { line, why }) => {
+                *self = LinesSoFar::Bad { line, why };
+                Ok(())
+            }
+        }
+    }
+
+    /// Gives the lines, or the first bad one as an error. Takes no memory.
+    pub(crate) fn into_reading(self) -> Result<LineParts, LineError>
+        ensures { IsReading (said_so_far self) result }
+    {
+        match self {
+            LinesSoFar::Good { lines } => Ok(lines),
+            LinesSoFar::Bad { line, why } => Err(LineError::Bad { line, why }),
+        }
+    }
+}
