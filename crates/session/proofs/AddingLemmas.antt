@@ -1,5 +1,5 @@
 -- The steps of an add: its names, its days, and why one is not taken.
-use Rattle.std.proofs.Common.{◌≡◌, ℕ, ◌+◌, ◌*◌, ◌<◌, ◌≤◌, List, ◌∷◌, length, map, refl, sym, ap, ◌∙◌, subst, arith}
+use Rattle.std.proofs.Common.{◌≡◌, ℕ, ◌*◌, List, ◌∷◌, length, map, sym, ap, ◌∙◌, subst}
 use Rattle.std.specs.List.{AllZip}
 use Rattle.batch_sheets.specs.declared.recording.DayLines.{DayLines}
 use Rattle.day_partitions.specs.Batches.{IsBatchFault, with_all}
@@ -26,8 +26,8 @@ use Rattle.session.specs.Sheets.{AreLinesOn, AreSheets, graced_by}
 use Rattle.session.specs.declared.add_fault.AddFault.{AddFault}
 use Rattle.session.specs.declared.add_fault.AddFault.TheVariants.{Memory, Over}
 use Rattle.session.specs.inner.AddFaults.{HasAddCause, HasNamesCause, fault_of_names, fault_of_sheets}
-use Rattle.session.specs.inner.AddSteps.{AreBooked, AreNamed, HasDaysCause, IsAddOf, PassDays}
-use Rattle.session.specs.inner.Changes.{session_with_book, session_with_names}
+use Rattle.session.specs.inner.AddSteps.{AreBooked, AreNamed, HasDaysCause, IsAddOf}
+use Rattle.session.specs.inner.Changes.{session_with_book}
 
 -- why names are not added
 pub names_cause : (fault : NameFault) (known : Known) (valid : List Trace) → HasCause (PassesLimit known valid) fault → HasNamesCause known valid (fault_of_names fault)

@@ -19,7 +19,7 @@ use Rattle.text_rows.specs.declared.print_fault.PrintFault.{PrintFault}
 use Rattle.session.specs.Carrying.{kept_count}
 use Rattle.session.specs.SessionStates.{SessionState, Shows}
 use Rattle.session.specs.inner.Changes.{session_with_book, session_with_grace, session_with_watch}
-use Rattle.session.specs.inner.Steps.{PrintsStep, PrintsSteps}
+use Rattle.session.specs.inner.Steps.{PrintsSteps}
 use Rattle.session.proofs.SheetLemmas.{zip_length}
 
 module _ {S : Type 0} (written : S → Option (List ℕ)) (faults : S → ℕ) where

@@ -1,5 +1,5 @@
 -- What holds of the traces of an add, over the definitions alone.
-use Rattle.std.specs.Prelude.{◌≡◌, ℕ, ◌+◌, ◌<◌, ◌≤◌, ◌++◌, ◌∷◌, List, All, length}
+use Rattle.std.specs.Prelude.{◌≡◌, ℕ, ◌+◌, ◌<◌, ◌≤◌, ◌++◌, ◌∷◌, List, length}
 use Rattle.std.specs.List.{AllZip, flat_map}
 use Rattle.batch_sheets.specs.declared.recording.DayLines.{DayLines}
 use Rattle.day_partitions.specs.Batches.{HasRoomFor, new_days, with_all}
@@ -14,7 +14,6 @@ use Rattle.session_rules.specs.declared.limit.Limit.TheVariants.{Days}
 use Rattle.text_rows.specs.TextsOfParts.{AreTexts}
 use Rattle.session.specs.SessionStates.{SessionState, Shows}
 use Rattle.session.specs.Sheets.{AreLinesOn, AreSheets, graced_by}
-use Rattle.batch_sheets.specs.Named.{IsKnownTrace}
 use Rattle.day_partitions.specs.Batches.{trace_count}
 use Rattle.day_partitions.specs.declared.dated_sheet.DatedSheet.{DatedSheet}
 use Rattle.kept_books.specs.BookLaws.{AreSheetsOf}
@@ -27,12 +26,7 @@ use Rattle.trace_types.specs.declared.event.Event.{Event}
 use Rattle.trace_types.specs.declared.named_trace.NamedTrace.{NamedTrace}
 use Rattle.trace_types.specs.declared.trace.Trace.{Trace}
 
--- each name of the traces is known once they are added
-abbrev pub ValidAreKnown : Type 0
-ValidAreKnown = (known : Known) (valid : List Trace)
-    → All (IsKnownTrace (with_traces known valid)) valid
-
--- there are no fewer names then
+-- there are no fewer names once traces are added
 abbrev pub NamesGrow : Type 0
 NamesGrow = (known : Known) (valid : List Trace) → IsKept known
     → length known.names ≤ length (with_traces known valid).names

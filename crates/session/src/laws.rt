@@ -1,13 +1,8 @@
 //! Laws over the definitions alone: each function does nothing, and its contract is the law.
 ghost use Rattle.session.specs.AddLaws.{AddIsTold, AddLeadsOn, AddPassesDays};
-ghost use Rattle.session.specs.AddLaws.{NamesGrow, NoMoreAreSheeted, NoMoreAreValid, ValidAreKnown};
+ghost use Rattle.session.specs.AddLaws.{NamesGrow, NoMoreAreSheeted, NoMoreAreValid};
 
 use kept_books::laws::{grown_shows, sheets_show};
-
-/// Each name of the valid traces of a batch is known once they are added to a catalogue.
-pub fn valid_are_known()
-    ensures { ValidAreKnown }
-{}
 
 /// A catalogue has no fewer names after traces are added.
 pub fn names_grow()
