@@ -14,4 +14,4 @@ mod tests;
 mod whole_rows;
 
 pub use day_sheet::DaySheet;
-pub use whole_rows::{task_row, whole_row};
+pub use whole_rows::{RowRoom, task_row, whole_row};

@@ -4,7 +4,7 @@ ghost use Rattle.refute_tests.specs.Clearing.{HaveNamesBelow};
 ghost use Rattle.refute_tests.specs.Survivors.{AreSurvivors};
 ghost use Rattle.word_rows.specs.Words.{AreWords};
 
-use crate::whole_rows::whole_row;
+use crate::whole_rows::RowRoom;
 use hypothesis_index::width;
 use std::alloc::{AllocError, Global};
 use trace_types::NamedTrace;
@@ -32,9 +32,11 @@ pub(crate) fn survivors(
     ensures width { IfOk result (λ words. length words ≡ width_of names) }
 {
     let mut words = Sheet::full(alloc, width(names))?;
+    let mut room = RowRoom::new(alloc);
     for trace in traces {
-        let row = whole_row(alloc, trace)?;
+        let row = room.whole_row(trace)?;
         words.meet_row(&row);
+        room.give_back(row);
     }
     Ok(bounded(words))
 }

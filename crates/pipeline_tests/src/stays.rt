@@ -1,9 +1,9 @@
-ghost use Rattle.std.specs.Prelude.{◌≡◌, ◌+◌, length, IfOk, MatchOption, OnOk};
+ghost use Rattle.std.specs.Prelude.{◌≡◌, ◌+◌, length, MatchOption, OnOk};
 ghost use Rattle.pipeline_tests.specs.inner.Stays.{AreStays, IsKnown, IsNew};
 ghost use Rattle.trace_types.specs.Parts.{by_number};
 ghost use Rattle.trace_types.specs.Pipelines.{HandlesAt};
 
-use std::alloc::{AllocError, Global};
+use std::alloc::AllocError;
 use trace_types::{NamedSegment, NamedTrace};
 
 /// Where one task handles one data element: from a first segment to a last one.
@@ -81,15 +81,16 @@ fn note_element(
 }
 
 /// Finds the stays of all tasks and elements of a trace, each once, in the order in which they
-/// begin. The only error is that memory ran out.
-pub(crate) fn stays_of(alloc: Global, trace: &NamedTrace) -> Result<Vec<Stay>, AllocError>
-    ensures { IfOk result (λ stays. AreStays trace.now (length trace.now.segments) stays.items) }
+/// begin. What the list held is dropped, and its memory serves again. The only error is that memory
+/// ran out.
+pub(crate) fn find_stays(trace: &NamedTrace, stays: &mut Vec<Stay>) -> Result<(), AllocError>
+    ensures { OnOk result (AreStays trace.now (length trace.now.segments) stays.new.items) }
 {
-    let mut stays = Vec::new(alloc);
+    stays.clear();
     for (index, segment) in trace.segments.items().iter().enumerate() {
         if let Some(element) = segment.element {
-            note_element(trace, index, *segment, element, &mut stays)?;
+            note_element(trace, index, *segment, element, stays)?;
         }
     }
-    Ok(stays)
+    Ok(())
 }

@@ -8,7 +8,7 @@ ghost use Rattle.word_rows.specs.Rows.{below};
 
 use crate::groups::{TaskStays, by_task};
 use crate::pairs::clear_pair;
-use crate::stays::stays_of;
+use crate::stays::{Stay, find_stays};
 use hypothesis_index::laws::pairs_follow;
 use std::alloc::{AllocError, Global};
 use trace_types::NamedTrace;
@@ -64,9 +64,11 @@ fn clear_groups(
 }
 
 /// Clears the places of exactly those relations between tasks that the trace refutes. In the row so
-/// far only word 0 was begun. The only error is that memory ran out.
+/// far only word 0 was begun. The stays are found in the list: what it held is dropped, and its
+/// memory serves again. The only error is that memory ran out.
 pub(crate) fn clear_tasks(
     alloc: Global,
+    stays: &mut Vec<Stay>,
     maker: &mut RowMaker,
     trace: &NamedTrace,
 ) -> Result<(), AllocError>
@@ -75,7 +77,7 @@ pub(crate) fn clear_tasks(
         (AddsExactly maker.old (λ r. RefutesTasks r trace.now) maker.new) }
     ensures fits { OnOk result (IsTrue (below 126 maker.new)) }
 {
-    let stays = stays_of(alloc, trace)?;
+    find_stays(trace, stays)?;
     let groups = by_task(alloc, trace, stays.as_slice())?;
     clear_groups(maker, trace, groups.as_slice())?;
     Ok(())

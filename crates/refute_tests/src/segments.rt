@@ -10,7 +10,7 @@ ghost use Rattle.word_rows.specs.Rows.{below, clears};
 
 use crate::margins::{end_limit, start_limit};
 use crate::pairs::{pair_kinds, row_slot, turn_to};
-use crate::sorting::by_name;
+use crate::sorting::sort_by_name;
 use crate::words::clear_by_words;
 use hypothesis_index::laws::pairs_follow;
 use std::alloc::{AllocError, Global};
@@ -110,9 +110,11 @@ fn clear_rows(
 }
 
 /// Clears the places of exactly those relations between names that the trace refutes. In the row so
-/// far only words of tasks were begun. The only error is that memory ran out.
+/// far only words of tasks were begun. The segments are sorted in the room: what it held is dropped,
+/// and its memory serves again. The only error is that memory ran out.
 pub fn clear_segments(
     alloc: Global,
+    room: &mut Vec<NamedSegment>,
     maker: &mut RowMaker,
     trace: &NamedTrace,
 ) -> Result<(), AllocError>
@@ -121,8 +123,8 @@ pub fn clear_segments(
     ensures fits { OnOk result ((names : ℕ) → HaveNamesBelow names trace.now
         → IsTrue (below (width_of names) maker.new)) }
 {
-    let segments = by_name(alloc, trace)?;
-    clear_rows(alloc, maker, trace.grace, segments.as_slice())?;
+    sort_by_name(trace, room)?;
+    clear_rows(alloc, maker, trace.grace, room.as_slice())?;
     Ok(())
 }
 
@@ -134,7 +136,7 @@ pub fn segment_row(alloc: Global, trace: &NamedTrace) -> Result<Row, AllocError>
         → IsTrue (below (width_of names) row)) }
 {
     let mut maker = RowMaker::new(alloc);
-    clear_segments(alloc, &mut maker, trace)?;
+    clear_segments(alloc, &mut Vec::new(alloc), &mut maker, trace)?;
     let row = maker.finish()?;
     Ok(row)
 }

@@ -1,18 +1,23 @@
-ghost use Rattle.std.specs.Prelude.{◌≡◌, IfOk, IsPermutation};
+ghost use Rattle.std.specs.Prelude.{◌≡◌, IfOk, IsPermutation, OnOk};
 ghost use Rattle.refute_tests.specs.inner.Hits.{NamesRise};
 ghost use Rattle.refute_tests.specs.inner.Sorting.{EndsFall, EndsRise, StartsFall, StartsRise};
 
 use std::alloc::{AllocError, Global};
 use trace_types::{NamedSegment, NamedTrace};
 
-/// Sorts the segments of a trace by name.
-pub(crate) fn by_name(alloc: Global, trace: &NamedTrace) -> Result<Vec<NamedSegment>, AllocError>
-    ensures same { IfOk result (λ sorted. IsPermutation trace.now.segments sorted.items) }
-    ensures rising { IfOk result (λ sorted. NamesRise sorted.items) }
+/// Sorts the segments of a trace by name, in this room: what it held is dropped, and its memory
+/// serves again.
+pub(crate) fn sort_by_name(
+    trace: &NamedTrace,
+    room: &mut Vec<NamedSegment>,
+) -> Result<(), AllocError>
+    ensures same { OnOk result (IsPermutation trace.now.segments room.new.items) }
+    ensures rising { OnOk result (NamesRise room.new.items) }
 {
-    let mut segments = trace.segments.items().to_vec(alloc)?;
-    segments.sort_unstable_by_key(|s| s.name);
-    Ok(segments)
+    room.clear();
+    room.extend_from_slice(trace.segments.items())?;
+    room.sort_unstable_by_key(|s| s.name);
+    Ok(())
 }
 
 /// Sorts segments by start.

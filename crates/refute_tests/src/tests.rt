@@ -76,7 +76,7 @@ fn rows_of_two_segments(rt: HostRuntime) -> Result<(), Fail> {
 fn segments_are_cleared_behind_tasks(rt: HostRuntime) -> Result<(), Fail> {
     let trace = pair(rt.alloc(), segment(0, 0, 10), segment(1, 10, 30), 0)?;
     let mut maker = RowMaker::new(rt.alloc());
-    clear_segments(rt.alloc(), &mut maker, &trace)?;
+    clear_segments(rt.alloc(), &mut Vec::new(rt.alloc()), &mut maker, &trace)?;
     let row = maker.finish()?;
     assert!(rt; only(&rt, &row) == (126, 10));
     Ok(())

@@ -80,6 +80,13 @@ impl Row {
         self.entries.as_slice()
     }
 
+    /// Gives the entries back, and takes no memory.
+    pub fn into_entries(self) -> Vec<Entry>
+        ensures { result.items ≡ self }
+    {
+        self.entries
+    }
+
     /// Makes a second row with the same entries. The only error is that memory ran out.
     pub fn copy(&self, alloc: Global) -> Result<Row, AllocError>
         ensures { IfOk result (λ r. r ≡ self.now) }

@@ -37,13 +37,16 @@ impl RowMaker {
         }
     }
 
-    /// Begins with the row that clears nothing, and takes the memory for so many entries at once. The
-    /// only error is that memory ran out.
-    pub fn with_room(alloc: Global, entries: usize) -> Result<RowMaker, AllocError>
+    /// Begins with the row that clears nothing, in the memory of these entries, which are dropped.
+    /// Memory for so many entries is taken at once, where they have less. The only error is that
+    /// memory ran out.
+    pub fn over(mut entries: Vec<Entry>, room: usize) -> Result<RowMaker, AllocError>
         ensures { IfOk result (λ maker. maker ≡ record { word = 0; mask = 0 } ∷ []) }
     {
+        entries.clear();
+        entries.reserve(room)?;
         Ok(RowMaker {
-            finished: Vec::with_capacity(alloc, entries)?,
+            finished: entries,
             word: 0,
             mask: 0,
         })

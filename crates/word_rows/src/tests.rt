@@ -112,7 +112,8 @@ fn mask_from(maker: &mut RowMaker, last: u32, word: u32, mask: u64) -> Result<()
 
 #[test]
 fn a_row_is_made_mask_by_mask(rt: HostRuntime) -> Result<(), Fail> {
-    let mut maker = RowMaker::with_room(rt.alloc(), 2)?;
+    let earlier = Vec::from_array(rt.alloc(), [Entry { word: 3, mask: 1 }])?;
+    let mut maker = RowMaker::over(earlier, 2)?;
     mask_from(&mut maker, 0, 0, 2)?;
     mask_from(&mut maker, 0, 0, 8)?;
     mask_from(&mut maker, 0, 5, 0)?;
@@ -125,7 +126,7 @@ fn a_row_is_made_mask_by_mask(rt: HostRuntime) -> Result<(), Fail> {
             mask: 0x8000_0000_0000_0001,
         },
     ];
-    assert_eq!(rt; row.entries(), entries.as_slice());
+    assert_eq!(rt; row.into_entries().as_slice(), entries.as_slice());
     Ok(())
 }
 

@@ -2,7 +2,7 @@ use Rattle.std.proofs.Common.{rules, IsPermutation}
 use Rattle.std.proofs.lemmas.List.Sorted.{IsNonDecreasingBy-from_sort_by_key}
 use Rattle.trace_types.specs.declared.named_segment.NamedSegment.{NamedSegment}
 use Rattle.refute_tests.proofs.NameLemmas.{names_rise}
-use Rattle.refute_tests.proofs.sorting.by_name.Goals as goal
+use Rattle.refute_tests.proofs.sorting.sort_by_name.Goals as goal
 
 pub returns-clause-rising : goal.returns-clause-rising
 returns-clause-rising c = let p : IsPermutation c.args.trace.now.segments c.sort_unstable_by_key.new.self.items = search rules in

@@ -4,7 +4,7 @@ use Rattle.pipeline_tests.proofs.TaskLemmas.{adds_then, either_kind, from_nothin
 use Rattle.refute_tests.specs.Clearing.{AddsExactly, ClearsExactly}
 use Rattle.trace_types.specs.declared.named_trace.NamedTrace.{NamedTrace}
 use Rattle.word_rows.specs.declared.entries.Entry.{Entry}
-use Rattle.pipeline_tests.proofs.whole_rows.whole_row.Goals as goal
+use Rattle.pipeline_tests.proofs.whole_rows.RowRoom.whole_row.Goals as goal
 
 pub returns-clause-exact : goal.returns-clause-exact
 returns-clause-exact c =
