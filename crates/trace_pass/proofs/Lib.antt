@@ -4,6 +4,7 @@ pub mod PlaceLemmas
 pub mod WatchLemmas
 pub mod HalvingLemmas
 pub mod BlockLemmas
+pub mod PartLemmas
 pub mod FlatLemmas
 pub mod LawLemmas
 pub mod TestLemmas

@@ -1,3 +1,4 @@
 -- What private contracts alone cite.
+pub mod Parts
 pub mod Working
 pub mod Closing

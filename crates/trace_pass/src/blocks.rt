@@ -1,17 +1,16 @@
-ghost use Rattle.std.specs.Prelude.{◌≡◌, ◌+◌, ◌^◌, ◌<◌, ◌≤◌, ◌++◌, IfErr, IfOk, OnErr};
+ghost use Rattle.std.specs.Prelude.{◌≡◌, ◌^◌, ◌<◌, ◌≤◌, IfErr, IfOk};
 ghost use Rattle.std.specs.Thread.{IsSync};
-ghost use Rattle.trace_pass.specs.Halving.{first_part, shares_of};
-ghost use Rattle.trace_pass.specs.States.{HasStopped, IsOfRecorder, both_recordings};
-ghost use Rattle.trace_pass.specs.inner.Working.{AreHalves, CanOffer, HasWorked};
+ghost use Rattle.trace_pass.specs.Halving.{first_part};
+ghost use Rattle.trace_pass.specs.inner.Parts.{HasRows, IsCutInto, part_of, recording_of, rest_of};
+ghost use Rattle.trace_pass.specs.inner.Working.{AreHalves, CanOffer, HasRecorded, HasStoppedAt};
 
+use crate::parts::{Part, Stopped};
 use crate::recorders::Recorder;
-use crate::recordings::Recording;
 use crate::watch_lines::WatchLine;
-use crate::workers::{OfferAllFault, offer_share};
+use crate::workers::offer_part;
 use mystery_io::Gate;
-use std::alloc::AllocError;
 use std::thread::{Threads, join};
-use trace_types::NamedTrace;
+use word_rule::Pass;
 
 /// How many of so many traces the first half of the workers takes.
 fn count_first(traces: usize, workers: u32) -> usize
@@ -23,103 +22,140 @@ fn count_first(traces: usize, workers: u32) -> usize
     (traces as u64 * u64::from(workers / 2) / u64::from(workers)) as usize
 }
 
-/// Splits off a recording and the traces for the second half of the workers. The only error is that
-/// memory ran out.
-fn halve(
-    recorder: &Recorder,
-    recording: &mut Recording,
-    traces: &mut Vec<NamedTrace>,
-    worker: u32,
-) -> Result<(Recording, Vec<NamedTrace>), AllocError>
-    requires can { CanOffer recorder.now recording.old traces.old.items worker }
-    requires several { 1 < recording.old.pass.view.shares }
-    ensures halves { IfOk result (λ r. AreHalves recorder.now worker recording.old
-        traces.old.items recording.new traces.new.items r.0 r.1.items) }
-    ensures err { OnErr result (recording.new ≡ recording.old) }
+/// Splits a part into one for the first half of the workers and one for the second.
+fn halve<'a>(recorder: &Recorder, part: Part<'a>, worker: u32) -> (Part<'a>, Part<'a>)
+    requires can { CanOffer recorder.now (recording_of part) (rest_of part) worker }
+    requires several { 1 < part.pass.view.shares }
+    ensures halves { AreHalves recorder.now worker (recording_of part.entry) (rest_of part.entry)
+        (recording_of result.0) (rest_of result.0) (recording_of result.1) (rest_of result.1) }
+    ensures cut { IsCutInto part.entry result.0 result.1 }
 {
-    let shares = recording.shares();
-    let first = count_first(traces.len(), shares);
-    let rest = traces.split_off(first)?;
-    let other = recorder.split(recording, shares - shares / 2);
-    Ok((other, rest))
+    let shares = part.shares();
+    let first = count_first(part.left(), shares);
+    let Part {
+        mut pass,
+        given,
+        recorded,
+        names,
+    } = part;
+    let (firsts, rest) = given.split_at(recorded + first);
+    let other = recorder.table.split(&mut pass, shares - shares / 2);
+    (
+        Part {
+            pass,
+            given: firsts,
+            recorded,
+            names,
+        },
+        Part {
+            pass: other,
+            given: rest,
+            recorded: 0,
+            names,
+        },
+    )
 }
 
-/// Joins the recordings of two blocks of workers and their lines. The only fault is that memory ran
-/// out; it gives the first recording back, unchanged.
-fn join_blocks(
-    recorder: &Recorder,
-    first: (Recording, Vec<WatchLine>),
-    other: (Recording, Vec<WatchLine>),
-) -> Result<(Recording, Vec<WatchLine>), OfferAllFault>
-    requires first { IsOfRecorder recorder.now first.0 }
-    requires other { IsOfRecorder recorder.now other.0 }
-    ensures recording { IfOk result (λ r. r.0 ≡ both_recordings first.0 other.0) }
-    ensures lines { IfOk result (λ r. r.1.items ≡ first.1.items ++ other.1.items) }
-    ensures fault { IfErr result (λ f. f.recording ≡ first.0) }
-{
-    let (mut recording, mut lines) = first;
-    let (other, mut more) = other;
-    if lines.append(&mut more).is_err() {
-        return Err(OfferAllFault { recording });
-    }
-    let Ok(()) = recorder.join(&mut recording, other) else {
-        return Err(OfferAllFault { recording });
-    };
-    Ok((recording, lines))
-}
-
-/// Offers the traces by a block of workers, of whom this one is the first, as many as the recording
-/// has shares: one half of them beside the other. The only fault is that memory ran out.
+/// Offers the part's traces by a block of workers, of whom this one is the first, as many as the
+/// part has shares: one half of them beside the other. The only fault is that memory ran out.
 pub(crate) fn offer_block<R: Threads + Sync, G: Gate + Sync>(
     rt: &R,
     recorder: &Recorder,
-    mut recording: Recording,
-    mut traces: Vec<NamedTrace>,
+    part: Part<'_>,
     worker: u32,
     every: u32,
     gate: &G,
-) -> Result<(Recording, Vec<WatchLine>), OfferAllFault>
-    requires { CanOffer recorder.now recording traces.items worker }
-    ensures ok { IfOk result (λ r. HasWorked recorder.now every worker recording traces.items
-        (shares_of traces.items recording.pass.view.shares) r.0 r.1.items) }
-    ensures fault { IfErr result (λ f. HasStopped recorder.now recording traces.items
-        f.recording) }
+) -> Result<(Pass, Vec<WatchLine>), Stopped>
+    requires { CanOffer recorder.now (recording_of part) (rest_of part) worker }
+    ensures ok { IfOk result
+        (λ r. HasRecorded recorder.now every worker part.entry r.0 r.1.items) }
+    ensures fault { IfErr result
+        (λ f. HasStoppedAt recorder.now part.entry f.pass f.recorded) }
 {
-    let shares = recording.shares();
+    let shares = part.shares();
     if shares < 2 {
-        return offer_share(recorder, recording, traces, worker, every, gate);
+        return offer_part(recorder, part, worker, every, gate);
     }
-    let Ok((other, rest)) = halve(recorder, &mut recording, &mut traces, worker) else {
-        return Err(OfferAllFault { recording });
-    };
     let next = worker + shares / 2;
-    let (first, other) = join(
+    let (mine, other) = halve(recorder, part, worker);
+
+    // Each closure makes its part anew: nothing is known of what a closure ensures where what it
+    // captures is a struct that names a lifetime.
+    let Part {
+        pass,
+        given,
+        recorded,
+        names,
+    } = mine;
+    let Part {
+        pass: next_pass,
+        given: next_given,
+        recorded: next_recorded,
+        names: next_names,
+    } = other;
+    let kept = given.len();
+    let (first, second) = join(
         rt,
-        move || -> Result<(Recording, Vec<WatchLine>), OfferAllFault>
-            requires { IsSync R.row × IsSync G.row
-                × CanOffer recorder.now recording traces.items worker }
-            ensures ok { IfOk result (λ r. HasWorked recorder.entry.now every worker recording
-                traces.items (shares_of traces.items recording.pass.view.shares)
-                r.0 r.1.items) }
-            ensures fault { IfErr result (λ f. HasStopped recorder.entry.now recording
-                traces.items f.recording) }
-        { offer_block(rt, recorder, recording, traces, worker, every, gate) },
-        move || -> Result<(Recording, Vec<WatchLine>), OfferAllFault>
-            requires { IsSync R.row × IsSync G.row
-                × CanOffer recorder.now other rest.items next }
-            ensures ok { IfOk result (λ r. HasWorked recorder.entry.now every next other
-                rest.items (shares_of rest.items other.pass.view.shares) r.0 r.1.items) }
-            ensures fault { IfErr result (λ f. HasStopped recorder.entry.now other rest.items
-                f.recording) }
-        { offer_block(rt, recorder, other, rest, next, every, gate) },
+        move || -> Result<(Pass, Vec<WatchLine>), Stopped>
+            requires sync { IsSync R.row × IsSync G.row }
+            requires can { CanOffer recorder.now
+                (recording_of (part_of pass given.now recorded names))
+                (rest_of (part_of pass given.now recorded names)) worker }
+            requires rows { HasRows (part_of pass given.now recorded names) }
+            ensures ok { IfOk result (λ r. HasRecorded recorder.entry.now every worker
+                (part_of pass given.entry.now recorded names) r.0 r.1.items) }
+            ensures fault { IfErr result (λ f. HasStoppedAt recorder.entry.now
+                (part_of pass given.entry.now recorded names) f.pass f.recorded) }
+        {
+            let part = Part {
+                pass,
+                given,
+                recorded,
+                names,
+            };
+            offer_block(rt, recorder, part, worker, every, gate)
+        },
+        move || -> Result<(Pass, Vec<WatchLine>), Stopped>
+            requires sync { IsSync R.row × IsSync G.row }
+            requires can { CanOffer recorder.now
+                (recording_of (part_of next_pass next_given.now next_recorded next_names))
+                (rest_of (part_of next_pass next_given.now next_recorded next_names)) next }
+            requires rows { HasRows
+                (part_of next_pass next_given.now next_recorded next_names) }
+            ensures ok { IfOk result (λ r. HasRecorded recorder.entry.now every next
+                (part_of next_pass next_given.entry.now next_recorded next_names) r.0
+                r.1.items) }
+            ensures fault { IfErr result (λ f. HasStoppedAt recorder.entry.now
+                (part_of next_pass next_given.entry.now next_recorded next_names) f.pass
+                f.recorded) }
+        {
+            let part = Part {
+                pass: next_pass,
+                given: next_given,
+                recorded: next_recorded,
+                names: next_names,
+            };
+            offer_block(rt, recorder, part, next, every, gate)
+        },
     );
     let first = match first {
         Ok(first) => first,
         Err(fault) => return Err(fault),
     };
-    let Ok(other) = other else {
-        let (recording, _lines) = first;
-        return Err(OfferAllFault { recording });
+    let (mut pass, mut lines) = first;
+    let Ok(second) = second else {
+        return Err(Stopped {
+            pass,
+            recorded: kept,
+        });
     };
-    join_blocks(recorder, first, other)
+    let (other, mut more) = second;
+    if lines.append(&mut more).is_err() {
+        return Err(Stopped {
+            pass,
+            recorded: kept,
+        });
+    }
+    recorder.table.join(&mut pass, other);
+    Ok((pass, lines))
 }

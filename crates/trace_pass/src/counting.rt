@@ -5,9 +5,10 @@ ghost use Rattle.word_rows.specs.Words.{AreWords};
 ghost use Rattle.word_rule.specs.Histories.{KnowsMore};
 ghost use Rattle.trace_pass.specs.Counts.{IsAtLeastRefuted, zeros};
 ghost use Rattle.trace_pass.specs.States.{IsOfRecorder};
+ghost use Rattle.trace_pass.specs.inner.Parts.{HasSameTraces, recording_of};
 
+use crate::parts::Part;
 use crate::recorders::Recorder;
-use crate::recordings::Recording;
 use hypothesis_index::laws::{pairs_follow, places_differ, places_fit};
 use pipeline_tests::laws::rows_clear_refuted;
 use word_rows::laws::clears_below;
@@ -27,27 +28,26 @@ fn count_zeros(words: &[u64]) -> u32
 
 /// Reads the words and counts the bits that are 0: no fewer than the relations that the recorded
 /// traces refute.
-pub(crate) fn read_number(recorder: &Recorder, recording: &mut Recording, into: &mut [u64]) -> u32
-    requires table { IsOfRecorder recorder.now recording.old }
+pub(crate) fn read_number(recorder: &Recorder, part: &mut Part<'_>, into: &mut [u64]) -> u32
+    requires table { IsOfRecorder recorder.now (recording_of part.old) }
     requires width { length into.old ≡ recorder.now.table.width }
-    ensures table { recording.new.pass.table_id ≡ recording.old.pass.table_id }
-    ensures traces { recording.new.traces ≡ recording.old.traces }
-    ensures names { recording.new.names ≡ recording.old.names }
-    ensures readings { recording.new.pass.view ≡
-        with_readings recording.old.pass.view (readings_from 0 into.new) }
-    ensures shown { AreZero into.new (lacks recording.old.pass.view.readings) }
-    ensures more { KnowsMore recording.old.pass.pasts recording.new.pass.pasts }
+    ensures table { part.new.pass.table_id ≡ part.old.pass.table_id }
+    ensures same { HasSameTraces part.old part.new }
+    ensures readings { part.new.pass.view ≡
+        with_readings part.old.pass.view (readings_from 0 into.new) }
+    ensures shown { AreZero into.new (lacks part.old.pass.view.readings) }
+    ensures more { KnowsMore part.old.pass.pasts part.new.pass.pasts }
     ensures count { result ≡ zeros into.new }
     ensures bound { AreWords into.new }
-    ensures least { IsAtLeastRefuted recording.old.traces result }
+    ensures least { IsAtLeastRefuted (recording_of part.old).traces result }
 {
     places_differ();
     places_fit();
     pairs_follow();
     clears_below();
     rows_clear_refuted();
-    recording.shares();
+    part.shares();
     recorder.width();
-    recorder.read(recording, into);
+    recorder.read_part(part, into);
     count_zeros(into)
 }

@@ -17,6 +17,7 @@ mod counting;
 pub mod laws;
 mod notes;
 mod offering;
+mod parts;
 mod reading;
 mod recorders;
 mod recordings;
@@ -28,9 +29,8 @@ mod workers;
 
 pub use closing::RecorderFault;
 pub use notes::Note;
-pub use offering::offer_all;
+pub use offering::{OfferAllFault, offer_all};
 pub use recorders::{OfferFault, Recorder};
 pub use recordings::Recording;
 pub use sharing::JoinFault;
 pub use watch_lines::{WatchLine, WatchLines};
-pub use workers::OfferAllFault;

@@ -6,13 +6,38 @@ ghost use Rattle.trace_pass.specs.States.{HasStopped, IsOfRecorder};
 ghost use Rattle.trace_pass.specs.Watch.{HasWatched};
 
 use crate::blocks::offer_block;
+use crate::parts::{Part, Stopped};
 use crate::recorders::Recorder;
 use crate::recordings::Recording;
 use crate::watch_lines::WatchLines;
-use crate::workers::OfferAllFault;
 use mystery_io::Gate;
 use std::thread::Threads;
 use trace_types::NamedTrace;
+
+/// Memory ran out. The recording holds only traces that were offered, each once, and may hold fewer
+/// shares than it had.
+#[derive(Drop)]
+pub struct OfferAllFault {
+    pub recording: Recording,
+}
+
+/// Appends the other traces, or takes them whole where there are none before them. The only error is
+/// that memory ran out; it gives the first ones back.
+fn append_all(
+    mut traces: Vec<NamedTrace>,
+    mut others: Vec<NamedTrace>,
+) -> Result<Vec<NamedTrace>, Vec<NamedTrace>>
+    ensures ok { IfOk result (λ all. all.items ≡ traces.items ++ others.items) }
+    ensures err { IfErr result (λ firsts. firsts.items ≡ traces.items) }
+{
+    if traces.is_empty() {
+        return Ok(others);
+    }
+    if traces.append(&mut others).is_err() {
+        return Err(traces);
+    }
+    Ok(traces)
+}
 
 /// Offers the traces by as many workers as the recording has shares, beside one another. The
 /// workers share the traces by halving, and each calls the gate before it offers one. The recording
@@ -43,11 +68,48 @@ pub fn offer_all<R: Threads + Sync, G: Gate + Sync>(
     ensures fault { IfErr result (λ f. HasStopped recorder.now recording traces.items
         f.recording) }
 {
-    if recording.reserve(traces.len()).is_err() {
-        return Err(OfferAllFault { recording });
-    }
-    match offer_block(rt, recorder, recording, traces, 0, every, gate) {
-        Ok((recording, lines)) => Ok((recording, WatchLines::of(lines))),
-        Err(fault) => Err(fault),
+    let Recording {
+        pass,
+        traces: recorded,
+        names,
+    } = recording;
+    let base = recorded.len();
+    let all = match append_all(recorded, traces) {
+        Ok(all) => all,
+        Err(traces) => {
+            return Err(OfferAllFault {
+                recording: Recording {
+                    pass,
+                    traces,
+                    names,
+                },
+            });
+        }
+    };
+    let part = Part {
+        pass,
+        given: all.as_slice(),
+        recorded: base,
+        names,
+    };
+    match offer_block(rt, recorder, part, 0, every, gate) {
+        Ok((pass, lines)) => {
+            let recording = Recording {
+                pass,
+                traces: all,
+                names,
+            };
+            Ok((recording, WatchLines::of(lines)))
+        }
+        Err(Stopped { pass, recorded }) => {
+            let mut traces = all;
+            traces.truncate(recorded);
+            let recording = Recording {
+                pass,
+                traces,
+                names,
+            };
+            Err(OfferAllFault { recording })
+        }
     }
 }

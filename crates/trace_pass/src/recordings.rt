@@ -1,4 +1,3 @@
-use std::alloc::AllocError;
 use std::marker::Model;
 use trace_types::NamedTrace;
 use word_rule::Pass;
@@ -37,13 +36,6 @@ impl Recording {
         ensures rows { AreRowsWithin self.now.names self.now.traces self.now.pass.view.done }
     {
         self.pass.shares()
-    }
-
-    /// Takes the memory for so many more traces. The only error is that memory ran out.
-    pub(crate) fn reserve(&mut self, more: usize) -> Result<(), AllocError>
-        ensures { self.new ≡ self.old }
-    {
-        Ok(self.traces.reserve(more)?)
     }
 
     /// Lends the traces, in the order in which they were offered.

@@ -4,23 +4,18 @@ ghost use Rattle.word_rows.specs.declared.views.Reading.{Reading};
 ghost use Rattle.word_rule.specs.Histories.{KnowsMore};
 ghost use Rattle.trace_pass.specs.States.{HasStopped, IsOfRecorder};
 ghost use Rattle.trace_pass.specs.Watch.{is_multiple};
-ghost use Rattle.trace_pass.specs.inner.Working.{CanOffer, HasWorked, IsWatching};
+ghost use Rattle.trace_pass.specs.inner.Parts.{HasSameTraces, recording_of, rest_of};
+ghost use Rattle.trace_pass.specs.inner.Working.{CanOffer, HasRecorded, HasStoppedAt, HasWorked, IsWatching};
 
 use crate::counting::read_number;
+use crate::parts::{Part, Stopped};
 use crate::recorders::Recorder;
-use crate::recordings::Recording;
 use crate::watch_lines::WatchLine;
 use mystery_io::Gate;
+use pipeline_tests::RowRoom;
 use std::alloc::AllocError;
-use trace_types::NamedTrace;
 use word_rows::laws::{block_lacks, lacks_append};
-
-/// Memory ran out. The recording holds only traces that were offered, each once, and may hold fewer
-/// shares than it had.
-#[derive(Drop)]
-pub struct OfferAllFault {
-    pub recording: Recording,
-}
+use word_rule::Pass;
 
 /// Tests whether a number is a multiple of this one, which is not 0.
 fn is_multiple(every: u32, n: u32) -> bool
@@ -43,26 +38,26 @@ fn count_due(traces: usize, every: u32) -> usize {
 /// that memory ran out.
 fn watch(
     recorder: &Recorder,
-    recording: &mut Recording,
+    part: &mut Part<'_>,
     lines: &mut Vec<WatchLine>,
     block: &mut [u64],
     worker: u32,
     offered: u32,
     every: u32,
 ) -> Result<(), AllocError>
-    requires table { IsOfRecorder recorder.now recording.old }
+    requires table { IsOfRecorder recorder.now (recording_of part.old) }
     requires width { 0 < every → length block.old ≡ recorder.now.table.width }
     requires fits { offered + 1 < 2 ^ 32 }
-    ensures table { IsOfRecorder recorder.now recording.new }
-    ensures same { recording.new.traces ≡ recording.old.traces }
-    ensures shares { recording.new.pass.view.shares ≡ recording.old.pass.view.shares }
-    ensures more { KnowsMore recording.old.pass.pasts recording.new.pass.pasts }
+    ensures table { IsOfRecorder recorder.now (recording_of part.new) }
+    ensures same { HasSameTraces part.old part.new }
+    ensures shares { part.new.pass.view.shares ≡ part.old.pass.view.shares }
+    ensures more { KnowsMore part.old.pass.pasts part.new.pass.pasts }
     ensures watched { OnOk result ((base : List Reading) (firsts share : List NamedTrace)
-        → recording.old.traces ≡ firsts ++ take (offered + 1) share
+        → (recording_of part.old).traces ≡ firsts ++ take (offered + 1) share
         → IsWatching every recorder.now.table.width worker offered share base
-        recording.old.pass.view.readings lines.old.items
+        part.old.pass.view.readings lines.old.items
         → IsWatching every recorder.now.table.width worker (offered + 1) share base
-        recording.new.pass.view.readings lines.new.items) }
+        part.new.pass.view.readings lines.new.items) }
 {
     block_lacks();
     lacks_append();
@@ -70,7 +65,7 @@ fn watch(
     if !is_multiple(every, done) {
         return Ok(());
     }
-    let refuted = read_number(recorder, recording, block);
+    let refuted = read_number(recorder, part, block);
     lines.push(WatchLine {
         worker,
         done,
@@ -79,77 +74,64 @@ fn watch(
     Ok(())
 }
 
-/// Offers the traces in order, calls the gate before each, and takes the watch numbers that are
-/// due. The only fault is that memory ran out.
+/// Offers the part's traces in order, calls the gate before each, and takes the watch numbers that
+/// are due. The only error is that memory ran out.
 fn offer_each<G: Gate>(
     recorder: &Recorder,
-    mut recording: Recording,
-    traces: Vec<NamedTrace>,
+    part: &mut Part<'_>,
     block: &mut [u64],
     worker: u32,
     every: u32,
     gate: &G,
-) -> Result<(Recording, Vec<WatchLine>), OfferAllFault>
-    requires can { CanOffer recorder.now recording traces.items worker }
+) -> Result<Vec<WatchLine>, AllocError>
+    requires can { CanOffer recorder.now (recording_of part.old) (rest_of part.old) worker }
     requires width { 0 < every → length block.old ≡ recorder.now.table.width }
-    ensures ok { IfOk result (λ r. HasWorked recorder.now every worker recording traces.items
-        (traces.items ∷ []) r.0 r.1.items) }
-    ensures fault { IfErr result (λ f. HasStopped recorder.now recording traces.items
-        f.recording) }
+    ensures same { (part.new.given ≡ part.old.given) × (part.new.names ≡ part.old.names) }
+    ensures ok { IfOk result (λ lines. HasWorked recorder.now every worker (recording_of part.old)
+        (rest_of part.old) (rest_of part.old ∷ []) (recording_of part.new) lines.items) }
+    ensures all { IfOk result (λ _. part.new.recorded ≡ length part.old.given) }
+    ensures err { IfErr result (λ _. HasStopped recorder.now (recording_of part.old)
+        (rest_of part.old) (recording_of part.new)) }
 {
-    let due = count_due(traces.len(), every);
-    let Ok(mut lines) = Vec::with_capacity(recorder.alloc, due) else {
-        return Err(OfferAllFault { recording });
-    };
-    let mut offered = 0;
-    for trace in traces {
+    let count = part.left();
+    let mut lines = Vec::with_capacity(recorder.alloc, count_due(count, every))?;
+    let mut room = RowRoom::new(recorder.alloc);
+    for offered in 0..count as u32 {
         gate.turn(worker, offered);
-        let Ok(()) = recorder.offer(&mut recording, trace) else {
-            return Err(OfferAllFault { recording });
-        };
-        let Ok(()) = watch(
-            recorder,
-            &mut recording,
-            &mut lines,
-            block,
-            worker,
-            offered,
-            every,
-        ) else {
-            return Err(OfferAllFault { recording });
-        };
-        offered += 1;
+        recorder.offer_next(&mut room, part)?;
+        watch(recorder, part, &mut lines, block, worker, offered, every)?;
     }
-    Ok((recording, lines))
+    Ok(lines)
 }
 
-/// Offers the traces as one worker, whose room for readings is there before its first step. The
-/// only fault is that memory ran out.
-pub(crate) fn offer_share<G: Gate>(
+/// Offers the part's traces as one worker, whose room for readings is there before its first step.
+/// The only fault is that memory ran out.
+pub(crate) fn offer_part<G: Gate>(
     recorder: &Recorder,
-    mut recording: Recording,
-    traces: Vec<NamedTrace>,
+    mut part: Part<'_>,
     worker: u32,
     every: u32,
     gate: &G,
-) -> Result<(Recording, Vec<WatchLine>), OfferAllFault>
-    requires { CanOffer recorder.now recording traces.items worker }
-    ensures ok { IfOk result (λ r. HasWorked recorder.now every worker recording traces.items
-        (traces.items ∷ []) r.0 r.1.items) }
-    ensures fault { IfErr result (λ f. HasStopped recorder.now recording traces.items
-        f.recording) }
+) -> Result<(Pass, Vec<WatchLine>), Stopped>
+    requires can { CanOffer recorder.now (recording_of part) (rest_of part) worker }
+    requires one { part.pass.view.shares ≡ 1 }
+    ensures ok { IfOk result
+        (λ r. HasRecorded recorder.now every worker part.entry r.0 r.1.items) }
+    ensures fault { IfErr result
+        (λ f. HasStoppedAt recorder.now part.entry f.pass f.recorded) }
 {
-    if recording.reserve(traces.len()).is_err() {
-        return Err(OfferAllFault { recording });
-    }
     let width = if every == 0 {
         0
     } else {
         recorder.width() as usize
     };
     let Ok(mut block) = Vec::from_elem(recorder.alloc, 0u64, width) else {
-        return Err(OfferAllFault { recording });
+        return Err(part.stop());
     };
     let block = block.as_mut_slice();
-    offer_each(recorder, recording, traces, block, worker, every, gate)
+    let Ok(lines) = offer_each(recorder, &mut part, block, worker, every, gate) else {
+        return Err(part.stop());
+    };
+    let stopped = part.stop();
+    Ok((stopped.pass, lines))
 }

@@ -7,8 +7,10 @@ use Rattle.word_rows.specs.declared.views.Reading.{Reading}
 use Rattle.word_rows.specs.Changes.{readings_from}
 use Rattle.word_rows.specs.Words.{AreWords}
 use Rattle.word_rule.specs.Histories.{KnowsMore}
-use Rattle.trace_pass.specs.Halving.{first_part}
-use Rattle.trace_pass.specs.States.{IsOfRecorder, RecorderState, RecordingState}
+use Rattle.word_rule.specs.Holdings.{Holding}
+use Rattle.trace_pass.specs.Halving.{first_part, shares_of}
+use Rattle.trace_pass.specs.States.{HasStopped, IsOfRecorder, RecorderState, RecordingState}
+use Rattle.trace_pass.specs.inner.Parts.{HasRows, PartState, recording_of, rest_of, with_recorded}
 use Rattle.trace_pass.specs.Counts.{IsAtLeastRefuted, zeros}
 use Rattle.trace_pass.specs.Watch.{watch_counts}
 use Rattle.trace_pass.specs.declared.watch_lines.WatchLine.{WatchLine}
@@ -62,6 +64,21 @@ pub record HasWorked (recorder : RecorderState) (every worker : ℕ) (old : Reco
   pub recorded : new.traces ≡ old.traces ++ traces
   pub more : KnowsMore old.pass.pasts new.pass.pasts
   pub watched : HasWatchedFrom every recorder.table.width worker shares old new lines
+
+-- workers, one for each share of the part, of whom this one is the first, recorded all its traces
+pub record HasRecorded (recorder : RecorderState) (every worker : ℕ) (part : PartState)
+    (pass : Holding) (lines : List WatchLine) : Type 0 where
+  pub worked : HasWorked recorder every worker (recording_of part) (rest_of part)
+      (shares_of (rest_of part) part.pass.view.shares)
+      (recording_of (with_recorded part pass (length part.given))) lines
+  pub rows : HasRows (with_recorded part pass (length part.given))
+
+-- they stopped for want of memory, with so many of the part's traces recorded
+pub record HasStoppedAt (recorder : RecorderState) (part : PartState) (pass : Holding)
+    (recorded : ℕ) : Type 0 where
+  pub stopped : HasStopped recorder (recording_of part) (rest_of part)
+      (recording_of (with_recorded part pass recorded))
+  pub rows : HasRows (with_recorded part pass recorded)
 
 -- so many of the worker's share were offered, and the readings since this base are one block for
 -- each line so far

@@ -1,16 +1,20 @@
-use Rattle.std.proofs.Common.{List, subst, sym}
-use Rattle.trace_types.specs.declared.named_trace.NamedTrace.{NamedTrace}
+use Rattle.std.proofs.Common.{rules, ◌≡◌, List, length, drop, ap, subst, sym, ◌∙◌}
+use Rattle.std.proofs.lemmas.List.{drop_at}
 use Rattle.trace_pass.specs.Halving.{shares_of}
 use Rattle.trace_pass.specs.States.{RecordingState}
 use Rattle.trace_pass.specs.Watch.{HasWatched}
 use Rattle.trace_pass.specs.declared.watch_lines.WatchLine.{WatchLine}
-use Rattle.trace_pass.proofs.FlatLemmas.{has_watched}
+use Rattle.trace_pass.specs.inner.Parts.{PartState, part_of, rest_of}
+use Rattle.trace_pass.proofs.PartLemmas.{watched_part}
 use Rattle.trace_pass.proofs.offering.offer_all.Goals as goal
 
-pub returns-in-Ok-clause-watched : goal.returns-in-Ok-clause-watched
-returns-in-Ok-clause-watched g c =
-    let every = c.args.every in let width = c.args.recorder.now.table.width in let old = c.reserve.new.self in
-    let shares : List (List NamedTrace) = shares_of c.args.traces.items old.pass.view.shares in
-    subst (λ (r : RecordingState). HasWatched every width (shares_of c.args.traces.items r.pass.view.shares) r c.in-Ok.recording c.of.result) c.reserve.ensures
-    (subst (λ (ls : List WatchLine). HasWatched every width shares old c.in-Ok.recording ls) (sym c.of.ensures)
-    (has_watched every width shares old c.in-Ok.recording c.in-Ok.lines.items c.in-Ok.ensures.ok.watched))
+pub returns-in-Ok-offer_block-clause-watched : goal.returns-in-Ok-offer_block-clause-watched
+returns-in-Ok-offer_block-clause-watched g c =
+    let every = c.args.every in let width = c.args.recorder.now.table.width in let mine = c.recording.inside in
+    let new : RecordingState = record { pass = c.in-Ok-offer_block.pass; traces = c.in-Ok.all.items; names = mine.names } in
+    let part : PartState = part_of mine.pass c.as_slice.result.now c.len-base.result mine.names in
+    let base : length mine.traces.items ≡ c.len-base.result = search rules in
+    let rest : rest_of part ≡ c.args.traces.items = ap (drop c.len-base.result) (c.as_slice.ensures.value ∙ c.in-Ok.ensures.ok) ∙ drop_at mine.traces.items c.args.traces.items c.len-base.result base in
+    subst (λ (r : RecordingState). HasWatched every width (shares_of c.args.traces.items r.pass.view.shares) r new c.of.result) c.recording.view_is
+    (subst (λ (ls : List WatchLine). HasWatched every width (shares_of c.args.traces.items mine.pass.view.shares) (record { pass = mine.pass; traces = mine.traces.items; names = mine.names }) new ls) (sym c.of.ensures)
+    (watched_part every width _ part c.in-Ok-offer_block.pass c.args.traces.items mine.traces.items c.in-Ok.all.items c.in-Ok-offer_block.lines.items rest c.in-Ok-offer_block.ensures.ok.worked.watched))
