@@ -183,3 +183,32 @@ split_done days named yielded ss lists all h =
       so_far = so_far;
       some = some_each named ss so_far.each_list (subst (All (λ d. Contains (map named_day named) d)) (sym so_far.each_day) (All-weaker (Contains days) (λ d. Contains (map named_day named) d) (λ d c. (lists.exactly d).0 c) days (All-contains_itself days)));
     }
+
+-- ---- traces that all are of one day
+kept_all : (day : ℕ) (named : List NamedTrace) → All (λ (t : NamedTrace). t.day ≡ day) named → named ≡ named_on day named
+kept_all day [] h = refl
+kept_all day (t ∷ ts) h =
+    let own : t.day ≡ day = All-head (λ (u : NamedTrace). u.day ≡ day) t ts h in
+    let rest = kept_all day ts (All-tail (λ (u : NamedTrace). u.day ≡ day) t ts h) in
+    ap (λ l. t ∷ l) rest ∙ sym (cond-true (t.day == day) (t ∷ named_on day ts) (named_on day ts) (eq-eqb t.day day own))
+
+pub one_day : (day : ℕ) (named : List NamedTrace) (s : DayTraces) → s.day ≡ day → s.traces.items ≡ named → All (λ (t : NamedTrace). t.day ≡ day) named → AreSplitSoFar (day ∷ []) named (s ∷ [])
+one_day day named s own has h = record {
+  each_day = ap (λ d. d ∷ []) own;
+  each_list = All-cons (HasThose named) s [] (has ∙ kept_all day named h ∙ ap (λ d. named_on d named) (sym own)) (All-nil (HasThose named));
+}
+
+all_in : (xs : List NamedTrace) → All (λ (t : NamedTrace). Contains (map named_day xs) t.day) xs
+all_in xs k d l = (k, rw (length-map xs named_day) l, get_or-map named_day xs k d (get_or xs k d).day l)
+
+pub all_of_day : (day : ℕ) (named : List NamedTrace) → ListsExactly nat_cmp (Contains (map named_day named)) (day ∷ []) → All (λ (t : NamedTrace). t.day ≡ day) named
+all_of_day day named lists k d l = single (get_or named k d).day ((lists.exactly (get_or named k d).day).1 (all_in named k d l))
+  where
+    single : (x : ℕ) → Contains (day ∷ []) x → x ≡ day
+    single x (zero, m, e) = sym e
+    single x (suc j, m, e) = absurd (omega (arith, m))
+
+pub one_item : (days : List ℕ) → length days ≡ 1 → days ≡ get_or days 0 0 ∷ []
+one_item [] h = absurd (omega (arith, h))
+one_item (d ∷ []) h = refl
+one_item (d ∷ e ∷ days) h = absurd (omega (arith, h))

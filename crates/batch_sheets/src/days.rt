@@ -72,6 +72,19 @@ fn put_trace(split: &mut Vec<DayTraces>, trace: NamedTrace) -> Result<(), AllocE
     Ok(())
 }
 
+/// Makes one list of traces that all are of this day. No trace is moved.
+fn keep_one_day(
+    alloc: Global,
+    named: Vec<NamedTrace>,
+    day: u32,
+) -> Result<Vec<DayTraces>, AllocError>
+    requires { All (λ (t : NamedTrace). t.day ≡ day) named.items }
+    ensures { IfOk result (λ split. AreSplitSoFar (day ∷ []) named.items split.items) }
+{
+    let traces = named;
+    Ok(vec![in alloc; DayTraces { day, traces }]?)
+}
+
 /// Splits traces by their days, of which these are all, rising. The traces of a day stay in their
 /// order. The only error is that memory ran out.
 pub fn split_by_day(
@@ -82,6 +95,10 @@ pub fn split_by_day(
     requires { ListsExactly nat_cmp (Contains (map named_day named.items)) days.now }
     ensures { IfOk result (λ split. AreSplit days.now named.items split.items) }
 {
+    if days.len() == 1 {
+        let split = keep_one_day(alloc, named, days[0])?;
+        return Ok(split);
+    }
     let mut split = no_traces(alloc, days)?;
     for trace in named {
         put_trace(&mut split, trace)?;

@@ -1,8 +1,10 @@
-use Rattle.std.proofs.Common.{◌≡◌, ◌∷◌, ◌++◌, [], ◌∙◌, List, Contains, length, map, ap, sym, subst, refl, append_assoc, append-nil, arith}
+use Rattle.std.proofs.Common.{◌≡◌, ◌∷◌, ◌++◌, [], ◌∙◌, List, Contains, length, map, ap, sym, subst, refl, append_assoc, append-nil, get_or, arith}
 use Rattle.std.specs.Vec.Iter.{into_iter_items}
+use Rattle.std.specs.Ordering.{nat_cmp}
+use Rattle.trace_types.specs.Listing.{ListsExactly}
 use Rattle.trace_types.specs.declared.named_trace.NamedTrace.{NamedTrace}
-use Rattle.batch_sheets.specs.Splitting.{named_day}
-use Rattle.batch_sheets.proofs.DayLemmas.{days_differ, days_rise, in_middle, split_done}
+use Rattle.batch_sheets.specs.Splitting.{AreSplitSoFar, named_day}
+use Rattle.batch_sheets.proofs.DayLemmas.{all_of_day, days_differ, days_rise, in_middle, one_item, split_done}
 use Rattle.batch_sheets.proofs.days.split_by_day.Goals as goal
 
 nothing_left : {X : Type 0} (xs : List X) → length xs ≡ 0 → xs ≡ []
@@ -42,3 +44,16 @@ returns c =
     let empty : into_iter_items at.trace-iterator ≡ [] = nothing_left _ (sym at.invariant.left ∙ none.0) in
     let all : at.yielded ≡ c.args.named.items = sym (append-nil at.yielded) ∙ rw empty at at.invariant.so_far ∙ c.into_iter-trace-iterator.ensures.into_iter_gives.0 in
     split_done c.args.days.now c.args.named.items at.yielded at.split.items c.requires all at.invariant.split
+
+pub keep_one_day-requires : goal.keep_one_day-requires
+keep_one_day-requires c =
+    all_of_day (get_or c.args.days.now 0 0) c.args.named.items
+    (subst (ListsExactly nat_cmp (Contains (map named_day c.args.named.items))) (one_item c.args.days.now c.if-days-eq1.true) c.requires)
+
+pub returns-then-days-eq1 : goal.returns-then-days-eq1
+returns-then-days-eq1 c =
+    let days = c.args.days.now in
+    let named = c.args.named.items in
+    let split = c.in_ok-split.split.items in
+    split_done days named named split c.requires refl
+    (subst (λ l. AreSplitSoFar l named split) (sym (one_item days c.if-days-eq1.true)) c.in_ok-split.ensures)
