@@ -69,8 +69,8 @@ pub record HasOffered (recorder : RecorderState) (old : RecordingState) (trace :
   pub traces : new.traces ≡ old.traces ++ trace ∷ []
   pub names : new.names ≡ old.names
 
--- a call that stopped for want of memory: the recording has offered the first of the traces, each
--- once, and may hold fewer shares
+-- a call that stopped because memory ran out: the recording has offered the first of the traces,
+-- each once, and may hold fewer shares
 pub record HasStopped (recorder : RecorderState) (old : RecordingState) (given : List NamedTrace)
     (new : RecordingState) : Type 0 where
   pub table : IsOfRecorder recorder new

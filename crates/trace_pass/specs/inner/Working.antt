@@ -73,7 +73,7 @@ pub record HasRecorded (recorder : RecorderState) (every worker : ℕ) (part : P
       (recording_of (with_recorded part pass (length part.given))) lines
   pub rows : HasRows (with_recorded part pass (length part.given))
 
--- they stopped for want of memory, with so many of the part's traces recorded
+-- they stopped because memory ran out, with so many of the part's traces recorded
 pub record HasStoppedAt (recorder : RecorderState) (part : PartState) (pass : Holding)
     (recorded : ℕ) : Type 0 where
   pub stopped : HasStopped recorder (recording_of part) (rest_of part)
