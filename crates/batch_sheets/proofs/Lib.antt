@@ -1,8 +1,10 @@
+mod CutLemmas
 mod DayLemmas
 mod FirstLemmas
 mod GrowthLemmas
 mod JudgeLemmas
 mod NameLemmas
+mod RangeLemmas
 mod RecordLemmas
-mod TriedLemmas
+mod NewLemmas
 mod ZipLemmas

@@ -13,10 +13,9 @@ use Rattle.trace_types.specs.Parts.{by_number, by_text}
 use Rattle.trace_types.specs.Renaming.{IsSegmentRenamed}
 use Rattle.trace_types.specs.Segments.{SegmentName, name_of}
 use Rattle.segment_names.specs.Known.{Known, same_name, with_segments}
-use Rattle.segment_names.specs.Naming.{IsNamed}
+use Rattle.segment_names.specs.Naming.{HasUnknown, IsNamed}
 use Rattle.session_rules.specs.KeptTraces.{by_kept, kept_with}
 use Rattle.kept_books.specs.Shown.{IsShown}
-use Rattle.batch_sheets.specs.Named.{IsKnownTrace}
 use Rattle.batch_sheets.proofs.GrowthLemmas.{name_means, name_own}
 use Rattle.batch_sheets.proofs.ZipLemmas.{zip_weaker}
 
@@ -92,8 +91,8 @@ name_there (t ∷ ts) zero s e = (0, omega arith, ap name_of (some_same t s e))
 name_there (t ∷ ts) (suc k) s e = let c = name_there ts k s e in (suc c.0, omega (arith, c.1), c.2)
 
 -- each name of a trace is known once the trace is added
-pub known_after : (old : Known) (trace : Trace) → IsKnownTrace (with_segments old trace.segments) trace
-known_after old trace k (s, at, none) =
+pub known_after : (old : Known) (trace : Trace) → HasUnknown (with_segments old trace.segments) trace.segments → ⊥
+known_after old trace (k, (s, at, none)) =
     let names : List SegmentName = map name_of trace.segments in
     let there = in_firsts same_name name_means (old.names ++ names) (name_of s) (Contains-append_right old.names names (name_of s) (name_there trace.segments k s at)) in
     none_found (same_name (name_of s)) (with_segments old trace.segments).names none (name_of s) there (name_own (name_of s))

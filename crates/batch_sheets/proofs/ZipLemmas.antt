@@ -54,5 +54,5 @@ zip_head R (x ∷ xs) y ys h = record { head = x; rest = xs; joined = refl; firs
 pub cut_joined : {X : Type 0} (xs front back : List X) (n : ℕ) → front ≡ take n xs → back ≡ drop n xs → front ++ back ≡ xs
 cut_joined xs front back n f b = ap₂ (λ l m. l ++ m) f b ∙ take-append-drop n xs
 
-pub zip_joined : {A B : Type 0} (R : A → B → Type 0) (xs front back : List A) (n : ℕ) (ys zs both : List B) → front ≡ take n xs → back ≡ drop n xs → AllZip R front ys → AllZip R back zs → both ≡ ys ++ zs → AllZip R xs both
-zip_joined R xs front back n ys zs both f b early late is = subst (AllZip R xs) (sym is) (subst (λ l. AllZip R l (ys ++ zs)) (cut_joined xs front back n f b) (zip_append R front back ys zs early late))
+pub zip_after : {A B : Type 0} (R : A → B → Type 0) (xs front back : List A) (ys zs both : List B) → front ++ back ≡ xs → AllZip R front ys → AllZip R back zs → both ≡ ys ++ zs → AllZip R xs both
+zip_after R xs front back ys zs both joined early late is = subst (AllZip R xs) (sym is) (subst (λ l. AllZip R l (ys ++ zs)) joined (zip_append R front back ys zs early late))

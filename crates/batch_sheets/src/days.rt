@@ -86,7 +86,7 @@ fn keep_one_day(
 }
 
 /// Splits traces by their days, of which these are all, rising. The traces of a day stay in their
-/// order. The only error is that memory ran out.
+/// order. The only error is out of memory.
 pub fn split_by_day(
     alloc: Global,
     named: Vec<NamedTrace>,

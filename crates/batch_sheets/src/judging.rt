@@ -1,125 +1,154 @@
-ghost use Rattle.std.specs.Prelude.{◌≡◌, ◌^◌, ◌<◌, ◌≤◌, ◌++◌, All, length, OnOk, IfOk, sum_by};
+ghost use Rattle.std.specs.Prelude.{◌≡◌, ◌^◌, ◌<◌, ◌≤◌, ◌++◌, All, IfOk, OnOk, length, map};
+ghost use Rattle.std.specs.Prelude.{slice_range};
 ghost use Rattle.std.specs.Thread.{IsSync};
-ghost use Rattle.trace_types.specs.declared.raw_trace.RawTrace.{RawTrace};
-ghost use Rattle.trace_types.specs.Batch.{plain, traces_of};
-ghost use Rattle.trace_types.specs.EventLines.{LinesRise};
+ghost use Rattle.trace_types.specs.Batch.{PlainTrace};
 ghost use Rattle.trace_types.specs.Times.{AreTimely};
+ghost use Rattle.segment_cut.specs.NumberedCuts.{NumberedCut};
 ghost use Rattle.session_rules.specs.Batches.{AreJudged};
-ghost use Rattle.batch_sheets.specs.Named.{HasFewSegments};
+ghost use Rattle.batch_sheets.specs.Named.{HasFewSegments, cut_trace};
 ghost use Rattle.batch_sheets.specs.inner.Judging.{Judges, AreJudgedSoFar};
 
 use crate::parts::LEAST_PART;
-use event_lines::{EventParts, gather};
-use segment_cut::{TraceFault, cut};
+use event_table::{GatheredEvents, RawEvents};
+use segment_cut::{CutTrace, TraceFault, cut};
 use session_rules::Refused;
 use std::alloc::{AllocError, Global};
 use std::thread::{Threads, join};
-use trace_types::{RawTrace, Trace};
 
 /// The traces of a batch: the valid ones, cut into their segments, and those that are refused.
-#[derive(Debug, Drop)]
-pub struct JudgedTraces {
+#[derive(Drop)]
+pub struct JudgedTraces<'a> {
     /// The valid traces, in order.
-    pub valid: Vec<Trace>,
+    pub valid: Vec<CutTrace<'a>>,
     /// The refused traces, in order.
     pub refused: Vec<Refused>,
 }
 
 /// Cuts a trace, and appends it to the valid or to the refused ones.
-fn judge(alloc: Global, raw: RawTrace, judged: &mut JudgedTraces) -> Result<(), AllocError>
-    requires few { length raw.events < 2 ^ 32 }
-    requires timely { AreTimely raw.events }
-    ensures judges { OnOk result (Judges (plain raw) judged.old judged.new) }
-    ensures few { OnOk result (All HasFewSegments judged.old.valid.items
-        → All HasFewSegments judged.new.valid.items) }
+fn judge<'a>(
+    alloc: Global,
+    raw: &RawEvents<'a>,
+    judged: &mut JudgedTraces<'a>,
+) -> Result<(), AllocError>
+    requires few { length raw.now.trace.events < 2 ^ 32 }
+    requires timely { AreTimely raw.now.trace.events }
+    ensures { OnOk result (Judges raw.now.texts raw.now.trace judged.old judged.new) }
 {
-    match cut(alloc, &raw) {
+    match cut(alloc, raw) {
         Ok(trace) => judged.valid.push(trace)?,
         Err(TraceFault::Memory) => return Err(AllocError),
         Err(fault) => {
-            let request = raw.request.copy(alloc)?;
+            let request = raw.request().copy(alloc)?;
             judged.refused.push(Refused { request, fault })?;
         }
     }
     Ok(())
 }
 
-/// Cuts the traces, each of which is gone when it is cut.
-fn judge_all(alloc: Global, raws: Vec<RawTrace>) -> Result<JudgedTraces, AllocError>
-    requires few { sum_by (λ (raw : RawTrace). length raw.events) raws.items < 2 ^ 32 }
-    requires timely { All (λ (raw : RawTrace). AreTimely raw.events) raws.items }
-    ensures { IfOk result (AreJudgedSoFar raws.items) }
+/// Cuts the traces from one index up to another.
+fn judge_range<'a>(
+    alloc: Global,
+    gathered: &'a GatheredEvents,
+    start: usize,
+    end: usize,
+) -> Result<JudgedTraces<'a>, AllocError>
+    requires timely { All (λ (t : PlainTrace). AreTimely t.events) gathered.now.traces }
+    requires few { All (λ (t : PlainTrace). length t.events < 2 ^ 32) gathered.now.traces }
+    requires rising { start ≤ end }
+    requires within { end ≤ length gathered.now.traces }
+    ensures { IfOk result (AreJudgedSoFar gathered.now.texts
+        (slice_range gathered.now.traces start end)) }
 {
     let mut judged = JudgedTraces {
-        valid: Vec::with_capacity(alloc, raws.len())?,
+        valid: Vec::with_capacity(alloc, end - start)?,
         refused: Vec::new(alloc),
     };
-    for raw in raws {
-        judge(alloc, raw, &mut judged)?;
+    for index in start..end {
+        judge(alloc, &gathered.trace(index), &mut judged)?;
     }
     Ok(judged)
 }
 
 /// Appends the traces of a later part to those of an earlier one.
-fn join_parts(mut front: JudgedTraces, mut back: JudgedTraces) -> Result<JudgedTraces, AllocError>
-    ensures valid { IfOk result (λ j. j.valid.items ≡ front.valid.items ++ back.valid.items) }
+fn join_parts<'a>(
+    mut front: JudgedTraces<'a>,
+    mut back: JudgedTraces<'a>,
+) -> Result<JudgedTraces<'a>, AllocError>
+    ensures valid { IfOk result
+        (λ j. j.valid.items ≡ front.entry.valid.items ++ back.entry.valid.items) }
     ensures refused { IfOk result
-        (λ j. j.refused.items ≡ front.refused.items ++ back.refused.items) }
+        (λ j. j.refused.items ≡ front.entry.refused.items ++ back.entry.refused.items) }
 {
     front.valid.append(&mut back.valid)?;
     front.refused.append(&mut back.refused)?;
     Ok(front)
 }
 
-/// Cuts the traces in so many parts, in parallel; the lines of each trace are freed once it is cut.
-fn judge_parts<R: Threads + Sync>(
+/// Cuts the traces from one index up to another in so many parts, in parallel.
+fn judge_parts<'a, R: Threads + Sync>(
     rt: &R,
     alloc: Global,
-    mut raws: Vec<RawTrace>,
+    gathered: &'a GatheredEvents,
+    start: usize,
+    end: usize,
     parts: usize,
-) -> Result<JudgedTraces, AllocError>
-    requires few { sum_by (λ (raw : RawTrace). length raw.events) raws.items < 2 ^ 32 }
-    requires timely { All (λ (raw : RawTrace). AreTimely raw.events) raws.items }
-    ensures { IfOk result (AreJudgedSoFar raws.items) }
+) -> Result<JudgedTraces<'a>, AllocError>
+    requires timely { All (λ (t : PlainTrace). AreTimely t.events) gathered.now.traces }
+    requires few { All (λ (t : PlainTrace). length t.events < 2 ^ 32) gathered.now.traces }
+    requires rising { start ≤ end }
+    requires within { end ≤ length gathered.now.traces }
+    ensures { IfOk result (AreJudgedSoFar gathered.now.texts
+        (slice_range gathered.now.traces start end)) }
 {
     if parts <= 1 {
-        return judge_all(alloc, raws);
+        return judge_range(alloc, gathered, start, end);
     }
-    let last = raws.split_off(raws.len() - raws.len() / parts)?;
+    let middle = end - (end - start) / parts;
     let (back, front) = join(
         rt,
         move || -> Result<JudgedTraces, AllocError>
-            requires few { sum_by (λ (raw : RawTrace). length raw.events) last.items < 2 ^ 32 }
-            requires timely { All (λ (raw : RawTrace). AreTimely raw.events) last.items }
-            ensures { IfOk result (AreJudgedSoFar last.items) }
-        { judge_all(alloc, last) },
+            requires timely { All (λ (t : PlainTrace). AreTimely t.events)
+                gathered.now.traces }
+            requires few { All (λ (t : PlainTrace). length t.events < 2 ^ 32)
+                gathered.now.traces }
+            requires rising { middle ≤ end }
+            requires within { end ≤ length gathered.now.traces }
+            ensures { IfOk result (AreJudgedSoFar gathered.entry.now.texts
+                (slice_range gathered.entry.now.traces middle end)) }
+        { judge_range(alloc, gathered, middle, end) },
         move || -> Result<JudgedTraces, AllocError>
             requires sync { IsSync R.row }
-            requires few { sum_by (λ (raw : RawTrace). length raw.events) raws.items < 2 ^ 32 }
-            requires timely { All (λ (raw : RawTrace). AreTimely raw.events) raws.items }
+            requires timely { All (λ (t : PlainTrace). AreTimely t.events)
+                gathered.now.traces }
+            requires few { All (λ (t : PlainTrace). length t.events < 2 ^ 32)
+                gathered.now.traces }
+            requires rising { start ≤ middle }
+            requires within { middle ≤ length gathered.now.traces }
             requires parts { 1 < parts }
-            ensures { IfOk result (AreJudgedSoFar raws.items) }
-        { judge_parts(rt, alloc, raws, parts - 1) },
+            ensures { IfOk result (AreJudgedSoFar gathered.entry.now.texts
+                (slice_range gathered.entry.now.traces start middle)) }
+        { judge_parts(rt, alloc, gathered, start, middle, parts - 1) },
     );
     join_parts(front?, back?)
 }
 
-/// Gathers the traces of a batch of events, and cuts them, both by up to so many workers, in
-/// parallel. The only error is that memory ran out.
-pub fn judge_batch<R: Threads + Sync>(
+/// Cuts the traces of a batch by up to so many workers, in parallel. The only error is out of
+/// memory.
+pub fn judge_batch<'a, R: Threads + Sync>(
     rt: &R,
     alloc: Global,
-    events: EventParts,
+    gathered: &'a GatheredEvents,
     workers: u32,
-) -> Result<JudgedTraces, AllocError>
-    requires rising { LinesRise events }
-    requires timely { AreTimely events }
-    requires few { length events < 2 ^ 32 }
-    ensures judged { IfOk result
-        (λ j. AreJudged (traces_of events) j.valid.items j.refused.items) }
-    ensures few { IfOk result (λ j. All HasFewSegments j.valid.items) }
+) -> Result<JudgedTraces<'a>, AllocError>
+    requires timely { All (λ (t : PlainTrace). AreTimely t.events) gathered.now.traces }
+    requires few { All (λ (t : PlainTrace). length t.events < 2 ^ 32) gathered.now.traces }
+    ensures judged { IfOk result (λ j. AreJudged gathered.now.traces (map cut_trace j.valid.items)
+        j.refused.items) }
+    ensures few { IfOk result (λ j. All HasFewSegments (map cut_trace j.valid.items)) }
+    ensures texts { IfOk result
+        (λ j. All (λ (c : NumberedCut). c.texts ≡ gathered.now.texts) j.valid.items) }
 {
-    let raws = gather(rt, alloc, events, workers)?;
-    let parts = (workers as usize).min(raws.len() / LEAST_PART);
-    judge_parts(rt, alloc, raws, parts)
+    let count = gathered.len();
+    let parts = (workers as usize).min(count / LEAST_PART);
+    judge_parts(rt, alloc, gathered, 0, count, parts)
 }

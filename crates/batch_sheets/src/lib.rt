@@ -4,12 +4,12 @@
 
 mod days;
 mod judging;
+mod known_names;
 mod naming;
 mod parts;
 mod recording;
 #[cfg(test)]
 mod tests;
-mod tries;
 
 pub use days::{DayTraces, list_days, split_by_day};
 pub use judging::{JudgedTraces, judge_batch};

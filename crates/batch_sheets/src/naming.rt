@@ -9,58 +9,64 @@ ghost use Rattle.segment_names.specs.declared.name_fault.NameFault.{NameFault};
 ghost use Rattle.session_rules.specs.KeptTraces.{kept_with};
 ghost use Rattle.trace_types.specs.Limits.{most_grace};
 ghost use Rattle.trace_types.specs.declared.trace.Trace.{Trace};
-ghost use Rattle.batch_sheets.specs.Named.{HasFewSegments};
-ghost use Rattle.batch_sheets.specs.inner.Growth.{AddsAndNames, AppendsNamed, HasFewTried};
-ghost use Rattle.batch_sheets.specs.inner.Growth.{IsSettled, IsTried, PassesTried};
+ghost use Rattle.segment_cut.specs.NumberedCuts.{NumberedCut};
+ghost use Rattle.batch_sheets.specs.Named.{HasFewSegments, cut_trace};
+ghost use Rattle.batch_sheets.specs.inner.Growth.{AddsAndNames, AppendsNamed, CompletesOne};
+ghost use Rattle.batch_sheets.specs.inner.Growth.{HasFewIfNew, IsNamedOrNew, IsToBeNamed};
+ghost use Rattle.batch_sheets.specs.inner.Growth.{PassesIfNew};
 
+use crate::known_names::{NamedOrNew, name_known_parts};
 use crate::parts::LEAST_PART;
-use crate::tries::{Tried, try_one, try_parts};
+use event_table::Texts;
 use kept_books::laws::grown_shows;
-use segment_names::{Catalogue, NameFault};
+use segment_cut::CutTrace;
+use segment_names::{Catalogue, NameFault, NameOne};
 use std::alloc::{AllocError, Global};
 use std::thread::Threads;
-use trace_types::{NamedTrace, Trace};
+use trace_types::NamedTrace;
 
-/// So many traces are named in one window; of more the last three quarters are a window.
+/// Up to this many traces are one window; of more, the last three quarters are one.
 const LEAST_WINDOW: usize = 64;
 
 /// Adds the names and tasks of a trace to the catalogue, and names it.
 fn name_new(
     alloc: Global,
     catalogue: &mut Catalogue,
-    trace: Trace,
+    trace: &CutTrace<'_>,
     grace: u64,
 ) -> Result<NamedTrace, NameFault>
-    requires few { HasFewSegments trace }
+    requires few { HasFewSegments trace.now.trace }
     requires grace { grace ≤ most_grace }
-    ensures named { IfOk result
-        (λ named. AddsAndNames catalogue.old catalogue.new grace (trace ∷ []) (named ∷ [])) }
-    ensures cause { IfErr result (HasCause (PassesLimit catalogue.old (trace ∷ []))) }
+    ensures named { IfOk result (λ named. AddsAndNames catalogue.old catalogue.new grace
+        (trace.now.trace ∷ []) (named ∷ [])) }
+    ensures cause { IfErr result (HasCause (PassesLimit catalogue.old (trace.now.trace ∷ []))) }
 {
+    let trace = trace.copy(alloc)?;
     let _before = catalogue.names();
     catalogue.add(alloc, &trace)?;
     let _after = catalogue.names();
-    match try_one(alloc, catalogue, trace, grace)? {
-        Tried::Named { named } => Ok(named),
-        Tried::Unknown { .. } => unreachable!(),
+    match catalogue.name(alloc, trace) {
+        Ok(named) => Ok(named.with_grace(grace)),
+        Err(NameOne::Memory { .. }) => Err(NameFault::Memory),
+        Err(NameOne::Unknown { .. }) => unreachable!(),
     }
 }
 
-/// Gives the named trace of a try. One that was given back is added first.
-fn settle(
+/// Gives the trace by its numbers; the names of a new one are added first.
+fn complete(
     alloc: Global,
     catalogue: &mut Catalogue,
-    tried: Tried,
+    one: NamedOrNew<'_>,
     grace: u64,
 ) -> Result<NamedTrace, NameFault>
-    requires few { HasFewTried tried }
+    requires few { HasFewIfNew one }
     requires grace { grace ≤ most_grace }
-    ensures named { IfOk result (IsSettled grace catalogue.old catalogue.new tried) }
-    ensures cause { IfErr result (HasCause (PassesTried catalogue.old tried)) }
+    ensures named { IfOk result (CompletesOne grace catalogue.old catalogue.new one.entry) }
+    ensures cause { IfErr result (HasCause (PassesIfNew catalogue.old one.entry)) }
 {
-    match tried {
-        Tried::Named { named } => Ok(named),
-        Tried::Unknown { trace } => name_new(alloc, catalogue, trace, grace),
+    match one {
+        NamedOrNew::Named { named } => Ok(named),
+        NamedOrNew::New { trace } => name_new(alloc, catalogue, &trace, grace),
     }
 }
 
@@ -71,28 +77,28 @@ fn push_named(named: &mut Vec<NamedTrace>, trace: NamedTrace) -> Result<(), Allo
     Ok(named.push(trace)?)
 }
 
-/// Appends the named traces of tries, in their order. Those that were given back are added and named
-/// one after another.
-fn settle_all(
+/// Appends the traces by their numbers, in their order. The names of new ones are added, one trace
+/// after another.
+fn complete_all(
     alloc: Global,
     catalogue: &mut Catalogue,
-    tried: Vec<Tried>,
+    list: Vec<NamedOrNew<'_>>,
     grace: u64,
     named: &mut Vec<NamedTrace>,
 ) -> Result<(), NameFault>
-    requires few { All HasFewTried tried.items }
+    requires few { All HasFewIfNew list.items }
     requires grace { grace ≤ most_grace }
     ensures named { OnOk result ((traces : List Trace)
-        → AllZip (IsTried catalogue.old grace) traces tried.items
+        → AllZip (IsNamedOrNew catalogue.old grace) traces list.entry.items
         → AppendsNamed catalogue.old catalogue.new grace traces named.old.items named.new.items) }
     ensures cause { IfErr result (λ fault. (traces : List Trace)
-        → AllZip (IsTried catalogue.old grace) traces tried.items
+        → AllZip (IsNamedOrNew catalogue.old grace) traces list.entry.items
         → HasCause (PassesLimit catalogue.old traces) fault) }
 {
     grown_shows();
     let _names = catalogue.names();
-    for one in tried {
-        let trace = settle(alloc, catalogue, one, grace)?;
+    for one in list {
+        let trace = complete(alloc, catalogue, one, grace)?;
         push_named(named, trace)?;
     }
     Ok(())
@@ -103,20 +109,22 @@ fn name_window<R: Threads + Sync>(
     rt: &R,
     alloc: Global,
     catalogue: &mut Catalogue,
-    traces: Vec<Trace>,
+    texts: &Texts,
+    traces: Vec<CutTrace<'_>>,
     grace: u64,
     workers: u32,
     named: &mut Vec<NamedTrace>,
 ) -> Result<(), NameFault>
-    requires few { All HasFewSegments traces.items }
+    requires given { All (IsToBeNamed texts.now) traces.items }
     requires grace { grace ≤ most_grace }
-    ensures named { OnOk result (AppendsNamed catalogue.old catalogue.new grace traces.items
-        named.old.items named.new.items) }
-    ensures cause { IfErr result (HasCause (PassesLimit catalogue.old traces.items)) }
+    ensures named { OnOk result (AppendsNamed catalogue.old catalogue.new grace
+        (map cut_trace traces.entry.items) named.old.items named.new.items) }
+    ensures cause { IfErr result
+        (HasCause (PassesLimit catalogue.old (map cut_trace traces.entry.items))) }
 {
     let parts = (workers as usize).min(traces.len() / LEAST_PART);
-    let tried = try_parts(rt, alloc, catalogue, traces, grace, parts)?;
-    settle_all(alloc, catalogue, tried, grace, named)
+    let list = name_known_parts(rt, alloc, catalogue, texts, traces, grace, parts)?;
+    complete_all(alloc, catalogue, list, grace, named)
 }
 
 /// Names traces window by window. Each window is some four times as large as the one before it, so
@@ -125,50 +133,59 @@ fn name_windows<R: Threads + Sync>(
     rt: &R,
     alloc: Global,
     catalogue: &mut Catalogue,
-    mut traces: Vec<Trace>,
+    texts: &Texts,
+    mut traces: Vec<CutTrace<'_>>,
     grace: u64,
     workers: u32,
     named: &mut Vec<NamedTrace>,
 ) -> Result<(), NameFault>
-    requires few { All HasFewSegments traces.items }
+    requires given { All (IsToBeNamed texts.now) traces.items }
     requires grace { grace ≤ most_grace }
-    ensures named { OnOk result (AppendsNamed catalogue.old catalogue.new grace traces.items
-        named.old.items named.new.items) }
-    ensures cause { IfErr result (HasCause (PassesLimit catalogue.old traces.items)) }
+    ensures named { OnOk result (AppendsNamed catalogue.old catalogue.new grace
+        (map cut_trace traces.entry.items) named.old.items named.new.items) }
+    ensures cause { IfErr result
+        (HasCause (PassesLimit catalogue.old (map cut_trace traces.entry.items))) }
 {
     if traces.len() <= LEAST_WINDOW {
-        return name_window(rt, alloc, catalogue, traces, grace, workers, named);
+        return name_window(rt, alloc, catalogue, texts, traces, grace, workers, named);
     }
     grown_shows();
     let last = traces.split_off(traces.len() / 4)?;
-    name_windows(rt, alloc, catalogue, traces, grace, workers, named)?;
-    name_window(rt, alloc, catalogue, last, grace, workers, named)
+    name_windows(rt, alloc, catalogue, texts, traces, grace, workers, named)?;
+    name_window(rt, alloc, catalogue, texts, last, grace, workers, named)
 }
 
 /// Adds the names and tasks of traces to the catalogue, one trace after another, and names all with
-/// this grace, in nanoseconds, by up to so many workers, in parallel. They stay in their order. A
-/// limit is told where the traces pass it, and memory may run out at any time; after an error the
-/// catalogue may have some of the names.
+/// this grace, in nanoseconds, by up to so many workers, in parallel. The texts are those that the
+/// numbers of the traces stand for. The traces stay in their order. A limit is told where the
+/// traces pass it, and memory may run out at any time; after an error the catalogue may have some
+/// of the names.
 pub fn name_batch<R: Threads + Sync>(
     rt: &R,
     alloc: Global,
     catalogue: &mut Catalogue,
-    traces: Vec<Trace>,
+    texts: &Texts,
+    traces: Vec<CutTrace<'_>>,
     grace: u64,
     workers: u32,
 ) -> Result<Vec<NamedTrace>, NameFault>
-    requires few { All HasFewSegments traces.items }
+    requires few { All HasFewSegments (map cut_trace traces.items) }
+    requires texts { All (λ (c : NumberedCut). c.texts ≡ texts.now) traces.items }
     requires grace { grace ≤ most_grace }
-    ensures added { OnOk result (catalogue.new ≡ with_traces catalogue.old traces.items) }
-    ensures none { OnOk result
-        ((fault : NameFault) → PassesLimit catalogue.old traces.items fault → ⊥) }
-    ensures shown { IfOk result (λ named.
-        AreShown catalogue.new named.items (map (kept_with grace) traces.items)) }
+    ensures added { OnOk result
+        (catalogue.new ≡ with_traces catalogue.old (map cut_trace traces.entry.items)) }
+    ensures none { OnOk result ((fault : NameFault)
+        → PassesLimit catalogue.old (map cut_trace traces.entry.items) fault → ⊥) }
+    ensures shown { IfOk result (λ named. AreShown catalogue.new named.items
+        (map (kept_with grace) (map cut_trace traces.entry.items))) }
     ensures below { IfOk result
         (λ named. All (HaveNamesBelow (length catalogue.new.names)) named.items) }
-    ensures cause { IfErr result (HasCause (PassesLimit catalogue.old traces.items)) }
+    ensures cause { IfErr result
+        (HasCause (PassesLimit catalogue.old (map cut_trace traces.entry.items))) }
 {
     let mut named = Vec::with_capacity(alloc, traces.len())?;
-    name_windows(rt, alloc, catalogue, traces, grace, workers, &mut named)?;
+    name_windows(
+        rt, alloc, catalogue, texts, traces, grace, workers, &mut named,
+    )?;
     Ok(named)
 }

@@ -71,7 +71,7 @@ fn record_day<R: Threads + Sync, G: Gate + Sync>(
 }
 
 /// Records the traces of each day by so many workers, with a watch number after every so many of a
-/// worker's traces; 0 for none. The only error is that memory ran out.
+/// worker's traces; 0 for none. The only error is out of memory.
 pub fn record_days<R: Threads + Sync, G: Gate + Sync>(
     rt: &R,
     alloc: Global,

@@ -1,96 +1,207 @@
-ghost use Rattle.std.specs.Prelude.{All, IsTrue};
-ghost use Rattle.batch_sheets.specs.Named.{HasFewSegments};
+ghost use Rattle.std.specs.Prelude.{◌≡◌, ◌^◌, ◌<◌, ◌≤◌, All, length, map};
+ghost use Rattle.trace_types.specs.Batch.{PlainTrace};
+ghost use Rattle.trace_types.specs.Times.{AreTimely};
+ghost use Rattle.segment_cut.specs.NumberedCuts.{NumberedCut};
+ghost use Rattle.batch_sheets.specs.Named.{HasFewSegments, cut_trace};
 
-use crate::name_batch;
+use crate::{judge_batch, name_batch};
+use event_table::{EventFields, EventTable, GatheredEvents, TextHints, Texts, gather};
+use segment_cut::CutTrace;
 use segment_names::{Catalogue, NameFault};
 use std::alloc::{AllocError, Global};
+use std::process::Abort;
 use std::test::Fail;
 use std::thread::Threads;
-use trace_types::{NamedTrace, Segment, SegmentList, Text, Trace};
+use trace_types::NamedTrace;
 
-/// Makes a trace of one segment of this task, from this event to `e`.
-fn single(alloc: Global, number: u32, task: &str, start: &str) -> Result<Trace, AllocError> {
-    let segment = Segment {
-        task: Text::new(alloc, task)?,
-        start_event: Text::new(alloc, start)?,
-        end_event: Text::new(alloc, "e")?,
-        start: 5,
-        end: 9,
-        element: None,
+/// A day of 86,400 seconds, in nanoseconds.
+const NANOSECONDS_PER_DAY: u64 = 86_400_000_000_000;
+
+/// Appends an event by its request, its task, its name and its time.
+fn push_event<'a>(
+    alloc: Global,
+    hints: &mut TextHints,
+    table: &mut EventTable,
+    request: &'a str,
+    task: &'a str,
+    event: &'a str,
+    time: u64,
+) -> Result<(), AllocError> {
+    if table.len() >= 100_000 {
+        return Err(AllocError);
+    }
+    let line = table.len() as u32 + 1;
+    let fields = EventFields {
+        request,
+        machine: "m",
+        task,
+        event,
+        time,
+        send: None,
+        recv: None,
     };
-    let mut segments = Vec::new(alloc);
-    segments.push(segment)?;
-    Ok(Trace {
-        request: Text::new(alloc, "r")?,
-        day: number,
-        latency: 4,
-        segments: SegmentList::of(segments),
-    })
+    table.push(alloc, hints, line, &fields)
 }
 
-/// Tells whether each trace has at most 4,096 segments.
-fn have_few_segments(traces: &[Trace]) -> bool
-    ensures { IsTrue result → All HasFewSegments traces.now }
-{
-    traces
-        .iter()
-        .all(|trace| trace.segments.items().len() <= 4096)
+/// Appends the two events of a trace, which has this number and is of the day with this number: one
+/// of this name, and then one of the name `e`.
+fn push_trace(
+    alloc: Global,
+    hints: &mut TextHints,
+    table: &mut EventTable,
+    number: u32,
+    task: &str,
+    start: &str,
+) -> Result<(), AllocError> {
+    let request = format!(in alloc; "r{number}")?;
+    let request = request.as_str();
+    let time = u64::from(number).saturating_mul(NANOSECONDS_PER_DAY);
+    push_event(alloc, hints, table, request, task, start, time)?;
+    push_event(
+        alloc,
+        hints,
+        table,
+        request,
+        task,
+        "e",
+        time.saturating_add(4),
+    )
 }
 
-/// Names traces by an empty catalogue. Gives the fault, or how many names the catalogue has then.
-fn name_traces<R: Threads + Sync>(
+/// Gathers the events of one table.
+fn gather_one<R: Threads + Sync>(
     rt: &R,
     alloc: Global,
-    traces: Vec<Trace>,
+    table: EventTable,
+    workers: u32,
+) -> Result<GatheredEvents, AllocError>
+    requires { length table ≤ 100000 }
+{
+    let mut parts = Vec::new(alloc);
+    parts.push(table)?;
+    gather(rt, alloc, parts, workers)
+}
+
+/// Names the valid traces of a batch by an empty catalogue with the grace 7. Gives the fault, or
+/// how many names the catalogue has then.
+fn name_valid<R: Threads + Sync>(
+    rt: &R,
+    alloc: Global,
+    texts: &Texts,
+    valid: Vec<CutTrace<'_>>,
     workers: u32,
     named: &mut Vec<NamedTrace>,
-) -> Result<u32, NameFault> {
-    if !have_few_segments(&traces) {
-        return Err(NameFault::Memory);
-    }
+) -> Result<u32, NameFault>
+    requires few { All HasFewSegments (map cut_trace valid.items) }
+    requires texts { All (λ (c : NumberedCut). c.texts ≡ texts.now) valid.items }
+{
     let mut catalogue = Catalogue::new(alloc);
-    *named = name_batch(rt, alloc, &mut catalogue, traces, 7, workers)?;
+    *named = name_batch(rt, alloc, &mut catalogue, texts, valid, 7, workers)?;
     Ok(catalogue.names())
 }
 
-/// Makes so many traces of the task `a`, on the days 0, 1, 2 and so on. Their names are three in
-/// turn, but for those of the last two, who have each a name of its own.
-fn three_in_turn(alloc: Global, count: u32) -> Result<Vec<Trace>, AllocError> {
-    let mut traces = Vec::new(alloc);
-    for number in 0..count {
-        let left = count.saturating_sub(number);
-        let start = if left > 2 { number % 3 } else { 5 - left };
-        let start = format!(in alloc; "x{start}")?;
-        traces.push(single(alloc, number, "a", start.as_str())?)?;
-    }
-    Ok(traces)
+/// Cuts the traces of a batch and names the valid ones, as `name_valid` does.
+fn judge_and_name<R: Threads + Sync>(
+    rt: &R,
+    alloc: Global,
+    gathered: &GatheredEvents,
+    workers: u32,
+    named: &mut Vec<NamedTrace>,
+) -> Result<u32, NameFault>
+    requires timely { All (λ (t : PlainTrace). AreTimely t.events) gathered.now.traces }
+    requires few { All (λ (t : PlainTrace). length t.events < 2 ^ 32) gathered.now.traces }
+{
+    let judged = judge_batch(rt, alloc, gathered, workers)?;
+    let texts = gathered.texts();
+    name_valid(rt, alloc, texts, judged.valid, workers, named)
 }
 
-/// Tells whether a trace is that of this number among so many of `three_in_turn`.
-fn is_in_turn(trace: &NamedTrace, number: u32, count: u32) -> bool {
-    let name = match count.saturating_sub(number) {
+/// Cuts and names the traces of a batch, as `judge_and_name` does.
+fn name_gathered<R: Abort + Threads + Sync>(
+    rt: &R,
+    alloc: Global,
+    gathered: &GatheredEvents,
+    workers: u32,
+    named: &mut Vec<NamedTrace>,
+) -> Result<u32, NameFault> {
+    assert!(rt; gathered.is_timely());
+    assert!(rt; gathered.is_short());
+    judge_and_name(rt, alloc, gathered, workers, named)
+}
+
+/// Gathers these events, and cuts and names their traces, as `judge_and_name` does.
+fn name_traces<R: Abort + Threads + Sync>(
+    rt: &R,
+    alloc: Global,
+    table: EventTable,
+    workers: u32,
+    named: &mut Vec<NamedTrace>,
+) -> Result<u32, NameFault> {
+    if table.len() > 100_000 {
+        return Err(NameFault::Memory);
+    }
+    let gathered = gather_one(rt, alloc, table, workers)?;
+    name_gathered(rt, alloc, &gathered, workers, named)
+}
+
+/// Gives the number in the name of the trace of this number among so many: 0, 1 and 2 in turn, but
+/// 3 and 4 of the last two.
+fn name_in_turn(number: u32, count: u32) -> u32 {
+    match count.saturating_sub(number) {
         2 => 3,
         1 => 4,
         _ => number % 3,
-    };
+    }
+}
+
+/// Appends the trace of this number among so many.
+fn push_in_turn(
+    alloc: Global,
+    hints: &mut TextHints,
+    table: &mut EventTable,
+    number: u32,
+    count: u32,
+) -> Result<(), AllocError> {
+    let name = name_in_turn(number, count);
+    let start = format!(in alloc; "x{name}")?;
+    push_trace(alloc, hints, table, number, "a", start.as_str())
+}
+
+/// Makes the events of so many traces of the task `a`, on the days 0, 1, 2 and so on. Their names
+/// are three in turn, but for those of the last two, who have each a name of its own.
+fn three_in_turn(alloc: Global, count: u32) -> Result<EventTable, AllocError> {
+    let mut hints = TextHints::new(alloc)?;
+    let mut table = EventTable::new(alloc);
+    for number in 0..count {
+        push_in_turn(alloc, &mut hints, &mut table, number, count)?;
+    }
+    Ok(table)
+}
+
+/// Tells whether a trace is that of this number among so many of `three_in_turn`. Names have the
+/// numbers of their first sight.
+fn is_in_turn(trace: &NamedTrace, number: u32, count: u32) -> bool {
     match trace.segments.items().first() {
         Some(segment) => {
-            trace.day == number && trace.grace == 7 && segment.name == name && segment.task == 0
+            trace.day == number
+                && trace.grace == 7
+                && segment.name == name_in_turn(number, count)
+                && segment.task == 0
         }
         None => false,
     }
 }
 
 /// Tells whether so many of `three_in_turn` are named in their order by so many workers.
-fn are_in_turn<R: Threads + Sync>(
+fn are_in_turn<R: Abort + Threads + Sync>(
     rt: &R,
     alloc: Global,
     count: u32,
     workers: u32,
 ) -> Result<bool, AllocError> {
-    let traces = three_in_turn(alloc, count)?;
+    let table = three_in_turn(alloc, count)?;
     let mut named = Vec::new(alloc);
-    if name_traces(rt, alloc, traces, workers, &mut named) != Ok(5) {
+    if name_traces(rt, alloc, table, workers, &mut named) != Ok(5) {
         return Ok(false);
     }
     let mut number = 0;
@@ -114,26 +225,51 @@ fn traces_stay_in_order_across_windows(rt: HostRuntime) -> Result<(), Fail> {
     Ok(())
 }
 
-/// Names so many traces whose first ones have the task `a`, and whose last ones have each a name and
-/// a task of its own, or a name alone.
-fn last_fault<R: Threads + Sync>(
+/// Appends a trace with a name of its own, and a task of its own or the task `a`.
+fn push_own(
+    alloc: Global,
+    hints: &mut TextHints,
+    table: &mut EventTable,
+    number: u32,
+    one_task: bool,
+) -> Result<(), AllocError> {
+    let event = format!(in alloc; "y{number}")?;
+    if one_task {
+        return push_trace(alloc, hints, table, number, "a", event.as_str());
+    }
+    push_trace(alloc, hints, table, number, event.as_str(), event.as_str())
+}
+
+/// Makes the events of so many traces of one name of the task `a`, and then of so many with a name
+/// of its own each, and a task of its own too or the task `a`.
+fn first_and_own(
+    alloc: Global,
+    first: u32,
+    own: u32,
+    one_task: bool,
+) -> Result<EventTable, AllocError> {
+    let mut hints = TextHints::new(alloc)?;
+    let mut table = EventTable::new(alloc);
+    for number in 0..first {
+        push_trace(alloc, &mut hints, &mut table, number, "a", "x")?;
+    }
+    for number in first..first.saturating_add(own) {
+        push_own(alloc, &mut hints, &mut table, number, one_task)?;
+    }
+    Ok(table)
+}
+
+/// Names the traces of `first_and_own`, and gives the fault.
+fn last_fault<R: Abort + Threads + Sync>(
     rt: &R,
     alloc: Global,
     first: u32,
     own: u32,
     one_task: bool,
 ) -> Result<Option<NameFault>, AllocError> {
-    let mut traces = Vec::new(alloc);
-    for number in 0..first {
-        traces.push(single(alloc, number, "a", "x")?)?;
-    }
-    for number in 0..own {
-        let event = format!(in alloc; "y{number}")?;
-        let task = if one_task { "a" } else { event.as_str() };
-        traces.push(single(alloc, number, task, event.as_str())?)?;
-    }
+    let table = first_and_own(alloc, first, own, one_task)?;
     let mut named = Vec::new(alloc);
-    Ok(name_traces(rt, alloc, traces, 4, &mut named).err())
+    Ok(name_traces(rt, alloc, table, 4, &mut named).err())
 }
 
 #[test]

@@ -1,103 +1,92 @@
--- The chains of a table of texts: a text is found along its chain, and an entry is added at its head.
-use Rattle.std.proofs.Common.{◌≡◌, ◌≢◌, ℕ, zero, suc, ◌+◌, ◌<◌, ◌≤◌, Bool, true, false, cond, Option, Some, None, is_some, List, [], ◌∷◌, ◌++◌, length, get_or, set, take, map, reverse, arith, refl, sym, subst, ap, ◌∙◌, ⊎_elim, eqb, ◌&&◌}
-use Rattle.std.specs.Str.{bytes_eq}
-use Rattle.std.specs.Cmp.Derive.{both_true}
+-- The chains of a table of messages: a message is found along its chain, and an entry is added at its head.
+use Rattle.std.proofs.Common.{◌≡◌, ◌≢◌, ℕ, zero, suc, ◌+◌, ◌<◌, ◌≤◌, Bool, true, false, cond, Option, Some, None, is_some, List, [], ◌∷◌, ◌++◌, length, get_or, set, take, map, reverse, arith, refl, sym, subst, ap, ◌∙◌, ⊎_elim, eqb}
 use Rattle.std.proofs.Math.Seq.{take-suc, take-length}
-use Rattle.std.proofs.lemmas.Bool.{cases_lt, cases_eq, eqb-true, eq-eqb, false≢true}
+use Rattle.std.proofs.lemmas.Bool.{cases_lt, cases_eq, false≢true}
 use Rattle.std.proofs.lemmas.List.{get_or-map, get_or_default, get_or_append_left, get_or_push, length_push, length-set, get_or-set_same, get_or-set_other, map-append, reverse-append}
 use Rattle.std.proofs.lemmas.Slice.Eq.{bytes_eq-Decides}
-use Rattle.clock_offsets.specs.declared.entry.Entry.{Entry}
-use Rattle.clock_offsets.specs.TextPlaces.{TextPlace, is_of, place_in, places_with}
+use Rattle.clock_offsets.specs.declared.message_entry.MessageEntry.{MessageEntry}
+use Rattle.clock_offsets.specs.inner.MessagePlaces.{is_of, place_in, places_with}
 use Rattle.clock_offsets.specs.inner.Digests.{digest_of, chain_of}
-use Rattle.clock_offsets.specs.inner.Chains.{text_place, newest_first, chain_at, older_at, IsTop, IsChained}
+use Rattle.clock_offsets.specs.inner.Chains.{message_place, newest_first, chain_at, older_at, IsTop, IsChained, AreDigested}
 
-both : (a b : Bool) → (a && b) ≡ true → (a ≡ true) × (b ≡ true)
-both true b e = (refl, e)
-both false b e = absurd (false≢true e)
-
--- a place of a text of a group has both
-pub of_both : (g : ℕ) (t : List ℕ) (p : TextPlace) → is_of g t p ≡ true → (p.group ≡ g) × (p.text ≡ t)
-of_both g t p e = let b = both (eqb p.group g) (bytes_eq p.text t) e in (eqb-true p.group g b.0, (bytes_eq-Decides p.text t).0 b.1)
-
--- an entry whose digest is another's is not of the text
-pub other_digest : (d g : ℕ) (t : List ℕ) (x : Entry) → d ≡ digest_of g t → x.digest ≡ digest_of x.group x.text.now → (x.digest ≡ d → ⊥) → (b : Bool) → is_of g t (text_place x) ≡ b → is_of g t (text_place x) ≡ false
-other_digest d g t x is own other true e =
-    let h = of_both g t (text_place x) e in
-    let same : digest_of x.group x.text.now ≡ digest_of g t = ap (λ i. digest_of i x.text.now) h.0 ∙ ap (digest_of g) h.1 in
+-- an entry whose digest is another's is not of the message
+pub other_digest : (d : ℕ) (t : List ℕ) (x : MessageEntry) → d ≡ digest_of t → x.digest ≡ digest_of x.message.now → (x.digest ≡ d → ⊥) → (b : Bool) → is_of t (message_place x) ≡ b → is_of t (message_place x) ≡ false
+other_digest d t x is own other true e =
+    let same : digest_of x.message.now ≡ digest_of t = ap digest_of ((bytes_eq-Decides x.message.now t).0 e) in
     absurd (other (own ∙ (same ∙ sym is)))
-other_digest d g t x is own other false e = e
+other_digest d t x is own other false e = e
 
 -- one entry more is the newest
-pub newest_more : (es : List Entry) (x : Entry) → newest_first (es ++ x ∷ []) ≡ text_place x ∷ newest_first es
-newest_more es x = ap reverse (map-append text_place es (x ∷ [])) ∙ reverse-append (map text_place es) (text_place x ∷ [])
+pub newest_more : (es : List MessageEntry) (x : MessageEntry) → newest_first (es ++ x ∷ []) ≡ message_place x ∷ newest_first es
+newest_more es x = ap reverse (map-append message_place es (x ∷ [])) ∙ reverse-append (map message_place es) (message_place x ∷ [])
 
--- what the oldest n entries have for a text
-abbrev pub place_to : List Entry → ℕ → ℕ → List ℕ → Option ℕ
-place_to es n g t = place_in (newest_first (take n es)) g t
+-- what the oldest n entries have for a message
+abbrev pub place_to : List MessageEntry → ℕ → List ℕ → Option ℕ
+place_to es n t = place_in (newest_first (take n es)) t
 
 -- one entry more
-pub place_more : (es : List Entry) (n : ℕ) (x : Entry) (g : ℕ) (t : List ℕ) → n < length es → x ≡ get_or es n x → place_to es (suc n) g t ≡ cond (is_of g t (text_place x)) (Some x.place) (place_to es n g t)
-place_more es n x g t lt is =
-    ap (λ l. place_in (newest_first l) g t) (take-suc es n x lt)
-    ∙ (ap (λ y. place_in (newest_first (take n es ++ y ∷ [])) g t) (sym is)
-    ∙ ap (λ l. place_in l g t) (newest_more (take n es) x))
+pub place_more : (es : List MessageEntry) (n : ℕ) (x : MessageEntry) (t : List ℕ) → n < length es → x ≡ get_or es n x → place_to es (suc n) t ≡ cond (is_of t (message_place x)) (Some x.place) (place_to es n t)
+place_more es n x t lt is =
+    ap (λ l. place_in (newest_first l) t) (take-suc es n x lt)
+    ∙ (ap (λ y. place_in (newest_first (take n es ++ y ∷ [])) t) (sym is)
+    ∙ ap (λ l. place_in l t) (newest_more (take n es) x))
 
--- entries of other texts add nothing
-skipped : (d : Entry) (es : List Entry) (n m g : ℕ) (t : List ℕ) → m ≤ n → n ≤ length es → ((i : ℕ) (x : Entry) → m ≤ i → i < n → x ≡ get_or es i x → is_of g t (text_place x) ≡ false) → place_to es n g t ≡ place_to es m g t
-skipped d es zero m g t le within none = let same : 0 ≡ m = omega arith in ap (λ k. place_to es k g t) same
-skipped d es (suc n) m g t le within none = ⊎_elim
-    (λ (below : n < m). let same : suc n ≡ m = omega arith in ap (λ k. place_to es k g t) same)
+-- entries of other messages add nothing
+skipped : (d : MessageEntry) (es : List MessageEntry) (n m : ℕ) (t : List ℕ) → m ≤ n → n ≤ length es → ((i : ℕ) (x : MessageEntry) → m ≤ i → i < n → x ≡ get_or es i x → is_of t (message_place x) ≡ false) → place_to es n t ≡ place_to es m t
+skipped d es zero m t le within none = let same : 0 ≡ m = omega arith in ap (λ k. place_to es k t) same
+skipped d es (suc n) m t le within none = ⊎_elim
+    (λ (below : n < m). let same : suc n ≡ m = omega arith in ap (λ k. place_to es k t) same)
     (λ (above : m ≤ n).
-    let x : Entry = get_or es n d in
+    let x : MessageEntry = get_or es n d in
     let lt : n < length es = omega arith in
     let is : x ≡ get_or es n x = get_or_default es n d x lt in
-    place_more es n x g t lt is
-    ∙ (ap (λ b. cond b (Some x.place) (place_to es n g t)) (none n x above (omega arith) is)
-    ∙ skipped d es n m g t above (omega arith) (λ i y l h e. none i y l (omega arith) e)))
+    place_more es n x t lt is
+    ∙ (ap (λ b. cond b (Some x.place) (place_to es n t)) (none n x above (omega arith) is)
+    ∙ skipped d es n m t above (omega arith) (λ i y l h e. none i y l (omega arith) e)))
     (cases_lt n m)
 
-pub skip : (es : List Entry) (n m g : ℕ) (t : List ℕ) → m ≤ n → n ≤ length es → ((i : ℕ) (x : Entry) → m ≤ i → i < n → x ≡ get_or es i x → is_of g t (text_place x) ≡ false) → place_to es n g t ≡ place_to es m g t
-skip [] n m g t le within none = let same : n ≡ m = omega arith in ap (λ k. place_to [] k g t) same
-skip (e ∷ es) n m g t le within none = skipped e (e ∷ es) n m g t le within none
+pub skip : (es : List MessageEntry) (n m : ℕ) (t : List ℕ) → m ≤ n → n ≤ length es → ((i : ℕ) (x : MessageEntry) → m ≤ i → i < n → x ≡ get_or es i x → is_of t (message_place x) ≡ false) → place_to es n t ≡ place_to es m t
+skip [] n m t le within none = let same : n ≡ m = omega arith in ap (λ k. place_to [] k t) same
+skip (e ∷ es) n m t le within none = skipped e (e ∷ es) n m t le within none
 
 -- the chain of an entry that was read
-pub chain_is : (count : ℕ) (es : List Entry) (i : ℕ) (x : Entry) → i < length es → x ≡ get_or es i x → chain_at count es i ≡ chain_of count x.digest
-chain_is count es i x lt is = ap (chain_of count) (get_or-map (λ (e : Entry). e.digest) es i x 0 lt ∙ ap (λ (e : Entry). e.digest) (sym is))
+pub chain_is : (count : ℕ) (es : List MessageEntry) (i : ℕ) (x : MessageEntry) → i < length es → x ≡ get_or es i x → chain_at count es i ≡ chain_of count x.digest
+chain_is count es i x lt is = ap (chain_of count) (get_or-map (λ (e : MessageEntry). e.digest) es i x 0 lt ∙ ap (λ (e : MessageEntry). e.digest) (sym is))
 
-older_is : (es : List Entry) (i : ℕ) (x : Entry) → i < length es → x ≡ get_or es i x → older_at es i ≡ x.older
-older_is es i x lt is = get_or-map (λ (e : Entry). e.older) es i x 0 lt ∙ ap (λ (e : Entry). e.older) (sym is)
+older_is : (es : List MessageEntry) (i : ℕ) (x : MessageEntry) → i < length es → x ≡ get_or es i x → older_at es i ≡ x.older
+older_is es i x lt is = get_or-map (λ (e : MessageEntry). e.older) es i x 0 lt ∙ ap (λ (e : MessageEntry). e.older) (sym is)
 
--- an entry of another chain is not of the text
-off_chain : (chains : List ℕ) (es : List Entry) (d g : ℕ) (t : List ℕ) (i : ℕ) (x : Entry) → IsChained chains es → d ≡ digest_of g t → i < length es → x ≡ get_or es i x → chain_at (length chains) es i ≢ chain_of (length chains) d → is_of g t (text_place x) ≡ false
-off_chain chains es d g t i x table is lt at other = other_digest d g t x is (table.digests i x lt at) (λ same. other (chain_is (length chains) es i x lt at ∙ ap (chain_of (length chains)) same)) (is_of g t (text_place x)) refl
+-- an entry of another chain is not of the message
+off_chain : (chains : List ℕ) (es : List MessageEntry) (d : ℕ) (t : List ℕ) (i : ℕ) (x : MessageEntry) → AreDigested es → IsChained chains es → d ≡ digest_of t → i < length es → x ≡ get_or es i x → chain_at (length chains) es i ≢ chain_of (length chains) d → is_of t (message_place x) ≡ false
+off_chain chains es d t i x own table is lt at other = other_digest d t x is (own i x lt at) (λ same. other (chain_is (length chains) es i x lt at ∙ ap (chain_of (length chains)) same)) (is_of t (message_place x)) refl
 
--- the way along the chain of a digest: the entries from next on are not of the text
-pub record IsOnWay (chains : List ℕ) (es : List Entry) (d g : ℕ) (t : List ℕ) (next : ℕ) : Type 0 where
+-- the way along the chain of a digest: the entries from next on are not of the message
+pub record IsOnWay (chains : List ℕ) (es : List MessageEntry) (d : ℕ) (t : List ℕ) (next : ℕ) : Type 0 where
   pub within : next ≤ length es
   pub here : (i : ℕ) → i + 1 ≡ next → chain_at (length chains) es i ≡ chain_of (length chains) d
-  pub rest : place_to es next g t ≡ place_in (newest_first es) g t
+  pub rest : place_to es next t ≡ place_in (newest_first es) t
 
 -- it starts at the newest entry
-pub way_start : (chains : List ℕ) (es : List Entry) (d g : ℕ) (t : List ℕ) (c : ℕ) → IsChained chains es → d ≡ digest_of g t → c ≡ chain_of (length chains) d → c < length chains → IsOnWay chains es d g t (get_or chains c 0)
-way_start chains es d g t c table is e lt =
+pub way_start : (chains : List ℕ) (es : List MessageEntry) (d : ℕ) (t : List ℕ) (c : ℕ) → AreDigested es → IsChained chains es → d ≡ digest_of t → c ≡ chain_of (length chains) d → c < length chains → IsOnWay chains es d t (get_or chains c 0)
+way_start chains es d t c own table is e lt =
     let top = table.newest c lt in
     record {
       within = top.within;
       here = λ i j. top.here i j ∙ e;
-      rest = sym (skip es (length es) (get_or chains c 0) g t top.within (omega arith) (λ i x le below at. off_chain chains es d g t i x table is below at (λ same. top.newest i le below (same ∙ sym e))))
-          ∙ ap (λ l. place_in (newest_first l) g t) (take-length es);
+      rest = sym (skip es (length es) (get_or chains c 0) t top.within (omega arith) (λ i x le below at. off_chain chains es d t i x own table is below at (λ same. top.newest i le below (same ∙ sym e))))
+          ∙ ap (λ l. place_in (newest_first l) t) (take-length es);
     }
 
 -- the entry that stands for none
-abbrev pub no_entry : Entry
-no_entry = record { group = 0; text = record { ref_ptr = (0, 0); now = [] }; place = 0; digest = 0; older = 0 }
+abbrev pub no_entry : MessageEntry
+no_entry = record { message = record { ref_ptr = (0, 0); now = [] }; place = 0; digest = 0; older = 0 }
 
 -- an entry is at its index
-pub entry_is : (es : List Entry) (n : ℕ) → n < length es → get_or es n no_entry ≡ get_or es n (get_or es n no_entry)
+pub entry_is : (es : List MessageEntry) (n : ℕ) → n < length es → get_or es n no_entry ≡ get_or es n (get_or es n no_entry)
 entry_is es n lt = get_or_default es n no_entry (get_or es n no_entry) lt
 
 -- each next older entry is older
-pub way_falls : (chains : List ℕ) (es : List Entry) (n next : ℕ) → IsChained chains es → n + 1 ≡ next → next ≤ length es → (get_or es n no_entry).older < next
+pub way_falls : (chains : List ℕ) (es : List MessageEntry) (n next : ℕ) → IsChained chains es → n + 1 ≡ next → next ≤ length es → (get_or es n no_entry).older < next
 way_falls chains es n next table e le =
     let lt : n < length es = omega arith in
     let within : older_at es n ≤ n = (table.older n lt).within in
@@ -105,67 +94,67 @@ way_falls chains es n next table e le =
     omega arith
 
 -- it goes on at the next older entry
-pub way_on : (chains : List ℕ) (es : List Entry) (d g : ℕ) (t : List ℕ) (next n : ℕ) (x : Entry) → IsChained chains es → d ≡ digest_of g t → n + 1 ≡ next → x ≡ get_or es n x → IsOnWay chains es d g t next → is_of g t (text_place x) ≡ false → IsOnWay chains es d g t x.older
-way_on chains es d g t next n x table is e at way other =
+pub way_on : (chains : List ℕ) (es : List MessageEntry) (d : ℕ) (t : List ℕ) (next n : ℕ) (x : MessageEntry) → AreDigested es → IsChained chains es → d ≡ digest_of t → n + 1 ≡ next → x ≡ get_or es n x → IsOnWay chains es d t next → is_of t (message_place x) ≡ false → IsOnWay chains es d t x.older
+way_on chains es d t next n x own table is e at way other =
     let within : next ≤ length es = way.within in
     let lt : n < length es = omega arith in
     let older : older_at es n ≡ x.older = older_is es n x lt at in
     let top = table.older n lt in
     let chain : chain_at (length chains) es n ≡ chain_of (length chains) d = way.here n e in
     let below : older_at es n ≤ n = top.within in
-    let step : place_to es (suc n) g t ≡ place_to es n g t = place_more es n x g t lt at ∙ ap (λ b. cond b (Some x.place) (place_to es n g t)) other in
-    let rest : place_to es n g t ≡ place_to es (older_at es n) g t = skip es n (older_at es n) g t below (omega arith) (λ i y le l y_at. off_chain chains es d g t i y table is (omega arith) y_at (λ same. top.newest i le l (same ∙ sym chain))) in
+    let step : place_to es (suc n) t ≡ place_to es n t = place_more es n x t lt at ∙ ap (λ b. cond b (Some x.place) (place_to es n t)) other in
+    let rest : place_to es n t ≡ place_to es (older_at es n) t = skip es n (older_at es n) t below (omega arith) (λ i y le l y_at. off_chain chains es d t i y own table is (omega arith) y_at (λ same. top.newest i le l (same ∙ sym chain))) in
     record {
       within = omega arith;
       here = λ i j. top.here i (j ∙ sym older) ∙ chain;
-      rest = let now : suc n ≡ next = omega arith in ap (λ k. place_to es k g t) (sym older) ∙ (sym rest ∙ (sym step ∙ (ap (λ k. place_to es k g t) now ∙ way.rest)));
+      rest = let now : suc n ≡ next = omega arith in ap (λ k. place_to es k t) (sym older) ∙ (sym rest ∙ (sym step ∙ (ap (λ k. place_to es k t) now ∙ way.rest)));
     }
 
--- an entry of the text has its place
-pub way_found : (chains : List ℕ) (es : List Entry) (d g : ℕ) (t : List ℕ) (next n : ℕ) (x : Entry) → n + 1 ≡ next → x ≡ get_or es n x → IsOnWay chains es d g t next → is_of g t (text_place x) ≡ true → Some x.place ≡ place_in (newest_first es) g t
-way_found chains es d g t next n x e at way here =
+-- an entry of the message has its place
+pub way_found : (chains : List ℕ) (es : List MessageEntry) (d : ℕ) (t : List ℕ) (next n : ℕ) (x : MessageEntry) → n + 1 ≡ next → x ≡ get_or es n x → IsOnWay chains es d t next → is_of t (message_place x) ≡ true → Some x.place ≡ place_in (newest_first es) t
+way_found chains es d t next n x e at way here =
     let within : next ≤ length es = way.within in
-    let step : place_to es (suc n) g t ≡ Some x.place = place_more es n x g t (omega arith) at ∙ ap (λ b. cond b (Some x.place) (place_to es n g t)) here in
+    let step : place_to es (suc n) t ≡ Some x.place = place_more es n x t (omega arith) at ∙ ap (λ b. cond b (Some x.place) (place_to es n t)) here in
     let now : suc n ≡ next = omega arith in
-    sym step ∙ (ap (λ k. place_to es k g t) now ∙ way.rest)
+    sym step ∙ (ap (λ k. place_to es k t) now ∙ way.rest)
 
--- the way through few entries: those from next on are not of the text
-pub record IsOnFewWay (es : List Entry) (g : ℕ) (t : List ℕ) (next : ℕ) : Type 0 where
+-- the way through few entries: those from next on are not of the message
+pub record IsOnFewWay (es : List MessageEntry) (t : List ℕ) (next : ℕ) : Type 0 where
   pub within : next ≤ length es
-  pub rest : place_to es next g t ≡ place_in (newest_first es) g t
+  pub rest : place_to es next t ≡ place_in (newest_first es) t
 
-pub few_start : (es : List Entry) (g : ℕ) (t : List ℕ) (n : ℕ) → n ≡ length es → IsOnFewWay es g t n
-few_start es g t n all = record {
+pub few_start : (es : List MessageEntry) (t : List ℕ) (n : ℕ) → n ≡ length es → IsOnFewWay es t n
+few_start es t n all = record {
   within = omega arith;
-  rest = ap (λ k. place_to es k g t) all ∙ ap (λ l. place_in (newest_first l) g t) (take-length es);
+  rest = ap (λ k. place_to es k t) all ∙ ap (λ l. place_in (newest_first l) t) (take-length es);
 }
 
-pub few_on : (es : List Entry) (g : ℕ) (t : List ℕ) (next n : ℕ) (x : Entry) → n + 1 ≡ next → x ≡ get_or es n x → IsOnFewWay es g t next → is_of g t (text_place x) ≡ false → IsOnFewWay es g t n
-few_on es g t next n x e at way other =
+pub few_on : (es : List MessageEntry) (t : List ℕ) (next n : ℕ) (x : MessageEntry) → n + 1 ≡ next → x ≡ get_or es n x → IsOnFewWay es t next → is_of t (message_place x) ≡ false → IsOnFewWay es t n
+few_on es t next n x e at way other =
     let within : next ≤ length es = way.within in
     let now : suc n ≡ next = omega arith in
-    let step : place_to es (suc n) g t ≡ place_to es n g t = place_more es n x g t (omega arith) at ∙ ap (λ b. cond b (Some x.place) (place_to es n g t)) other in
+    let step : place_to es (suc n) t ≡ place_to es n t = place_more es n x t (omega arith) at ∙ ap (λ b. cond b (Some x.place) (place_to es n t)) other in
     record {
       within = omega arith;
-      rest = sym step ∙ (ap (λ k. place_to es k g t) now ∙ way.rest);
+      rest = sym step ∙ (ap (λ k. place_to es k t) now ∙ way.rest);
     }
 
-pub few_found : (es : List Entry) (g : ℕ) (t : List ℕ) (next n : ℕ) (x : Entry) → n + 1 ≡ next → x ≡ get_or es n x → IsOnFewWay es g t next → is_of g t (text_place x) ≡ true → Some x.place ≡ place_in (newest_first es) g t
-few_found es g t next n x e at way here =
+pub few_found : (es : List MessageEntry) (t : List ℕ) (next n : ℕ) (x : MessageEntry) → n + 1 ≡ next → x ≡ get_or es n x → IsOnFewWay es t next → is_of t (message_place x) ≡ true → Some x.place ≡ place_in (newest_first es) t
+few_found es t next n x e at way here =
     let within : next ≤ length es = way.within in
     let now : suc n ≡ next = omega arith in
-    let step : place_to es (suc n) g t ≡ Some x.place = place_more es n x g t (omega arith) at ∙ ap (λ b. cond b (Some x.place) (place_to es n g t)) here in
-    sym step ∙ (ap (λ k. place_to es k g t) now ∙ way.rest)
+    let step : place_to es (suc n) t ≡ Some x.place = place_more es n x t (omega arith) at ∙ ap (λ b. cond b (Some x.place) (place_to es n t)) here in
+    sym step ∙ (ap (λ k. place_to es k t) now ∙ way.rest)
 
--- a text that has no place gets one
-pub places_added : (es : List Entry) (x : Entry) → place_in (newest_first es) x.group x.text.now ≡ None → newest_first (es ++ x ∷ []) ≡ places_with (newest_first es) x.group x.text.now x.place
-places_added es x none = newest_more es x ∙ sym (ap (λ o. cond (is_some o) (newest_first es) (text_place x ∷ newest_first es)) none)
+-- a message that has no place gets one
+pub places_added : (es : List MessageEntry) (x : MessageEntry) → place_in (newest_first es) x.message.now ≡ None → newest_first (es ++ x ∷ []) ≡ places_with (newest_first es) x.message.now x.place
+places_added es x none = newest_more es x ∙ sym (ap (λ o. cond (is_some o) (newest_first es) (message_place x ∷ newest_first es)) none)
 
 -- an entry that is added has its place
-pub place_added : (es : List Entry) (x : Entry) → place_in (newest_first (es ++ x ∷ [])) x.group x.text.now ≡ Some x.place
+pub place_added : (es : List MessageEntry) (x : MessageEntry) → place_in (newest_first (es ++ x ∷ [])) x.message.now ≡ Some x.place
 place_added es x =
-    ap (λ l. place_in l x.group x.text.now) (newest_more es x)
-    ∙ ap (λ b. cond b (Some x.place) (place_in (newest_first es) x.group x.text.now)) (both_true (eq-eqb x.group x.group refl) ((bytes_eq-Decides x.text.now x.text.now).1 refl))
+    ap (λ l. place_in l x.message.now) (newest_more es x)
+    ∙ ap (λ b. cond b (Some x.place) (place_in (newest_first es) x.message.now)) ((bytes_eq-Decides x.message.now x.message.now).1 refl)
 
 -- what is not empty has some
 pub some_unless_empty : (n : ℕ) → eqb n 0 ≡ false → 0 < n
@@ -176,7 +165,6 @@ some_unless_empty (suc n) e = omega arith
 pub empty_table : (chains : List ℕ) → 0 < length chains → ((c : ℕ) → get_or chains c 0 ≡ 0) → IsChained chains []
 empty_table chains some none = record {
   some = some;
-  digests = λ i e lt at. absurd (omega arith);
   newest = λ c lt. let top : get_or chains c 0 ≡ 0 = none c in record {
     within = omega arith;
     newest = λ i le below. absurd (omega arith);
@@ -186,19 +174,19 @@ empty_table chains some none = record {
 }
 
 -- the chains and the older entries of the entries before one that is added
-chain_kept : (count : ℕ) (es : List Entry) (x : Entry) (i : ℕ) → i < length es → chain_at count (es ++ x ∷ []) i ≡ chain_at count es i
+chain_kept : (count : ℕ) (es : List MessageEntry) (x : MessageEntry) (i : ℕ) → i < length es → chain_at count (es ++ x ∷ []) i ≡ chain_at count es i
 chain_kept count es x i lt =
     let at : get_or es i x ≡ get_or es i (get_or es i x) = get_or_default es i x (get_or es i x) lt in
     let more : length (es ++ x ∷ []) ≡ length es + 1 = length_push es x in
     chain_is count (es ++ x ∷ []) i (get_or es i x) (omega arith) (at ∙ sym (get_or_append_left es (x ∷ []) (get_or es i x) i lt)) ∙ sym (chain_is count es i (get_or es i x) lt at)
 
-older_kept : (es : List Entry) (x : Entry) (i : ℕ) → i < length es → older_at (es ++ x ∷ []) i ≡ older_at es i
+older_kept : (es : List MessageEntry) (x : MessageEntry) (i : ℕ) → i < length es → older_at (es ++ x ∷ []) i ≡ older_at es i
 older_kept es x i lt =
     let at : get_or es i x ≡ get_or es i (get_or es i x) = get_or_default es i x (get_or es i x) lt in
     let more : length (es ++ x ∷ []) ≡ length es + 1 = length_push es x in
     older_is (es ++ x ∷ []) i (get_or es i x) (omega arith) (at ∙ sym (get_or_append_left es (x ∷ []) (get_or es i x) i lt)) ∙ sym (older_is es i (get_or es i x) lt at)
 
-top_kept : (count : ℕ) (es : List Entry) (x : Entry) (c n top : ℕ) → n ≤ length es → IsTop count es c n top → IsTop count (es ++ x ∷ []) c n top
+top_kept : (count : ℕ) (es : List MessageEntry) (x : MessageEntry) (c n top : ℕ) → n ≤ length es → IsTop count es c n top → IsTop count (es ++ x ∷ []) c n top
 top_kept count es x c n top le t =
     let within : top ≤ n = t.within in
     record {
@@ -208,8 +196,8 @@ top_kept count es x c n top le t =
     }
 
 -- an entry is added at the head of its chain
-pub table_more : (chains : List ℕ) (es : List Entry) (x : Entry) (c : ℕ) → IsChained chains es → x.digest ≡ digest_of x.group x.text.now → c ≡ chain_of (length chains) x.digest → c < length chains → x.older ≡ get_or chains c 0 → IsChained (set chains c (length es + 1)) (es ++ x ∷ [])
-table_more chains es x c table own is lt older =
+pub table_more : (chains : List ℕ) (es : List MessageEntry) (x : MessageEntry) (c : ℕ) → IsChained chains es → c ≡ chain_of (length chains) x.digest → c < length chains → x.older ≡ get_or chains c 0 → IsChained (set chains c (length es + 1)) (es ++ x ∷ [])
+table_more chains es x c table is lt older =
     let count : length (set chains c (length es + 1)) ≡ length chains = length-set chains c (length es + 1) in
     let more : length (es ++ x ∷ []) ≡ length es + 1 = length_push es x in
     let last : (i : ℕ) → i ≡ length es → x ≡ get_or (es ++ x ∷ []) i x = λ i e. sym (get_or_push es x x i (sym e)) in
@@ -244,12 +232,17 @@ table_more chains es x c table own is lt older =
     (cases_lt i (length es)) in
     record {
       some = let some : 0 < length chains = table.some in omega arith;
-      digests = λ i e l at. ⊎_elim
-          (λ (below : i < length es). table.digests i e below (at ∙ get_or_append_left es (x ∷ []) e i below))
-          (λ (above : length es ≤ i).
-          let same : e ≡ x = at ∙ get_or_push es x e i (omega arith) in
-          ap (λ (y : Entry). y.digest) same ∙ (own ∙ sym (ap (λ (y : Entry). digest_of y.group y.text.now) same)))
-          (cases_lt i (length es));
       newest = λ k l. subst (λ (n : ℕ). IsTop n (es ++ x ∷ []) k (length (es ++ x ∷ [])) (get_or (set chains c (length es + 1)) k 0)) (sym count) (news k (omega arith));
       older = λ i l. subst (λ (n : ℕ). IsTop n (es ++ x ∷ []) (chain_at n (es ++ x ∷ []) i) i (older_at (es ++ x ∷ []) i)) (sym count) (olds i l);
     }
+
+-- an entry that is added has its digest
+pub digests_more : (es : List MessageEntry) (x : MessageEntry) → AreDigested es → x.digest ≡ digest_of x.message.now → AreDigested (es ++ x ∷ [])
+digests_more es x digests own = λ i e lt at.
+    let more : length (es ++ x ∷ []) ≡ length es + 1 = length_push es x in
+    ⊎_elim
+    (λ (below : i < length es). digests i e below (at ∙ get_or_append_left es (x ∷ []) e i below))
+    (λ (above : length es ≤ i).
+    let same : e ≡ x = at ∙ get_or_push es x e i (omega arith) in
+    ap (λ (y : MessageEntry). y.digest) same ∙ (own ∙ sym (ap (λ (y : MessageEntry). digest_of y.message.now) same)))
+    (cases_lt i (length es))

@@ -11,3 +11,5 @@ pub mod VisitLemmas
 pub mod ParentLemmas
 pub mod StartLemmas
 pub mod ChainLemmas
+pub mod NumberChainLemmas
+pub mod ZeroLemmas

@@ -1,14 +1,15 @@
 -- The messages that events receive, event by event, and their delays.
-use Rattle.std.proofs.Common.{◌≡◌, ℕ, ◌+◌, ◌<◌, ◌≤◌, ℤ, pos, ◌-ℤ◌, Some, None, List, [], length, get_or, arith, sym, subst, ap, ◌∙◌, ⊎_elim, inl, inr, ◌⊎◌}
-use Rattle.clock_offsets.specs.TextPlaces.{TextPlace}
+use Rattle.std.proofs.Common.{◌≡◌, ℕ, ◌+◌, ◌<◌, ◌≤◌, ℤ, pos, ◌-ℤ◌, Some, None, List, [], ◌∷◌, length, get_or, arith, sym, subst, ap, ◌∙◌, ⊎_elim, inl, inr, ◌⊎◌}
+use Rattle.clock_offsets.specs.inner.MessagePlaces.{MessagePlace, place_in}
 use Rattle.std.proofs.lemmas.Bool.{cases_lt}
 use Rattle.std.proofs.lemmas.List.{get_or-map, get_or_default}
 use Rattle.trace_types.specs.declared.event.Event.{Event}
 use Rattle.clock_offsets.specs.declared.message.Message.{Message}
-use Rattle.trace_types.specs.Events.{machine_at, sends_of}
+use Rattle.trace_types.specs.Events.{machine_at, time_at, sends_of}
+use Rattle.event_table.specs.Gathered.{receipt_at}
 use Rattle.clock_offsets.specs.Messages.{IsMessage}
 use Rattle.clock_offsets.specs.inner.Links.{AreNumbers, IsNumber}
-use Rattle.clock_offsets.specs.inner.Places.{index_in, AreIndices}
+use Rattle.clock_offsets.specs.inner.Places.{AreIndices}
 use Rattle.clock_offsets.specs.inner.Delays.{HasDelay, IsEventAt, HasNoSender, IsReceived}
 
 -- one event stands at one place
@@ -94,19 +95,73 @@ delay_push events numbers n v w d e x a here g num_v num_w = delay_cases events 
       g.delay ∙ (ap (λ (y : Event). pos e.time -ℤ pos y.time) (sym sender) ∙ sym is),
     ))
 
--- the place that a map of senders has for a text is that of an event that sends it
-pub sent_by : (events : List Event) (senders : List TextPlace) (text : List ℕ) (place : ℕ) → AreIndices (sends_of events) (length events) senders → index_in senders text ≡ Some place
-    → (place < length events) × ((e : Event) → e ≡ get_or events place e → e.send ≡ Some text)
-sent_by events senders text place a found =
-    let r = a.right text place found in
-    (r.0, λ e is. ap (λ (x : Event). x.send) is ∙ (sym (get_or-map (λ (x : Event). x.send) events place e None r.0) ∙ r.1))
+-- what stands at an index
+event_is : (events : List Event) (k : ℕ) (d : Event) → k < length events → get_or events k (get_or events k d) ≡ get_or events k d
+event_is events k d lt = sym (get_or_default events k d (get_or events k d) lt)
 
--- and each event that sends it stands at that place
-pub sender_found : (events : List Event) (senders : List TextPlace) (text : List ℕ) (k : ℕ) (s : Event) → AreIndices (sends_of events) (length events) senders → IsEventAt events k s → s.send ≡ Some text → index_in senders text ≡ Some k
-sender_found events senders text k s a (l, is) sends = a.all text k l (get_or-map (λ (x : Event). x.send) events k s None l ∙ (ap (λ (x : Event). x.send) is ∙ sends))
+-- an event stands at each index
+pub event_there : (events : List Event) (k : ℕ) → k < length events → (e : Event) × IsEventAt events k e
+event_there [] k lt = absurd (omega arith)
+event_there (x ∷ events) k lt = (get_or (x ∷ events) k x, (lt, event_is (x ∷ events) k x lt))
 
--- a sender of what an event receives is found by that text
-pub message_found : (events : List Event) (senders : List TextPlace) (text : List ℕ) (k : ℕ) (s r : Event) → AreIndices (sends_of events) (length events) senders → r.recv ≡ Some text → IsEventAt events k s → IsMessage s r → index_in senders text ≡ Some k
-message_found events senders text k s r a receives at_s (t, sends, received, apart) =
+-- what an event receives
+pub received_at : (events : List Event) (k : ℕ) (r : Event) → IsEventAt events k r → receipt_at events k ≡ r.recv
+received_at events k r (l, is) = get_or-map (λ (x : Event). x.recv) events k r None l ∙ ap (λ (x : Event). x.recv) is
+
+-- its time
+pub time_is_at : (events : List Event) (k : ℕ) (e : Event) → IsEventAt events k e → time_at events k ≡ e.time
+time_is_at events k e (l, is) = get_or-map (λ (x : Event). x.time) events k e 0 l ∙ ap (λ (x : Event). x.time) is
+
+-- the table has the index of a message's sender
+pub message_found : (events : List Event) (senders : List MessagePlace) (text : List ℕ) (k : ℕ) (s r : Event) → AreIndices (sends_of events) (length events) senders → r.recv ≡ Some text → IsEventAt events k s → IsMessage s r → place_in senders text ≡ Some k
+message_found events senders text k s r a receives (l, is) (t, sends, received, apart) =
     let same : Some t ≡ Some text = sym received ∙ receives in
-    sender_found events senders text k s a at_s (sends ∙ same)
+    a.all text k l (get_or-map (λ (x : Event). x.send) events k s None l ∙ (ap (λ (x : Event). x.send) is ∙ (sends ∙ same)))
+
+-- what is not received has no sender
+pub none_received : (events : List Event) (at : ℕ) (r : Event) → IsEventAt events at r → receipt_at events at ≡ None → HasNoSender events r
+none_received events at r here none k s at_s m = let is : r.recv ≡ None = sym (received_at events at r here) ∙ none in let some : r.recv ≡ Some m.0 = m.2 in cc
+
+-- nor has what the table does not know
+pub none_known : (events : List Event) (senders : List MessagePlace) (text : List ℕ) (at : ℕ) (r : Event) → AreIndices (sends_of events) (length events) senders → IsEventAt events at r → receipt_at events at ≡ Some text → place_in senders text ≡ None → HasNoSender events r
+none_known events senders text at r a here receives none k s at_s m =
+    let found : place_in senders text ≡ Some k = message_found events senders text k s r a (sym (received_at events at r here) ∙ receives) at_s m in
+    cc
+
+-- nor has what its own machine sends
+pub none_other : (events : List Event) (numbers : List ℕ) (senders : List MessagePlace) (text : List ℕ) (place at : ℕ) (r : Event) → AreNumbers events numbers → AreIndices (sends_of events) (length events) senders → IsEventAt events at r → receipt_at events at ≡ Some text
+    → place_in senders text ≡ Some place → get_or numbers place 0 ≡ get_or numbers at 0 → HasNoSender events r
+none_other events numbers senders text place at r n a here receives found same k s at_s m =
+    let again : place_in senders text ≡ Some k = message_found events senders text k s r a (sym (received_at events at r here) ∙ receives) at_s m in
+    let place_is : k ≡ place = cc in
+    let numbers_are : get_or numbers k 0 ≡ get_or numbers at 0 = ap (λ i. get_or numbers i 0) place_is ∙ same in
+    m.3 (sym (machine_of_at events k s at_s) ∙ (sym (n.same k at_s.0) ∙ (ap (machine_at events) numbers_are ∙ (n.same at here.0 ∙ machine_of_at events at r here))))
+
+-- what another machine sends is received
+pub received_from : (events : List Event) (numbers : List ℕ) (senders : List MessagePlace) (text : List ℕ) (place at : ℕ) (r : Event) (x : Message) → AreNumbers events numbers → AreIndices (sends_of events) (length events) senders → IsEventAt events at r → receipt_at events at ≡ Some text
+    → place_in senders text ≡ Some place → (get_or numbers place 0 ≡ get_or numbers at 0 → ⊥) → x.from ≡ get_or numbers place 0 → x.to ≡ get_or numbers at 0 → x.delay ≡ pos (time_at events at) -ℤ pos (time_at events place) → IsReceived events numbers at r x
+received_from events numbers senders text place at r x n a here receives found other from to delay = record {
+  place = place;
+  sender = s;
+  sends = at_s;
+  message = (text, sym (get_or-map (λ (e : Event). e.send) events place s None sent.0 ∙ ap (λ (e : Event). e.send) at_s.1) ∙ sent.1, received, apart);
+  from = from;
+  to = to;
+  delay = delay ∙ (ap (λ t. pos t -ℤ pos (time_at events place)) (time_is_at events at r here) ∙ ap (λ t. pos r.time -ℤ pos t) (time_is_at events place s at_s));
+  only = λ j e at_e m. let again : place_in senders text ≡ Some j = message_found events senders text j e r a received at_e m in cc;
+}
+  where
+    sent : (place < length events) × (get_or (sends_of events) place None ≡ Some text)
+    sent = a.right text place found
+
+    s : Event
+    s = get_or events place r
+
+    at_s : IsEventAt events place s
+    at_s = (sent.0, event_is events place r sent.0)
+
+    received : r.recv ≡ Some text
+    received = sym (received_at events at r here) ∙ receives
+
+    apart : s.machine ≡ r.machine → ⊥
+    apart same = other (n.one place at sent.0 here.0 (machine_of_at events place s at_s ∙ (same ∙ sym (machine_of_at events at r here))))

@@ -225,10 +225,6 @@ depth_below depths v k at = ⊎_elim
     (λ (past : length depths ≤ v). let none : depth_at depths v ≡ None = get_or_past depths v None past in cc)
     (cases_lt v (length depths))
 
--- the machine of an event that was read
-pub machine_read : (events : List Event) (i : ℕ) (d : Event) → i < length events → (get_or events i d).machine ≡ machine_at events i
-machine_read events i d lt = sym (get_or-map (λ (e : Event). e.machine) events i d [] lt)
-
 -- what the test of an option against a number tells
 pub option_apart : (o : Option ℕ) (k : ℕ) (b : Bool) → b ≡ not (option_eq eqb o (Some k)) → b ≡ true → o ≡ Some k → ⊥
 option_apart None k b e h is = cc

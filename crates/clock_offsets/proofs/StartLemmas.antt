@@ -22,13 +22,13 @@ none_in n v = ⊎_elim
     (cases_lt v n)
 
 -- the machine of the first event is the reference
-reference_is : (events : List Event) (m : List ℕ) → 0 < length events → m ≡ machine_at events 0 → IsReference events m
+pub reference_is : (events : List Event) (m : List ℕ) → 0 < length events → m ≡ machine_at events 0 → IsReference events m
 reference_is events m some is =
     let each : length (machines_of events) ≡ length events = length-map events (λ (e : Event). e.machine) in
     slice_get-get_or (machines_of events) 0 [] (omega arith) ∙ ap Some (sym is)
 
 -- and it alone
-reference_at : (events : List Event) (m : List ℕ) → 0 < length events → IsReference events m → machine_at events 0 ≡ m
+pub reference_at : (events : List Event) (m : List ℕ) → 0 < length events → IsReference events m → machine_at events 0 ≡ m
 reference_at events m some is =
     let each : length (machines_of events) ≡ length events = length-map events (λ (e : Event). e.machine) in
     let here = slice_get-get_or (machines_of events) 0 [] (omega arith) in

@@ -1,18 +1,23 @@
 -- Times fit signed numbers of 64 bits, and so do their differences.
-use Rattle.std.proofs.Common.{◌≡◌, ℕ, ◌≤◌, ℤ, pos, negsuc, neg_ℤ, ◌≤ℤ◌, ◌-ℤ◌, List, Contains, arith, ◌∙◌}
+use Rattle.std.proofs.Common.{◌≡◌, ℕ, ◌<◌, ◌≤◌, ℤ, pos, negsuc, neg_ℤ, ◌≤ℤ◌, ◌-ℤ◌, List, [], ◌∷◌, length, get_or, arith, ◌∙◌}
 use Rattle.std.specs.Int.{int_div_euclid}
 use Rattle.std.specs.Prelude.{FitsSigned}
 use Rattle.std.proofs.lemmas.Int.{ints, to_z-of_z, to_z_pos}
-use Rattle.std.proofs.lemmas.List.Elements.{All-contains}
+use Rattle.std.proofs.lemmas.List.{get_or-map}
 use lib.Signed.{mag}
 use mir.Syntax.{w64}
 use mir.Val.{to_z, of_z}
 use Rattle.trace_types.specs.declared.event.Event.{Event}
 use Rattle.clock_offsets.specs.Messages.{IsHalf}
+use Rattle.trace_types.specs.Events.{time_at}
 use Rattle.trace_types.specs.Times.{latest_time, AreTimely}
 
-pub event_time : (events : List Event) (e : Event) → AreTimely events → Contains events e → e.time ≤ latest_time
-event_time events e a h = All-contains (λ (x : Event). x.time ≤ latest_time) events e a h
+pub early_at : (events : List Event) (k : ℕ) → AreTimely events → k < length events → time_at events k ≤ latest_time
+early_at [] k a lt = absurd (omega arith)
+early_at (x ∷ events) k a lt =
+    let is : time_at (x ∷ events) k ≡ (get_or (x ∷ events) k x).time = get_or-map (λ (e : Event). e.time) (x ∷ events) k x 0 lt in
+    let early : (get_or (x ∷ events) k x).time ≤ latest_time = a k x lt in
+    omega arith
 
 pub time_fits : (t : ℕ) → t ≤ latest_time → FitsSigned w64 (pos t)
 time_fits t h = record { sfits = omega arith }

@@ -4,5 +4,5 @@ pub mod Depths
 pub mod Offsets
 pub mod Faults
 pub mod FirstEvents
-pub mod TextPlaces
+pub mod NumberPlaces
 pub mod inner

@@ -3,17 +3,14 @@ ghost use Rattle.clock_offsets.specs.inner.Digests.{digest_of, chain_of};
 
 use std::hash::{FoldHasher, Hasher};
 
-/// An odd number with bits of no pattern, which spreads the groups.
-const SPREAD: u64 = 0x9e37_79b9_7f4a_7c15;
-
-/// Digests a group and a text to 64 bits.
+/// Digests a message to 64 bits.
 #[inline]
-pub(crate) fn digest(group: usize, text: &str) -> u64
-    ensures { result ≡ digest_of group text.now }
+pub(crate) fn digest(message: &[u8]) -> u64
+    ensures { result ≡ digest_of message.now }
 {
     let mut hasher = FoldHasher::default();
-    hasher.write(text.as_bytes());
-    hasher.finish() ^ (group as u64).wrapping_mul(SPREAD)
+    hasher.write(message);
+    hasher.finish()
 }
 
 /// Picks one of so many chains for a digest.

@@ -1,10 +1,10 @@
-ghost use Rattle.std.specs.Prelude.{◌≡◌, IfOk};
-ghost use Rattle.clock_offsets.specs.FirstEvents.{AreFirstEvents};
-ghost use Rattle.clock_offsets.specs.inner.Places.{field_of};
+ghost use Rattle.std.specs.Prelude.{◌≡◌, ◌<◌, ℕ, List, IfOk, Some, length, slice_get};
+ghost use Rattle.clock_offsets.specs.FirstEvents.{AreFirstEvents, field_at};
+ghost use Rattle.clock_offsets.specs.inner.Numbers.{texts_in};
 
-use crate::TextPlaces;
+use crate::NumberPlaces;
+use event_table::RawEvents;
 use std::alloc::{AllocError, Global};
-use trace_types::{Event, Text};
 
 /// A text that every event has.
 #[derive(Clone, Copy)]
@@ -15,30 +15,46 @@ pub enum Field {
     Task,
 }
 
-/// Reads the text of an event in this field.
-fn read_field(event: &Event, field: Field) -> &Text
-    ensures { result.now ≡ field_of field event.now }
+/// Reads the number of the text of the event at an index in this field.
+#[inline(always)]
+fn read_number(trace: &RawEvents<'_>, at: usize, field: Field) -> u32
+    requires { at < length trace.now.trace.events }
+    ensures { slice_get (texts_in field trace.now.texts) result
+        ≡ Some (field_at field trace.now.trace.events at) }
 {
     match field {
-        Field::Machine => &event.machine,
-        Field::Task => &event.task,
+        Field::Machine => trace.machine(at),
+        Field::Task => trace.task(at),
     }
 }
 
-/// Finds for each event the index of the first one with the same text in this field. So the text is
-/// told by a number, and numbers rise by first sight. The only error is out of memory.
+/// States that a text of this field has one number.
+fn state_a_text_has_one_number(trace: &RawEvents<'_>, field: Field)
+    ensures { (i j : ℕ) (text : List ℕ) → slice_get (texts_in field trace.now.texts) i ≡ Some text
+        → slice_get (texts_in field trace.now.texts) j ≡ Some text → i ≡ j }
+{
+    match field {
+        Field::Machine => trace.texts().machines().tell_texts_apart(),
+        Field::Task => trace.texts().tasks().tell_texts_apart(),
+    }
+}
+
+/// Finds for each event the index of the first event with the same text in this field. That index
+/// numbers the text within the trace. The only error is out of memory.
 pub fn find_first_events(
     alloc: Global,
-    events: &[Event],
+    trace: &RawEvents<'_>,
     field: Field,
 ) -> Result<Vec<usize>, AllocError>
-    ensures { IfOk result (λ firsts. AreFirstEvents field events.now firsts.items) }
+    ensures { IfOk result (λ firsts. AreFirstEvents field trace.now.trace.events firsts.items) }
 {
-    let mut places = TextPlaces::new(alloc, events.len())?;
-    let mut firsts = Vec::with_capacity(alloc, events.len())?;
-    for (at, event) in events.iter().enumerate() {
-        let text = read_field(event, field).as_str();
-        let first = places.find_or_add(0, text, at)?;
+    state_a_text_has_one_number(trace, field);
+    let count = trace.len();
+    let mut places = NumberPlaces::new(alloc, count)?;
+    let mut firsts = Vec::with_capacity(alloc, count)?;
+    for at in 0..count {
+        let number = read_number(trace, at, field);
+        let first = places.find_or_add(0, number, at)?;
         firsts.push(first)?;
     }
     Ok(firsts)

@@ -4,9 +4,9 @@ ghost use Rattle.clock_offsets.specs.inner.Links.{AreNumbers, AreLinks, links_of
 ghost use Rattle.clock_offsets.specs.inner.Delays.{AreLeastDelays};
 
 use crate::link::Link;
+use event_table::RawEvents;
 use std::alloc::{AllocError, Global};
 use std::collections::BTreeMap;
-use trace_types::Event;
 
 /// Halves the difference of two delays, rounded towards minus infinity.
 fn half_difference(there: i64, back: i64) -> i64
@@ -29,15 +29,15 @@ fn no_links(alloc: Global, count: usize) -> Result<Vec<Vec<Link>>, AllocError>
 /// Links each machine, by its number, to those that are paired with it.
 pub(crate) fn link_machines(
     alloc: Global,
-    events: &[Event],
+    trace: &RawEvents<'_>,
     numbers: &[usize],
     least: &BTreeMap<(usize, usize), i64>,
 ) -> Result<Vec<Vec<Link>>, AllocError>
-    requires numbered { AreNumbers events.now numbers.now }
-    requires delays { AreLeastDelays events.now numbers.now least.now }
-    ensures { IfOk result (λ links. AreLinks events.now numbers.now links.items) }
+    requires numbered { AreNumbers trace.now.trace.events numbers.now }
+    requires delays { AreLeastDelays trace.now.trace.events numbers.now least.now }
+    ensures { IfOk result (λ links. AreLinks trace.now.trace.events numbers.now links.items) }
 {
-    let mut links = no_links(alloc, events.len())?;
+    let mut links = no_links(alloc, trace.len())?;
     for (way, there) in least {
         let (from, to) = *way;
         if let Some(back) = least.get(&(to, from)).copied() {

@@ -1,22 +1,44 @@
 ghost use Rattle.std.specs.Prelude.{◌≡◌, ◌+◌, ◌^◌, ◌<◌, MatchOption, length};
+ghost use Rattle.std.specs.Cmp.Lexicographic.{slice_cmp};
+ghost use Rattle.std.specs.Ordering.{nat_cmp, is_lt};
+ghost use Rattle.trace_types.specs.Events.{machine_at};
 ghost use Rattle.clock_offsets.specs.inner.Links.{AreNumbers, AreLinks, LeadBelow};
 ghost use Rattle.clock_offsets.specs.inner.Search.{AreVisitedTo, IsFrontier, IsBest, HasNone};
 ghost use Rattle.clock_offsets.specs.inner.Search.{HaveOffsetsTo};
 
 use crate::link::Link;
-use trace_types::Event;
+use event_table::RawEvents;
+use trace_types::Text;
+
+/// Lends the name of the machine of the event at this index.
+fn machine_name<'a>(trace: &RawEvents<'a>, at: usize) -> &'a Text
+    requires { at < length trace.now.trace.events }
+    ensures { result.now ≡ machine_at trace.now.trace.events at }
+{
+    trace.texts().machines().text(trace.machine(at))
+}
+
+/// Tells whether the machine of an event has a lesser name than that of another.
+fn is_before(trace: &RawEvents<'_>, at: usize, other: usize) -> bool
+    requires here { at < length trace.now.trace.events }
+    requires there { other < length trace.now.trace.events }
+    ensures { result ≡ is_lt (slice_cmp nat_cmp (machine_at trace.now.trace.events at)
+        (machine_at trace.now.trace.events other)) }
+{
+    machine_name(trace, at) < machine_name(trace, other)
+}
 
 /// Finds the link to the machine of this depth whose name is least in byte order.
 fn find_parent(
-    events: &[Event],
+    trace: &RawEvents<'_>,
     links: &[Link],
     depths: &[Option<usize>],
     depth: usize,
 ) -> Option<Link>
     requires within { LeadBelow (length depths.now) links.now }
-    requires each { length depths.now ≡ length events.now }
-    ensures { MatchOption result (HasNone depths.now depth links.now) (IsBest events.now depths.now
-        depth links.now) }
+    requires each { length depths.now ≡ length trace.now.trace.events }
+    ensures { MatchOption result (HasNone depths.now depth links.now)
+        (IsBest trace.now.trace.events depths.now depth links.now) }
 {
     let mut best: Option<Link> = None;
     for link in links {
@@ -24,7 +46,7 @@ fn find_parent(
             continue;
         }
         let is_less = match best {
-            Some(known) => events[link.to].machine < events[known.to].machine,
+            Some(known) => is_before(trace, link.to, known.to),
             None => true,
         };
         if is_less {
@@ -37,7 +59,7 @@ fn find_parent(
 /// Sets each frontier machine's offset to its parent's offset plus its own relative to the parent.
 /// The depth is that of the parents.
 pub(crate) fn set_offsets(
-    events: &[Event],
+    trace: &RawEvents<'_>,
     numbers: &[usize],
     links: &[Vec<Link>],
     depths: &[Option<usize>],
@@ -45,16 +67,16 @@ pub(crate) fn set_offsets(
     depth: usize,
     offsets: &mut [i128],
 )
-    requires numbered { AreNumbers events.now numbers.now }
-    requires linked { AreLinks events.now numbers.now links.now }
-    requires visited { AreVisitedTo events.now numbers.now (depth + 1) depths.now }
+    requires numbered { AreNumbers trace.now.trace.events numbers.now }
+    requires linked { AreLinks trace.now.trace.events numbers.now links.now }
+    requires visited { AreVisitedTo trace.now.trace.events numbers.now (depth + 1) depths.now }
     requires frontier { IsFrontier (depth + 1) depths.now frontier.now }
     requires low { depth < 2 ^ 32 }
-    requires set { HaveOffsetsTo events.now depth depths.now offsets.old }
-    ensures { HaveOffsetsTo events.now (depth + 1) depths.now offsets.new }
+    requires set { HaveOffsetsTo trace.now.trace.events depth depths.now offsets.old }
+    ensures { HaveOffsetsTo trace.now.trace.events (depth + 1) depths.now offsets.new }
 {
     for machine in frontier {
-        if let Some(link) = find_parent(events, &links[*machine], depths, depth) {
+        if let Some(link) = find_parent(trace, &links[*machine], depths, depth) {
             offsets[*machine] = offsets[link.to] + i128::from(link.offset);
         }
     }

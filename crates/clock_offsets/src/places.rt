@@ -1,11 +1,12 @@
-ghost use Rattle.std.specs.Prelude.{◌≡◌, ◌≢◌, option_copied, IfOk, IfErr, length};
+ghost use Rattle.std.specs.Prelude.{◌≡◌, ◌≢◌, ◌<◌, option_copied, IfOk, IfErr, None, length};
+ghost use Rattle.std.specs.Prelude.{slice_index_or};
 ghost use Rattle.clock_offsets.specs.declared.clock_fault.ClockFault.TheVariants.{Memory};
-ghost use Rattle.clock_offsets.specs.inner.Places.{message_at, messages_at, repeat_at, AreIndices};
-ghost use Rattle.clock_offsets.specs.inner.Places.{IsRepeatAt};
+ghost use Rattle.clock_offsets.specs.inner.Places.{messages_at, repeat_at, AreIndices, IsRepeatAt};
 
-use crate::{ClockFault, TextPlaces};
+use crate::ClockFault;
+use crate::message_places::MessagePlaces;
+use event_table::RawEvents;
 use std::alloc::Global;
-use trace_types::{Event, Text};
 
 /// An end of a message: where it is sent, or where it is received.
 #[derive(Clone, Copy)]
@@ -14,13 +15,16 @@ pub(crate) enum End {
     Receipt,
 }
 
-/// Reads the message of an event at this end.
-fn read_message(event: &Event, end: End) -> Option<&Text>
-    ensures { option_copied result ≡ message_at end event.now }
+/// Reads the message of the event at an index at this end.
+#[inline(always)]
+fn read_message<'a>(trace: &RawEvents<'a>, at: usize, end: End) -> Option<&'a [u8]>
+    requires { at < length trace.now.trace.events }
+    ensures { option_copied result
+        ≡ slice_index_or (messages_at end trace.now.trace.events) at None }
 {
     match end {
-        End::Sending => event.send.as_ref(),
-        End::Receipt => event.recv.as_ref(),
+        End::Sending => trace.send(at),
+        End::Receipt => trace.recv(at),
     }
 }
 
@@ -35,30 +39,36 @@ fn repeat(end: End, line: u32) -> ClockFault
 }
 
 /// Counts the events that have a message at this end.
-fn count_messages(events: &[Event], end: End) -> usize {
-    events
-        .iter()
-        .filter(|event| read_message(event, end).is_some())
-        .count()
+fn count_messages(trace: &RawEvents<'_>, end: End) -> usize {
+    let mut count = 0;
+    for at in 0..trace.len() {
+        if read_message(trace, at, end).is_some() {
+            count += 1;
+        }
+    }
+    count
 }
 
-/// Maps each message to the index of the event that has it at this end.
-pub(crate) fn index_messages(
+/// Maps each message to the index of the event that has it at this end. The error is the first line
+/// that repeats one, or out of memory.
+pub(crate) fn index_messages<'a>(
     alloc: Global,
-    events: &[Event],
+    trace: &RawEvents<'a>,
     end: End,
-) -> Result<TextPlaces<'_>, ClockFault>
-    ensures ok { IfOk result (λ m. AreIndices (messages_at end events.now) (length events.now) m) }
-    ensures err { IfErr result (λ fault. fault ≢ Memory → IsRepeatAt events.now end fault) }
+) -> Result<MessagePlaces<'a>, ClockFault>
+    ensures ok { IfOk result (λ m. AreIndices (messages_at end trace.now.trace.events)
+        (length trace.now.trace.events) m) }
+    ensures err { IfErr result (λ fault. fault ≢ Memory
+        → IsRepeatAt trace.now.trace.events end fault) }
 {
-    let mut places = TextPlaces::new(alloc, count_messages(events, end))?;
-    for (at, event) in events.iter().enumerate() {
-        let Some(message) = read_message(event, end) else {
+    let mut places = MessagePlaces::new(alloc, count_messages(trace, end))?;
+    for at in 0..trace.len() {
+        let Some(message) = read_message(trace, at, end) else {
             continue;
         };
-        let first = places.find_or_add(0, message.as_str(), at)?;
+        let first = places.find_or_add(message, at)?;
         if first != at {
-            return Err(repeat(end, event.line));
+            return Err(repeat(end, trace.line(at)));
         }
     }
     Ok(places)

@@ -5,8 +5,8 @@ ghost use Rattle.clock_offsets.specs.inner.Search.{AreMachineOffsets};
 use crate::frontier::visit_next;
 use crate::link::Link;
 use crate::parents::set_offsets;
+use event_table::RawEvents;
 use std::alloc::{AllocError, Global};
-use trace_types::Event;
 
 /// Makes a list of this many machines of which none has been visited.
 fn no_depths(alloc: Global, count: usize) -> Result<Vec<Option<usize>>, AllocError>
@@ -22,25 +22,26 @@ fn no_depths(alloc: Global, count: usize) -> Result<Vec<Option<usize>>, AllocErr
 /// Finds the offset of each machine, by its number, in a breadth-first search from the reference.
 pub(crate) fn search_offsets(
     alloc: Global,
-    events: &[Event],
+    trace: &RawEvents<'_>,
     numbers: &[usize],
     links: &[Vec<Link>],
 ) -> Result<Vec<i128>, AllocError>
-    requires some { 0 < length events.now }
-    requires few { length events.now < 2 ^ 32 }
-    requires numbered { AreNumbers events.now numbers.now }
-    requires linked { AreLinks events.now numbers.now links.now }
-    ensures { IfOk result (λ offsets. AreMachineOffsets events.now numbers.now offsets.items) }
+    requires few { length trace.now.trace.events < 2 ^ 32 }
+    requires numbered { AreNumbers trace.now.trace.events numbers.now }
+    requires linked { AreLinks trace.now.trace.events numbers.now links.now }
+    ensures { IfOk result (λ offsets.
+        AreMachineOffsets trace.now.trace.events numbers.now offsets.items) }
 {
+    let count = trace.len();
     let reference = numbers[0];
-    let mut depths = no_depths(alloc, events.len())?;
-    let mut offsets = vec![in alloc; 0i128; events.len()]?;
+    let mut depths = no_depths(alloc, count)?;
+    let mut offsets = vec![in alloc; 0i128; count]?;
     let mut frontier = vec![in alloc; reference]?;
     depths[reference] = Some(0);
     let mut depth = 0;
     'outward: while !frontier.is_empty() {
         let next = visit_next(alloc, links, &frontier, depth + 1, &mut depths)?;
-        set_offsets(events, numbers, links, &depths, &next, depth, &mut offsets);
+        set_offsets(trace, numbers, links, &depths, &next, depth, &mut offsets);
         frontier = next;
         depth += 1;
     }

@@ -1,11 +1,9 @@
-ghost use Rattle.std.specs.Prelude.{◌≡◌, ◌^◌, ◌<◌, IfOk, length, codes};
-ghost use Rattle.trace_types.specs.Times.{AreTimely};
-
 use crate::{ClockFault, offsets};
+use event_table::{EventFields, EventTable, TextHints, gather};
 use std::alloc::{AllocError, Global};
 use std::process::Abort;
 use std::test::Fail;
-use trace_types::{Event, EventList, RawTrace, Text};
+use std::thread::Threads;
 
 /// A line of a trace: its machine, its time, and the messages that it sends and receives.
 #[derive(Clone, Copy)]
@@ -46,61 +44,52 @@ fn alone(machine: &'static str, time: u32) -> Row {
     }
 }
 
-/// Copies a text, where there is one.
-fn copy_text(alloc: Global, text: Option<&str>) -> Result<Option<Text>, AllocError> {
-    match text {
-        Some(text) => Ok(Some(Text::new(alloc, text)?)),
-        None => Ok(None),
+/// Makes the table of these lines, numbered from 1.
+fn make_table(alloc: Global, rows: &[Row]) -> Result<EventTable, AllocError> {
+    let mut table = EventTable::new(alloc);
+    let mut hints = TextHints::new(alloc)?;
+    for row in rows {
+        let fields = EventFields {
+            request: "r1",
+            machine: row.machine,
+            task: "t",
+            event: "e",
+            time: u64::from(row.time),
+            send: row.send,
+            recv: row.recv,
+        };
+        if table.len() >= 5000 {
+            return Err(AllocError);
+        }
+        let line = table.len() as u32 + 1;
+        table.push(alloc, &mut hints, line, &fields)?;
     }
-}
-
-/// Makes the event of a line.
-fn make_event(alloc: Global, row: &Row, line: u32) -> Result<Event, AllocError>
-    ensures line { IfOk result (λ e. e.line ≡ line) }
-    ensures request { IfOk result (λ e. e.request ≡ codes "r1") }
-    ensures early { IfOk result (λ e. e.time < 2 ^ 32) }
-{
-    Ok(Event {
-        line,
-        request: Text::new(alloc, "r1")?,
-        machine: Text::new(alloc, row.machine)?,
-        task: Text::new(alloc, "t")?,
-        event: Text::new(alloc, "e")?,
-        time: u64::from(row.time),
-        send: copy_text(alloc, row.send)?,
-        recv: copy_text(alloc, row.recv)?,
-    })
-}
-
-/// Makes the trace of these lines, numbered from 1.
-fn make_trace(alloc: Global, rows: &[Row]) -> Result<RawTrace, AllocError>
-    requires some { 0 < length rows.now }
-    requires few { length rows.now < 2 ^ 32 }
-    ensures each { IfOk result (λ raw. length raw.events ≡ length rows.now) }
-    ensures timely { IfOk result (λ raw. AreTimely raw.events) }
-{
-    let mut events = Vec::with_capacity(alloc, rows.len())?;
-    for (at, row) in rows.iter().enumerate() {
-        events.push(make_event(alloc, row, at as u32 + 1)?)?;
-    }
-    Ok(RawTrace {
-        request: Text::new(alloc, "r1")?,
-        events: EventList::of(events),
-    })
+    Ok(table)
 }
 
 /// Finds the offsets of the trace of these lines, or its fault.
-fn answer(
-    rt: &(impl Abort + AllocGlobal),
+fn answer<R: Abort + AllocGlobal + Threads + Sync>(
+    rt: &R,
     rows: &[Row],
 ) -> Result<Result<Vec<i128>, ClockFault>, Fail> {
     assert!(rt; !rows.is_empty() && rows.len() < 5000);
-    let raw = make_trace(rt.alloc(), rows)?;
-    Ok(offsets(rt.alloc(), &raw))
+    let table = make_table(rt.alloc(), rows)?;
+    assert!(rt; table.len() <= 5000);
+    let mut parts = Vec::new(rt.alloc());
+    parts.push(table)?;
+    let gathered = gather(rt, rt.alloc(), parts, 1)?;
+    assert!(rt; gathered.len() == 1);
+    let trace = gathered.trace(0);
+    assert!(rt; trace.len() == rows.len() && trace.is_timely());
+    Ok(offsets(rt.alloc(), &trace))
 }
 
 /// Asserts that these lines have these offsets.
-fn has(rt: &(impl Abort + AllocGlobal), rows: &[Row], expected: &[i128]) -> Result<(), Fail> {
+fn has<R: Abort + AllocGlobal + Threads + Sync>(
+    rt: &R,
+    rows: &[Row],
+    expected: &[i128],
+) -> Result<(), Fail> {
     let found = answer(rt, rows)?;
     assert!(rt; found.is_ok());
     if let Ok(found) = found {
@@ -110,8 +99,8 @@ fn has(rt: &(impl Abort + AllocGlobal), rows: &[Row], expected: &[i128]) -> Resu
 }
 
 /// Asserts that these lines have this fault.
-fn refused(
-    rt: &(impl Abort + AllocGlobal),
+fn refused<R: Abort + AllocGlobal + Threads + Sync>(
+    rt: &R,
     rows: &[Row],
     expected: ClockFault,
 ) -> Result<(), Fail> {

@@ -49,7 +49,7 @@ module _ (p : Parse json.Json) (old : Members) where
 abbrev whole : Option (json.Json × List Token) → Option Data
 whole o = option_and_then of_json (option_and_then (λ p. if_last p.0 p.1) o)
 
--- nothing stands behind the value
+-- nothing stands after the value
 pub whole_read : (o : Option (json.Json × List Token)) (d : Data) → converted of_json o ≡ Some (d, []) → whole o ≡ Some d
 whole_read o d e = let j = converted_some of_json o d [] e in ap whole j.1 ∙ j.2
 

@@ -1,5 +1,5 @@
--- The lines that an input says have rising numbers, timely events and limited commands, and there is
--- at most one more than the input has bytes.
+-- The lines that an input says have rising numbers, timely events and limited commands, and there
+-- is at most one more than the input has bytes.
 use Rattle.std.proofs.Common.{◌≡◌, ℕ, zero, suc, ◌+◌, ◌*◌, ◌≤◌, List, [], ◌∷◌, ◌++◌, length, Bool, true, false, Option, Some, None, Result, Ok, Err, refl, sym, ap, subst, ◌∙◌, true≢false, arith, codes, nat_lt, unwrap_or, is_some, if◌then◌else◌}
 use Rattle.std.specs.Prelude.{All}
 use Rattle.std.proofs.lemmas.List.{length-append}

@@ -1,5 +1,5 @@
 -- What lines say, line after line.
-use Rattle.std.proofs.Common.{◌≡◌, ℕ, ◌+◌, List, [], ◌∷◌, ◌++◌, map, Bool, true, false, Result, Ok, Err, refl, sym, ap, ◌∙◌, append_assoc, if◌then◌else◌}
+use Rattle.std.proofs.Common.{◌≡◌, ℕ, ◌+◌, List, [], ◌∷◌, ◌++◌, map, Bool, true, false, Result, Ok, Err, refl, sym, ap, subst, ◌∙◌, append_assoc, if◌then◌else◌}
 use Rattle.std.specs.Prelude.{IsOkAnd}
 use Rattle.event_lines.specs.declared.line.Line.{Line}
 use Rattle.event_lines.specs.declared.why.Why.{Why}
@@ -47,6 +47,16 @@ lines_said_from-one n line = by (is_blank_line line) (line_result n line) refl r
     by true one e f = rw e refl
     by false (Ok x) e f = rw (e, f) refl
     by false (Err why) e f = rw (e, f) refl
+
+-- a good line was appended that is not blank
+pub line_appended : (n : ℕ) (line : List ℕ) (old new : List Line) → is_blank_line line ≡ false → IsOkAnd (line_result n line) (λ said. new ≡ old ++ said ∷ [])
+    → IsOkAnd (lines_said_from n (line ∷ [])) (λ said. new ≡ old ++ said)
+line_appended n line old new full h =
+    subst (λ r. IsOkAnd r (λ said. new ≡ old ++ said)) (sym (lines_said_from-one n line ∙ ap (λ b. if b then Ok [] else one_or_fault n (line_result n line)) full)) (by (line_result n line) h)
+  where
+    by : (one : Result Line Why) → IsOkAnd one (λ said. new ≡ old ++ said ∷ []) → IsOkAnd (one_or_fault n one) (λ said. new ≡ old ++ said)
+    by (Ok x) g = g
+    by (Err why) g = g
 
 joins : (a b : Result (List Line) LineFault) (old new : List Line) → IsOkAnd a (λ said. new ≡ old ++ said) → both_said (Ok old) (both_said a b) ≡ both_said (Ok new) b
 joins (Ok xs) (Ok ys) old new h = ap Ok (sym (append_assoc old xs ys) ∙ ap (λ zs. zs ++ ys) (sym h))

@@ -1,7 +1,6 @@
 pub mod Commands
 pub mod Cut
 pub mod EventFaults
-pub mod EventParts
 pub mod GoodLines
 pub mod InputLines
 pub mod LineParts

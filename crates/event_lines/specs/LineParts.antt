@@ -18,7 +18,7 @@ lines_of_control (Some control) = Control control.line control.command ∷ []
 
 -- the lines of a run: its events, and then its control line
 abbrev pub lines_of_run : LineRun → List Line
-lines_of_run run = lines_of_events run.events.items ++ lines_of_control run.control
+lines_of_run run = lines_of_events run.events ++ lines_of_control run.control
 
 -- the lines of all runs, one run after another
 abbrev pub lines_of_runs : List LineRun → List Line

@@ -2,7 +2,7 @@ ghost use Rattle.std.specs.Prelude.{◌≡◌};
 ghost use Rattle.event_lines.specs.Cut.{is_blank_byte, is_blank_line};
 
 /// Tells whether a byte is a space, a tab or a carriage return.
-fn is_blank_byte(byte: u8) -> bool
+pub(crate) fn is_blank_byte(byte: u8) -> bool
     ensures { result ≡ is_blank_byte byte }
 {
     byte == b' ' || byte == b'\t' || byte == b'\r'

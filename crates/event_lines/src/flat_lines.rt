@@ -1,12 +1,15 @@
-ghost use Rattle.std.specs.Prelude.{◌≡◌, ◌==◌, length, slice_index, Some, IsTrue, IfOk, IfSome};
+ghost use Rattle.std.specs.Prelude.{◌≡◌, ◌==◌, length, slice_index, Some, false, IsTrue, IfOk, IfSome};
 ghost use Rattle.serde_json.specs.Data.{Members, no_members, object, number, string, unsigned, put};
 ghost use Rattle.serde_json.specs.Read.{number_of};
 ghost use Rattle.event_lines.specs.LineResults.{json_value};
 ghost use Rattle.event_lines.specs.inner.Fields.{AreFields};
+ghost use Rattle.event_lines.specs.EventFaults.{is_bad_text};
+ghost use Rattle.event_lines.specs.inner.PlainObjects.{AreGood, HasGoodTexts};
 ghost use Rattle.event_lines.specs.inner.FlatObjects.{AreMembers, IsEventLine, rest_of};
 
-use crate::event_fields::{EventFields, in_nanoseconds};
 use crate::time_unit::TimeUnit;
+use crate::value_fields::in_nanoseconds;
+use event_table::EventFields;
 use fast_float::Numeral;
 use json::{Reader, Scratch, Token};
 use simdutf8::basic::from_utf8;
@@ -42,10 +45,9 @@ fn has_minus(bytes: &[u8]) -> bool
 
 /// Reads a JSON number that is whole, is not below 0 and fits 64 bits, without fraction or
 /// exponent.
-fn whole_number(text: &str) -> Option<u64>
-    ensures { IfSome result (λ n. number_of text.now ≡ Some (unsigned n)) }
+pub(crate) fn whole_number(bytes: &[u8]) -> Option<u64>
+    ensures { IfSome result (λ n. number_of bytes.now ≡ Some (unsigned n)) }
 {
-    let bytes = text.as_bytes();
     if has_minus(bytes) {
         return None;
     }
@@ -54,8 +56,9 @@ fn whole_number(text: &str) -> Option<u64>
 
 impl<'a> FlatMembers<'a> {
     /// Starts with no members.
-    fn new() -> FlatMembers<'a>
-        ensures { AreMembers result no_members }
+    pub(crate) fn new() -> FlatMembers<'a>
+        ensures none { AreMembers result no_members }
+        ensures good { AreGood result }
     {
         FlatMembers {
             request: None,
@@ -70,9 +73,11 @@ impl<'a> FlatMembers<'a> {
     }
 
     /// Adds a member that is a text; false where this way does not read it.
-    fn put_text(&mut self, key: &str, text: &'a str) -> bool
-        ensures { IsTrue result → (ms : Members) → AreMembers self.old ms
+    pub(crate) fn put_text(&mut self, key: &str, text: &'a str) -> bool
+        ensures put { IsTrue result → (ms : Members) → AreMembers self.old ms
             → AreMembers self.new (put key.now (string text.now) ms) }
+        ensures good { IsTrue result → is_bad_text text.now ≡ false → AreGood self.old
+            → AreGood self.new }
     {
         match key {
             "request" => self.request = Some(text),
@@ -88,9 +93,10 @@ impl<'a> FlatMembers<'a> {
     }
 
     /// Adds a member that is a whole number from 0 up; false where this way does not read it.
-    fn put_number(&mut self, key: &str, value: u64) -> bool
-        ensures { IsTrue result → (ms : Members) → AreMembers self.old ms
+    pub(crate) fn put_number(&mut self, key: &str, value: u64) -> bool
+        ensures put { IsTrue result → (ms : Members) → AreMembers self.old ms
             → AreMembers self.new (put key.now (number (unsigned value)) ms) }
+        ensures good { IsTrue result → AreGood self.old → AreGood self.new }
     {
         match key {
             "time" => self.time = Some(value),
@@ -102,9 +108,10 @@ impl<'a> FlatMembers<'a> {
     }
 
     /// Gives the fields of the event line, where it has what it must have and its time is in range.
-    fn fields(&self) -> Option<EventFields<'a>>
-        ensures { IfSome result (λ f. (ms : Members) → AreMembers self.now ms
+    pub(crate) fn fields(&self) -> Option<EventFields<'a>>
+        ensures fields { IfSome result (λ f. (ms : Members) → AreMembers self.now ms
             → AreFields f (object ms)) }
+        ensures good { AreGood self.now → IfSome result HasGoodTexts }
     {
         let (unit, number) = match self.nanos {
             Some(number) => (TimeUnit::Nanoseconds, number),
@@ -136,7 +143,7 @@ fn read_members<'a>(reader: &mut Reader<'a>) -> Option<FlatMembers<'a>>
                 }
             }
             Token::Number(text) => {
-                if !found.put_number(key, whole_number(text)?) {
+                if !found.put_number(key, whole_number(text.as_bytes())?) {
                     return None;
                 }
             }

@@ -12,8 +12,8 @@ use std::thread::Threads;
 /// The least length at which a piece of an input is worth a thread of its own, in bytes.
 pub(crate) const LEAST_PIECE: usize = 65_536;
 
-/// Reads the lines of bytes, numbered from this one on, by up to so many workers, each a piece of at
-/// least about this length.
+/// Reads the lines of bytes, numbered from this one on, by up to so many workers, each a piece of
+/// at least about this length.
 pub(crate) fn read_shared<R: Threads + Sync>(
     rt: &R,
     alloc: Global,

@@ -1,16 +1,13 @@
-//! The lines of the input: cut at line feeds, numbered, and read as events and commands, up to the
-//! first bad line, which is an error with its reason, by several threads beside one another. Events
-//! are gathered into traces by request.
+//! The lines of the input: cut at line feeds, numbered, and read in parallel as events and
+//! commands, up to the first bad line, which is an error with its reason. Events are kept as
+//! numbers beside tables of their texts.
 #![tactic(auto)]
 
 mod blank_lines;
 mod command;
 mod command_reading;
-mod event_fields;
 mod event_parts;
 mod flat_lines;
-mod gathering;
-mod group_gathering;
 mod input_reading;
 pub mod laws;
 mod line;
@@ -23,18 +20,17 @@ mod lines;
 mod lines_so_far;
 mod object_members;
 mod pieces;
-mod placing;
+mod plain_lines;
 mod rising;
-mod rooms;
 mod run_builder;
 mod text_rules;
 mod time_unit;
+mod value_fields;
 mod why;
 
 pub use blank_lines::is_blank_line;
 pub use command::Command;
 pub use event_parts::EventParts;
-pub use gathering::gather;
 pub use input_reading::read_lines;
 pub use line::Line;
 pub use line_error::LineError;

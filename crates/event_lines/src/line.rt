@@ -1,7 +1,7 @@
 use crate::Command;
 use trace_types::Event;
 
-/// A good line of the input.
+/// A good line of the input, as contracts see it; code keeps lines in runs (`LineRun`).
 #[derive(Debug, Drop)]
 pub enum Line {
     /// An event line.
@@ -16,19 +16,4 @@ pub enum Line {
         /// The command.
         command: Command,
     },
-}
-
-impl Line {
-    ghost use Rattle.std.specs.Prelude.{◌≡◌};
-    ghost use Rattle.event_lines.specs.GoodLines.{line_number};
-
-    /// Gives the number of the line, from 1 over the whole input.
-    pub fn number(&self) -> u32
-        ensures { result ≡ line_number self.now }
-    {
-        match self {
-            Line::Event { event } => event.line,
-            Line::Control { line, .. } => *line,
-        }
-    }
 }

@@ -3,6 +3,7 @@ ghost use Rattle.event_lines.specs.declared.line.Line.TheVariants.{Control};
 ghost use Rattle.event_lines.specs.LineParts.{lines_of_runs};
 
 use crate::{Command, ControlLine, LineRun};
+use event_table::EventTable;
 use std::alloc::{AllocError, Global};
 use std::marker::Model;
 
@@ -48,7 +49,7 @@ impl LineParts {
     {
         Ok(
             self.runs.push(LineRun {
-                events: Vec::new(alloc),
+                events: EventTable::new(alloc),
                 control: Some(ControlLine { line, command }),
             })?,
         )

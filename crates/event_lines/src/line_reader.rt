@@ -11,8 +11,8 @@ use std::alloc::{AllocError, Global};
 use std::marker::Model;
 use std::thread::Threads;
 
-/// Reads the lines of an input that comes in pieces, cut anywhere, and keeps of its bytes only those
-/// after the last line feed. Contracts see it as what it says of the bytes.
+/// Reads the lines of an input that comes in pieces, cut anywhere, and keeps of its bytes only
+/// those after the last line feed. Contracts see it as what it says of the bytes.
 #[derive(Debug, Drop)]
 pub struct LineReader {
     alloc: Global,
@@ -108,8 +108,8 @@ impl LineReader {
 
     /// Ends the input and gives its lines.
     ///
-    /// The errors are `Memory`, and `Bad` with the number of the first bad line and the first reason
-    /// that holds of it.
+    /// The errors are `Memory`, and `Bad` with the number of the first bad line and the first
+    /// reason that holds of it.
     pub fn finish(self) -> Result<LineParts, LineError>
         ensures lines_read { IfOk result (λ v. said_with self [] ≡ Ok v) }
         ensures first_bad { IfErr result (IsLineError (said_with self [])) }

@@ -1,5 +1,5 @@
 use crate::Command;
-use trace_types::Event;
+use event_table::EventTable;
 
 /// A control line: its number and what it asks for.
 #[derive(Clone, Copy, Debug)]
@@ -14,7 +14,8 @@ pub struct ControlLine {
 #[derive(Debug, Drop)]
 pub struct LineRun {
     /// The events, in the order of their lines.
-    pub events: Vec<Event>,
-    /// The control line that ends the run; none where a long run was cut or the input ends.
+    pub events: EventTable,
+    /// The control line that ends the run; none where a long run was cut, or a piece of
+    /// the input ends.
     pub control: Option<ControlLine>,
 }

@@ -6,7 +6,7 @@ ghost use Rattle.event_lines.specs.InputLines.{lines_said_from, IsLineError};
 ghost use Rattle.event_lines.specs.inner.Readings.{IsReading};
 
 use crate::blank_lines::is_blank_line;
-use crate::line_reading::read_line;
+use crate::line_reading::add_line;
 use crate::run_builder::RunBuilder;
 use crate::{LineError, LineParts};
 use json::Scratch;
@@ -26,7 +26,7 @@ fn line_end(bytes: &[u8]) -> usize
 }
 
 /// Appends what a line says; a blank line adds nothing.
-fn add_line(
+fn add_numbered_line(
     alloc: Global,
     number: u32,
     line: &[u8],
@@ -40,8 +40,8 @@ fn add_line(
     if is_blank_line(line) {
         return Ok(());
     }
-    match read_line(alloc, number, line, scratch)? {
-        Ok(said) => Ok(lines.push(alloc, said)?),
+    match add_line(alloc, number, line, scratch, lines)? {
+        Ok(()) => Ok(()),
         Err(why) => Err(LineError::Bad { line: number, why }),
     }
 }
@@ -58,13 +58,13 @@ fn read_in_turn(alloc: Global, first: u32, bytes: &[u8]) -> Result<RunBuilder, L
     ensures first_bad { IfErr result
         (IsLineError (lines_said_from first (input_lines bytes.now))) }
 {
-    let mut lines = RunBuilder::new(alloc);
+    let mut lines = RunBuilder::new(alloc)?;
     let mut scratch = Scratch::new(alloc);
     let mut start = 0;
     let mut number = first;
     'lines: loop {
         let end = start + line_end(&bytes[start..]);
-        add_line(alloc, number, &bytes[start..end], &mut scratch, &mut lines)?;
+        add_numbered_line(alloc, number, &bytes[start..end], &mut scratch, &mut lines)?;
         if end == bytes.len() {
             return Ok(lines);
         }

@@ -3,7 +3,8 @@ ghost use Rattle.trace_types.specs.EventLines.{LinesRise};
 
 use trace_types::Event;
 
-/// Tells whether each event has a greater line than the one before it, as `gather` requires.
+/// Tells whether each event has a greater line than the one before it, as a batch of events
+/// requires.
 pub fn lines_rise(events: &[Event]) -> bool
     ensures { IsTrue result ↔ LinesRise events.now }
 {

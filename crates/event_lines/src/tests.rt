@@ -1,14 +1,13 @@
-ghost use Rattle.std.specs.Prelude.{◌≡◌, ◌≤◌, ◌++◌, length, OnOk};
-
-mod both_ways;
+mod all_ways;
 mod control_lines;
 mod pieces;
 
-use crate::{EventParts, LineError, gather, lines_rise, read_lines};
+use crate::{EventParts, LineError, lines_rise, read_lines};
+use event_table::{EventFields, EventTable, TextHints};
 use std::alloc::{AllocError, Global};
 use std::test::Fail;
 use std::thread::Threads;
-use trace_types::{Event, RawTrace, Text};
+use trace_types::{Event, Text};
 
 /// Finds the first bad line of a short input, and its printed reason.
 pub(crate) fn fault_of<R: Threads + Sync>(
@@ -32,8 +31,8 @@ fn times_of<R: Threads + Sync>(rt: &R, alloc: Global, bytes: &[u8]) -> Result<Ve
         return Ok(times);
     }
     for run in read_lines(rt, alloc, bytes, 1)?.into_runs() {
-        for event in &run.events {
-            times.push(event.time)?;
+        for index in 0..run.events.len() {
+            times.push(run.events.event(index).time)?;
         }
     }
     Ok(times)
@@ -154,11 +153,11 @@ fn bytes_that_are_no_text_are_no_object(rt: HostRuntime) {
     assert_eq!(rt; fault_of(&rt, rt.alloc(), b"{\"a\":\"\t\"}"), fault);
 }
 
-/// Makes an event of a request on a line.
-fn event_on(alloc: Global, line: u32, request: &str) -> Result<Event, Fail> {
+/// Makes an event on a line.
+fn event_on(alloc: Global, line: u32) -> Result<Event, Fail> {
     Ok(Event {
         line,
-        request: Text::new(alloc, request)?,
+        request: Text::new(alloc, "r")?,
         machine: Text::new(alloc, "m")?,
         task: Text::new(alloc, "a")?,
         event: Text::new(alloc, "s")?,
@@ -168,72 +167,61 @@ fn event_on(alloc: Global, line: u32, request: &str) -> Result<Event, Fail> {
     })
 }
 
-/// Appends events in two parts, the first with so many events.
-fn push_in_two(
-    parts: &mut EventParts,
-    mut events: Vec<Event>,
-    first: usize,
-) -> Result<(), AllocError>
-    requires { first ≤ length events.items }
-    ensures { OnOk result (parts.new ≡ parts.old ++ events.items) }
-{
-    let later = events.split_off(first)?;
-    parts.push_part(events)?;
-    parts.push_part(later)
-}
-
-/// Gathers events in four parts, the first two with so many events together; nothing where their
-/// lines do not rise.
-fn gather_parts<R: Threads + Sync>(
-    rt: &R,
-    alloc: Global,
-    mut events: Vec<Event>,
-    first: usize,
-    workers: u32,
-) -> Result<Vec<RawTrace>, AllocError> {
-    if events.len() < first || !lines_rise(&events) {
-        return Ok(Vec::new(alloc));
+#[test]
+fn lines_rise_where_each_is_greater_than_the_one_before(rt: HostRuntime) -> Result<(), Fail> {
+    let rows: [(&[u32], bool); 6] = [
+        (&[], true),
+        (&[7], true),
+        (&[3, 5, 6, 20], true),
+        (&[3, 3], false),
+        (&[3, 5, 4], false),
+        (&[9, 1, 2], false),
+    ];
+    for (lines, rise) in rows {
+        let mut events = Vec::new(rt.alloc());
+        for line in lines {
+            events.push(event_on(rt.alloc(), *line)?)?;
+        }
+        assert_eq!(rt; lines_rise(&events), rise);
     }
-    let later = events.split_off(first)?;
-    let (half, half_of_later) = (events.len() / 2, later.len() / 2);
-    let mut parts = EventParts::new(alloc);
-    push_in_two(&mut parts, events, half)?;
-    push_in_two(&mut parts, later, half_of_later)?;
-    gather(rt, alloc, parts, workers)
+    Ok(())
 }
 
-/// Lines of events and their requests.
-const EVENTS: [(u32, &str); 8] = [
-    (3, "b"),
-    (5, "a"),
-    (6, "b"),
-    (9, "c"),
-    (12, "a"),
-    (13, "d"),
-    (15, "b"),
-    (20, "c"),
-];
+/// Makes a table of events that have these times.
+fn table_of(alloc: Global, times: &[u64]) -> Result<EventTable, AllocError> {
+    let mut table = EventTable::new(alloc);
+    let mut hints = TextHints::new(alloc)?;
+    for time in times {
+        let fields = EventFields {
+            request: "r",
+            machine: "m",
+            task: "a",
+            event: "s",
+            time: *time,
+            send: None,
+            recv: None,
+        };
+        if table.len() > 1000 {
+            return Err(AllocError);
+        }
+        table.push(alloc, &mut hints, 1, &fields)?;
+    }
+    Ok(table)
+}
 
 #[test]
-fn a_trace_has_all_events_of_a_request_and_traces_stand_by_their_first(
-    rt: HostRuntime,
-) -> Result<(), Fail> {
-    for workers in [0, 1, 2, 64] {
-        for first in 0..9 {
-            let mut events = Vec::new(rt.alloc());
-            for (line, request) in EVENTS {
-                events.push(event_on(rt.alloc(), line, request)?)?;
-            }
-            let mut gathered = Vec::new(rt.alloc());
-            for trace in gather_parts(&rt, rt.alloc(), events, first, workers)? {
-                for event in trace.events.items() {
-                    let request = trace.request.as_str();
-                    gathered.push(format!(in rt.alloc(); "{request} {}", event.line)?)?;
-                }
-            }
-            let gathered = gathered.join(rt.alloc(), ",")?;
-            assert_eq!(rt; gathered.as_str(), "b 3,b 6,b 15,a 5,a 12,c 9,c 20,d 13");
+fn parts_of_events_stand_one_after_another(rt: HostRuntime) -> Result<(), Fail> {
+    let mut parts = EventParts::new(rt.alloc());
+    let rows: [&[u64]; 4] = [&[4, 2], &[], &[9], &[2, 2, 1]];
+    for times in rows {
+        parts.push_part(table_of(rt.alloc(), times)?)?;
+    }
+    let mut times = Vec::new(rt.alloc());
+    for part in parts.into_parts() {
+        for index in 0..part.len() {
+            times.push(part.event(index).time)?;
         }
     }
+    assert_eq!(rt; times.as_slice(), [4, 2, 9, 2, 2, 1].as_slice());
     Ok(())
 }

@@ -3,7 +3,7 @@ ghost use Rattle.std.specs.List.{list_any};
 ghost use Rattle.event_lines.specs.EventFaults.{is_control_character, is_bad_text};
 
 /// The greatest length of a text in bytes.
-const LONGEST: usize = 64;
+pub(crate) const LONGEST: usize = 64;
 
 /// Tells whether a byte is an ASCII control character.
 fn is_control_character(byte: u8) -> bool

@@ -1,14 +1,12 @@
 -- Lines make jobs that sessions carry out.
 use Rattle.std.proofs.Common.{◌≡◌, ◌⊎◌, ℕ, zero, suc, ◌+◌, ◌<◌, ◌≤◌, ◌^◌, List, [], ◌∷◌, ◌++◌, length, map, refl, sym, ◌∙◌, ap, subst, append_assoc, arith, inl, inr, AllPairs}
 use Rattle.std.specs.Prelude.{All, Bool, not, sum_by, filter}
-use Rattle.std.specs.List.Sorted.{IsStrictlyIncreasing}
 use Rattle.std.specs.Str.{bytes_eq}
 use Rattle.std.proofs.lemmas.Bool.{cases_Bool, cond-true, cond-false}
 use Rattle.std.proofs.lemmas.List.{length-append, length-map, map-append}
 use Rattle.std.proofs.lemmas.List.Elements.{All-append, All-cons, All-head, All-nil, All-push, All-tail}
-use Rattle.std.proofs.lemmas.List.Kept.{AllPairs-from_increasing}
 use Rattle.std.proofs.lemmas.List.Sums.{sum_by-append, sum_by-cons}
-use Rattle.event_lines.specs.GoodLines.{IsLimited, IsTimely, NumbersRise, line_number}
+use Rattle.event_lines.specs.GoodLines.{IsLimited, IsTimely}
 use Rattle.event_lines.specs.declared.command.Command.{Command}
 use Rattle.event_lines.specs.declared.command.Command.TheVariants as commands
 use Rattle.event_lines.specs.declared.line.Line.{Line}
@@ -72,56 +70,15 @@ sum_all batch [] more h = omega (arith, further_few batch more h)
 sum_all batch (lines.Event event ∷ ls) more h = omega (arith, sum_all (batch ++ event ∷ []) ls more h, length-append batch (event ∷ []))
 sum_all batch (lines.Control line command ∷ ls) more h = omega (arith, sum_by-cons requests_in (job_of batch command) (jobs_from (batch_after batch command) (ls ++ more)), job_few batch command, sum_all (batch_after batch command) ls more h)
 
--- ---- rising lists
-
--- each number is below all later ones
-abbrev Up : List ℕ → Type 0
-Up [] = Unit {0}
-Up (x ∷ xs) = All (λ (y : ℕ). x < y) xs × Up xs
-
-up_from : (xs : List ℕ) → AllPairs (λ (x y : ℕ). x < y) xs → Up xs
-up_from [] h = tt
-up_from (x ∷ xs) h = ((λ k d l. h 0 (suc k) d (omega arith) (omega (arith, l))), up_from xs (λ i j d l m. h (suc i) (suc j) d (omega (arith, l)) (omega (arith, m))))
-
-up_to : (xs : List ℕ) → Up xs → IsStrictlyIncreasing xs
-up_to [] h k within = absurd (omega arith)
-up_to (x ∷ []) h k within = absurd (omega arith)
-up_to (x ∷ y ∷ ys) h zero within = All-head (λ (z : ℕ). x < z) y ys h.0
-up_to (x ∷ y ∷ ys) h (suc k) within =
-    let e : suc k + 1 ≡ suc (k + 1) = omega arith in
-    rw e (up_to (y ∷ ys) h.1 k (omega arith))
-
--- the beginning of a rising list rises, and so does a list without one of its numbers
-up_first : (xs ys : List ℕ) → Up (xs ++ ys) → Up xs
-up_first [] ys h = tt
-up_first (x ∷ xs) ys h = (below xs h.0, up_first xs ys h.1)
-  where
-    below : (zs : List ℕ) → All (λ (y : ℕ). x < y) (zs ++ ys) → All (λ (y : ℕ). x < y) zs
-    below [] h = All-nil (λ (y : ℕ). x < y)
-    below (z ∷ zs) h = All-cons (λ (y : ℕ). x < y) z zs (All-head (λ (y : ℕ). x < y) z (zs ++ ys) h) (below zs (All-tail (λ (y : ℕ). x < y) z (zs ++ ys) h))
-
-up_last : (xs ys : List ℕ) → Up (xs ++ ys) → Up ys
-up_last [] ys h = h
-up_last (x ∷ xs) ys h = up_last xs ys h.1
-
-up_without : (xs ys : List ℕ) (z : ℕ) → Up (xs ++ (z ∷ ys)) → Up (xs ++ ys)
-up_without [] ys z h = h.1
-up_without (x ∷ xs) ys z h = (without xs h.0, up_without xs ys z h.1)
-  where
-    without : (zs : List ℕ) → All (λ (y : ℕ). x < y) (zs ++ (z ∷ ys)) → All (λ (y : ℕ). x < y) (zs ++ ys)
-    without [] h = All-tail (λ (y : ℕ). x < y) z ys h
-    without (w ∷ zs) h = All-cons (λ (y : ℕ). x < y) w (zs ++ ys) (All-head (λ (y : ℕ). x < y) w (zs ++ (z ∷ ys)) h) (without zs (All-tail (λ (y : ℕ). x < y) w (zs ++ (z ∷ ys)) h))
-
 -- ---- jobs
 
 -- the events of a batch, and the lines after them
 record IsBatch (batch : List Event) (ls : List Line) : Type 0 where
-  up : Up (map (λ (e : Event). e.line) batch ++ map line_number ls)
   timely : AreTimely batch
   few : length batch + length ls < 2 ^ 32
 
 add_ready : (batch : List Event) (ls : List Line) → IsBatch batch ls → IsReady (Add batch)
-add_ready batch ls b = (up_to (map (λ (e : Event). e.line) batch) (up_first (map (λ (e : Event). e.line) batch) (map line_number ls) b.up), b.timely, omega (arith, b.few))
+add_ready batch ls b = (b.timely, omega (arith, b.few))
 
 job_ready : (batch : List Event) (ls : List Line) (line : ℕ) (command : Command) → IsBatch batch ls → (command ≡ commands.Add) ⊎ IsReadyCommand command → IsReady (job_of batch command)
 job_ready batch ls line commands.Add b h = add_ready batch ls b
@@ -151,35 +108,28 @@ command_ready line commands.Graph limited = inr tt
 
 -- the events that a command leaves are a batch before the lines after it
 batch_left : (batch : List Event) (line : ℕ) (command : Command) (ls : List Line) → IsBatch batch (lines.Control line command ∷ ls) → IsBatch (batch_after batch command) ls
-batch_left batch line command ls b = by command b.up
+batch_left batch line command ls b = by command
   where
-    numbers : List ℕ
-    numbers = map line_number ls
+    none : IsBatch [] ls
+    none = record { timely = All-nil (λ (e : Event). e.time ≤ latest_time); few = omega (arith, b.few) }
 
-    none : Up (map (λ (e : Event). e.line) batch ++ (line ∷ numbers)) → IsBatch [] ls
-    none up = record { up = up_last (line ∷ []) numbers (up_last (map (λ (e : Event). e.line) batch) (line ∷ numbers) up); timely = All-nil (λ (e : Event). e.time ≤ latest_time); few = omega (arith, b.few) }
+    all : IsBatch batch ls
+    all = record { timely = b.timely; few = omega (arith, b.few) }
 
-    all : Up (map (λ (e : Event). e.line) batch ++ (line ∷ numbers)) → IsBatch batch ls
-    all up = record { up = up_without (map (λ (e : Event). e.line) batch) numbers line up; timely = b.timely; few = omega (arith, b.few) }
-
-    by : (c : Command) → Up (map (λ (e : Event). e.line) batch ++ (line ∷ numbers)) → IsBatch (batch_after batch c) ls
-    by commands.Add up = none up
-    by (commands.Drop day) up = all up
-    by (commands.Keep days) up = all up
-    by (commands.Watch every) up = all up
-    by (commands.Grace micros) up = all up
-    by commands.Model up = all up
-    by commands.Paths up = all up
-    by commands.Slack up = all up
-    by commands.Report up = all up
-    by commands.Graph up = all up
+    by : (c : Command) → IsBatch (batch_after batch c) ls
+    by commands.Add = none
+    by (commands.Drop day) = all
+    by (commands.Keep days) = all
+    by (commands.Watch every) = all
+    by (commands.Grace micros) = all
+    by commands.Model = all
+    by commands.Paths = all
+    by commands.Slack = all
+    by commands.Report = all
+    by commands.Graph = all
 
 batch_more : (batch : List Event) (event : Event) (ls : List Line) → IsTimely (lines.Event event) → IsBatch batch (lines.Event event ∷ ls) → IsBatch (batch ++ event ∷ []) ls
 batch_more batch event ls timely b = record {
-  up =
-      let numbers : map (λ (e : Event). e.line) (batch ++ event ∷ []) ++ map line_number ls ≡ map (λ (e : Event). e.line) batch ++ (event.line ∷ map line_number ls) =
-      ap (λ (xs : List ℕ). xs ++ map line_number ls) (map-append (λ (e : Event). e.line) batch (event ∷ [])) ∙ append_assoc (map (λ (e : Event). e.line) batch) (event.line ∷ []) (map line_number ls) in
-      subst Up (sym numbers) b.up;
   timely = All-push (λ (e : Event). e.time ≤ latest_time) batch event b.timely timely;
   few = omega (arith, b.few, length-append batch (event ∷ []));
 }
@@ -194,7 +144,7 @@ further_ready batch (lines.Control line command ∷ more) b h =
     (further_ready (batch_after batch command) more (by command) (All-tail IsFurther (lines.Control line command) more h))
   where
     by : (c : Command) → IsBatch (batch_after batch c) []
-    by commands.Add = record { up = tt; timely = All-nil (λ (e : Event). e.time ≤ latest_time); few = omega arith }
+    by commands.Add = record { timely = All-nil (λ (e : Event). e.time ≤ latest_time); few = omega arith }
     by (commands.Drop day) = b
     by (commands.Keep days) = b
     by (commands.Watch every) = b
@@ -216,10 +166,10 @@ all_ready batch (lines.Control line command ∷ ls) more b timely limited h =
     (job_ready batch (c ∷ ls) line command b (command_ready line command (All-head IsLimited c ls limited)))
     (all_ready (batch_after batch command) ls more (batch_left batch line command ls b) (All-tail IsTimely c ls timely) (All-tail IsLimited c ls limited) h)
 
-pub jobs_ready : (ls more : List Line) (last : List Job) → NumbersRise ls → All IsTimely ls → All IsLimited ls → length ls < 2 ^ 32 → All IsFurther more → All IsReady last → sum_by requests_in last ≡ 0 → AreReady (jobs_of (ls ++ more) ++ last)
-jobs_ready ls more last rise timely limited few h ready none = record {
+pub jobs_ready : (ls more : List Line) (last : List Job) → All IsTimely ls → All IsLimited ls → length ls < 2 ^ 32 → All IsFurther more → All IsReady last → sum_by requests_in last ≡ 0 → AreReady (jobs_of (ls ++ more) ++ last)
+jobs_ready ls more last timely limited few h ready none = record {
   each = All-append IsReady (jobs_of (ls ++ more)) last
-      (all_ready [] ls more (record { up = up_from (map line_number ls) (AllPairs-from_increasing (map line_number ls) rise); timely = All-nil (λ (e : Event). e.time ≤ latest_time); few = omega (arith, few) }) timely limited h)
+      (all_ready [] ls more (record { timely = All-nil (λ (e : Event). e.time ≤ latest_time); few = omega (arith, few) }) timely limited h)
       ready;
   few = omega (arith, few, sum_all [] ls more h, none, sum_by-append requests_in (jobs_of (ls ++ more)) last);
 }

@@ -1,6 +1,6 @@
 -- Which lines make jobs that sessions carry out: statements that laws prove.
 use Rattle.std.specs.Prelude.{◌≡◌, ◌⊎◌, ◌^◌, ◌<◌, ◌≤◌, ◌++◌, List, All, length, sum_by}
-use Rattle.event_lines.specs.GoodLines.{IsLimited, IsTimely, NumbersRise}
+use Rattle.event_lines.specs.GoodLines.{IsLimited, IsTimely}
 use Rattle.event_lines.specs.declared.command.Command.TheVariants.{Add}
 use Rattle.event_lines.specs.declared.line.Line.{Line}
 use Rattle.event_lines.specs.declared.line.Line.TheVariants as lines
@@ -19,8 +19,8 @@ IsFurther (lines.Control line command) = (command ≡ Add) ⊎ IsReadyCommand co
 -- the lines of an input, further commands, and jobs without requests make jobs that sessions carry
 -- out
 abbrev pub JobsAreReady : Type 0
-JobsAreReady = (lines more : List Line) (last : List Job) → NumbersRise lines → All IsTimely lines
-    → All IsLimited lines → length lines < 2 ^ 32 → All IsFurther more → All IsReady last
+JobsAreReady = (lines more : List Line) (last : List Job) → All IsTimely lines → All IsLimited lines
+    → length lines < 2 ^ 32 → All IsFurther more → All IsReady last
     → sum_by requests_in last ≡ 0 → AreReady (jobs_of (lines ++ more) ++ last)
 
 -- a batch has no more requests than events

@@ -1,14 +1,48 @@
-ghost use Rattle.std.specs.Prelude.{◌^◌, ◌<◌, ◌↔◌, All, IsTrue, length};
+ghost use Rattle.std.specs.Prelude.{◌^◌, ◌<◌, ◌≤◌, ◌↔◌, All, IsTrue, length};
 ghost use Rattle.refute_tests.specs.Clearing.{HaveNamesBelow};
 ghost use Rattle.trace_types.specs.Parts.{by_text, segments_of};
 ghost use Rattle.trace_types.specs.declared.named_segment.NamedSegment.{NamedSegment};
 
-use event_lines::{EventParts, gather, lines_rise};
+use event_table::{EventTable, GatheredEvents, RawEvents, gather};
 use segment_cut::cut;
 use segment_names::Catalogue;
-use std::alloc::Global;
+use std::alloc::{AllocError, Global};
 use std::thread::Threads;
-use trace_types::{Event, NamedSegment, NamedTrace, Trace, are_timely};
+use trace_types::{Event, NamedSegment, NamedTrace, Trace};
+
+/// Gathers the events of one table.
+fn gather_one<R: Threads + Sync>(
+    rt: &R,
+    alloc: Global,
+    table: EventTable,
+) -> Result<GatheredEvents, AllocError>
+    requires { length table ≤ 100000 }
+{
+    let mut parts = Vec::new(alloc);
+    parts.push(table)?;
+    gather(rt, alloc, parts, 4)
+}
+
+/// Cuts a trace and copies it; none where it is refused.
+fn cut_one(alloc: Global, raw: &RawEvents<'_>) -> Option<Trace> {
+    if !raw.is_timely() {
+        return None;
+    }
+    if raw.len() > 4096 {
+        return None;
+    }
+    let trace = cut(alloc, raw).ok()?;
+    trace.copy(alloc).ok()
+}
+
+/// Cuts gathered traces; none where one is refused.
+fn cut_all(alloc: Global, gathered: &GatheredEvents) -> Option<Vec<Trace>> {
+    let mut traces = Vec::with_capacity(alloc, gathered.len()).ok()?;
+    for index in 0..gathered.len() {
+        traces.push(cut_one(alloc, &gathered.trace(index))?).ok()?;
+    }
+    Some(traces)
+}
 
 /// Gathers and cuts the traces of events; none where a trace is refused.
 pub(crate) fn cut_traces<R: Threads + Sync>(
@@ -16,21 +50,15 @@ pub(crate) fn cut_traces<R: Threads + Sync>(
     alloc: Global,
     events: Vec<Event>,
 ) -> Option<Vec<Trace>> {
-    if !lines_rise(&events) {
+    if events.len() > 100_000 {
         return None;
     }
-    let mut parts = EventParts::new(alloc);
-    parts.push_part(events).ok()?;
-    let raws = gather(rt, alloc, parts, 4).ok()?;
-    let mut traces = Vec::with_capacity(alloc, raws.len()).ok()?;
-    for raw in &raws {
-        let events = raw.events.items();
-        if !are_timely(events) || events.len() > 4096 {
-            return None;
-        }
-        traces.push(cut(alloc, raw).ok()?).ok()?;
+    let table = EventTable::of_events(alloc, &events).ok()?;
+    if table.len() > 100_000 {
+        return None;
     }
-    Some(traces)
+    let gathered = gather_one(rt, alloc, table).ok()?;
+    cut_all(alloc, &gathered)
 }
 
 /// Numbers the names of traces, and names the traces by them, each with this grace.

@@ -4,7 +4,7 @@ use Rattle.std.specs.Prelude.{All, IfSome}
 use Rattle.std.proofs.lemmas.List.{append-nil}
 use Rattle.std.proofs.lemmas.List.Elements.{All-cons, All-nil}
 use Rattle.std.proofs.lemmas.List.Sums.{sum_by-cons}
-use Rattle.event_lines.specs.GoodLines.{IsLimited, IsTimely, NumbersRise}
+use Rattle.event_lines.specs.GoodLines.{IsLimited, IsTimely}
 use Rattle.event_lines.specs.declared.command.Command.TheVariants as commands
 use Rattle.event_lines.specs.declared.line.Line.{Line}
 use Rattle.event_lines.specs.declared.line.Line.TheVariants as line_kinds
@@ -31,13 +31,13 @@ view_is_last Graph = record { ready = tt; few = refl }
 same_jobs : (xs ys : List Job) → Jobs xs ≡ Jobs ys → xs ≡ ys
 same_jobs xs ys e = cc
 
-module _ (law : JobsAreReady) (lines : List Line) (rise : NumbersRise lines) (timely : All IsTimely lines) (limited : All IsLimited lines) (few : length lines < 2 ^ 32) where
+module _ (law : JobsAreReady) (lines : List Line) (timely : All IsTimely lines) (limited : All IsLimited lines) (few : length lines < 2 ^ 32) where
   none_ready : AreReady (jobs_of lines)
   none_ready = subst AreReady (append-nil (jobs_of (lines ++ [])) ∙ ap jobs_of (append-nil lines))
-      (law lines [] [] rise timely limited few (All-nil IsFurther) (All-nil IsReady) refl)
+      (law lines [] [] timely limited few (All-nil IsFurther) (All-nil IsReady) refl)
 
   some_ready : (job : Job) → IsLastJob job → AreReady (jobs_of (lines ++ line_kinds.Control 0 commands.Add ∷ []) ++ job ∷ [])
-  some_ready job h = law lines (line_kinds.Control 0 commands.Add ∷ []) (job ∷ []) rise timely limited few
+  some_ready job h = law lines (line_kinds.Control 0 commands.Add ∷ []) (job ∷ []) timely limited few
       (All-cons IsFurther (line_kinds.Control 0 commands.Add) [] (inl refl) (All-nil IsFurther))
       (All-cons IsReady job [] h.ready (All-nil IsReady))
       (sum_by-cons requests_in job [] ∙ ap (λ (n : ℕ). n + 0) h.few)

@@ -1,40 +1,25 @@
 -- What a trace keeps follows from what its segments are.
-use Rattle.std.proofs.Common.{◌≡◌, ℕ, zero, suc, ◌+◌, ◌<◌, ◌≤◌, ℤ, ◌≤ℤ◌, Some, List, [], ◌∷◌, ◌++◌, length, get_or, take, All, arith, refl, sym, ap, ◌∙◌, subst, ⊎_elim, inl, inr}
+use Rattle.std.proofs.Common.{◌≡◌, ℕ, zero, suc, ◌+◌, ◌<◌, ◌≤◌, ℤ, Some, List, [], ◌∷◌, ◌++◌, length, get_or, arith, refl, sym, ap, ◌∙◌, subst, ⊎_elim, inl, inr}
 use Rattle.std.specs.List.{AllZip}
 use Rattle.std.proofs.lemmas.Bool.{cases_lt}
 use Rattle.std.proofs.lemmas.Int.{ints}
-use Rattle.std.proofs.lemmas.List.{get_or-map, length-map, take_more}
-use Rattle.std.proofs.lemmas.List.Elements.{All-get_or, All-weaker}
+use Rattle.std.proofs.lemmas.List.{length-map}
+use Rattle.std.proofs.lemmas.List.Elements.{All-get_or}
 use Rattle.trace_types.specs.declared.event.Event.{Event}
 use Rattle.trace_types.specs.declared.segment.Segment.{Segment}
 use Rattle.trace_types.specs.Segments.{name_of, task_of, start_of, end_of}
 use Rattle.trace_types.specs.SegmentLists.{NamesDiffer, TasksStandTogether, JoinInTasks}
 use Rattle.trace_types.specs.Repeats.{AreDistinct, IsRepeated}
-use Rattle.trace_types.specs.Events.{task_at, name_at, time_at, named_events}
+use Rattle.trace_types.specs.Events.{task_at, name_at, named_events}
 use Rattle.segment_cut.specs.AdjustedTimes.{adjusted_at}
-use Rattle.segment_cut.specs.Neighbours.{AreNeighbours, IsListedBefore, AreAllNeighbours, IsEarlier}
+use Rattle.segment_cut.specs.Neighbours.{AreNeighbours, IsListedBefore, AreAllNeighbours}
 use Rattle.segment_cut.specs.Cutting.{IsSegment}
-use Rattle.segment_cut.specs.inner.Keys.{Key, AreKeys, ArePlacesInOrder, adjacent_pairs}
+use Rattle.segment_cut.specs.inner.Keys.{Key, AreKeys, adjacent_pairs}
 use Rattle.segment_cut.specs.inner.Segments.{AreListed}
 use Rattle.clock_offsets.specs.declared.first_events.Field.TheVariants.{Task}
 use Rattle.clock_offsets.specs.FirstEvents.{AreFirstEvents}
 use Rattle.segment_cut.proofs.PairLemmas.{ArePairs, adjacent_are, all_neighbours, pairs_join}
 use Rattle.segment_cut.proofs.RepeatLemmas.{named_at}
-
--- the task and the name of an event, by its place
-pub task_is : (events : List Event) (k : ℕ) (e : Event) → k < length events → e ≡ get_or events k e → e.task ≡ task_at events k
-task_is events k e lt is = ap (λ (x : Event). x.task) is ∙ sym (get_or-map (λ (x : Event). x.task) events k e [] lt)
-
-pub name_is : (events : List Event) (k : ℕ) (e : Event) → k < length events → e ≡ get_or events k e → e.event ≡ name_at events k
-name_is events k e lt is = ap (λ (x : Event). x.event) is ∙ sym (get_or-map (λ (x : Event). x.event) events k e [] lt)
-
--- the own time of an event, by its place
-pub time_is : (events : List Event) (k : ℕ) (e : Event) → k < length events → e ≡ get_or events k e → e.time ≡ time_at events k
-time_is events k e lt is = ap (λ (x : Event). x.time) is ∙ sym (get_or-map (λ (x : Event). x.time) events k e 0 lt)
-
--- the same over a list that is the events
-pub first_time : (events es : List Event) (e : Event) → es ≡ events → 0 < length events → (get_or es 0 e).time ≡ time_at events 0
-first_time events es e is some = ap (λ (xs : List Event). (get_or xs 0 e).time) is ∙ sym (get_or-map (λ (x : Event). x.time) events 0 e 0 some)
 
 pub zip_push : {A B : Type 0} (R : A → B → Type 0) (xs : List A) (ys : List B) (x : A) (y : B) → AllZip R xs ys → R x y → AllZip R (xs ++ x ∷ []) (ys ++ y ∷ [])
 zip_push R [] [] x y z r = (r, tt)
@@ -53,22 +38,6 @@ zip_at R [] ys k d e z lt = absurd (omega arith)
 zip_at R (x ∷ xs) [] k d e z lt = absurd z
 zip_at R (x ∷ xs) (y ∷ ys) zero d e z lt = z.0
 zip_at R (x ∷ xs) (y ∷ ys) (suc k) d e z lt = zip_at R xs ys k d e z.1 (omega arith)
-
--- one segment more
-pub segments_more : (events : List Event) (times : List ℤ) (pairs : List (ℕ × ℕ)) (n : ℕ) (segments : List Segment) (x : ℕ × ℕ) (s : Segment) → n < length pairs → x ≡ get_or pairs n (0, 0) → AllZip (IsSegment events times) (take n pairs) segments → IsSegment events times x s
-    → AllZip (IsSegment events times) (take (n + 1) pairs) (segments ++ s ∷ [])
-segments_more events times pairs n segments x s lt is z here = rw (take_more pairs n (0, 0) lt) (zip_push (IsSegment events times) (take n pairs) segments (get_or pairs n (0, 0)) s z (subst (λ (y : ℕ × ℕ). IsSegment events times y s) is here))
-
--- the places of a segment are in order
-in_order : (events : List Event) (times : List ℤ) (x : ℕ × ℕ) → AreNeighbours events times x.0 x.1 → ArePlacesInOrder (length events) times x
-in_order events times x n = (n.first, n.second, by n.before)
-  where
-    by : IsEarlier times x.0 x.1 → adjusted_at times x.0 ≤ℤ adjusted_at times x.1
-    by (inl low) = omega (arith, ints)
-    by (inr same) = let e : adjusted_at times x.0 ≡ adjusted_at times x.1 = same.0 in omega (arith, ints)
-
-pub places_in_order : (events : List Event) (times : List ℤ) (pairs : List (ℕ × ℕ)) → AreAllNeighbours events times pairs → All (ArePlacesInOrder (length events) times) pairs
-places_in_order events times pairs a = All-weaker (λ x. AreNeighbours events times x.0 x.1) (ArePlacesInOrder (length events) times) (in_order events times) pairs a.right
 
 -- a segment is not listed before itself
 not_itself : (events : List Event) (times : List ℤ) (i : ℕ) → IsListedBefore events times i i → ⊥
@@ -164,8 +133,3 @@ listed_are events tasks times keys pairs segments firsts sorted is distinct zip 
       joined = joined events times pairs segments all zip (pairs_join events tasks times keys firsts sorted pairs are);
       few = few_segments events times pairs segments all zip (length events) (let f : length pairs ≤ length keys = are.few in let k : length keys ≡ length tasks = sorted.each in let e : length tasks ≡ length events = firsts.each in omega arith);
     }
-
--- the events of adjacent keys are in order
-pub adjacent_in_order : (events : List Event) (tasks : List ℕ) (times : List ℤ) (keys : List Key) (pairs : List (ℕ × ℕ)) → AreFirstEvents Task events tasks → AreKeys tasks times keys → pairs ≡ adjacent_pairs keys → All (ArePlacesInOrder (length events) times) pairs
-adjacent_in_order events tasks times keys pairs firsts sorted is =
-    places_in_order events times pairs (all_neighbours events tasks times keys firsts sorted pairs (subst (λ (ps : List (ℕ × ℕ)). ArePairs keys ps) (sym is) (adjacent_are keys)))

@@ -1,34 +1,35 @@
--- The keys of all events, made event by event and then sorted.
-use Rattle.std.proofs.Common.{◌≡◌, ℕ, ◌+◌, ◌<◌, ◌≤◌, ℤ, ◌<ℤ◌, false, eqb, eq-eqb, List, [], ◌∷◌, ◌++◌, length, get_or, All, Contains, arith, refl, sym, ap, ◌∙◌, subst, ⊎_elim, inl, inr}
+-- The keys of all events, in the order of lines, and sorted.
+use Rattle.std.proofs.Common.{◌≡◌, ℕ, ◌<◌, ℤ, pos, ◌<ℤ◌, false, eqb, eq-eqb, List, length, get_or, All, Contains, arith, refl, sym, ap, ◌∙◌, subst, inl, inr}
 use Rattle.std.specs.List.{IsDistinct}
 use Rattle.std.specs.List.Sorted.{IsPermutation, IsSorted}
 use Rattle.std.specs.Cmp.{IsTotalOrder}
 use Rattle.std.specs.Ordering.{nat_cmp, int_cmp, is_lt, ordering_then, MatchOrdering}
 use Rattle.std.specs.declared.cmp.Ordering.{Ordering}
 use Rattle.std.specs.declared.cmp.Ordering.TheVariants.{Less, Equal, Greater}
-use Rattle.std.proofs.lemmas.Bool.{cases_lt, false≢true}
+use Rattle.std.proofs.lemmas.Bool.{false≢true}
 use Rattle.std.proofs.lemmas.Bool.Decides.{nat_tests}
 use Rattle.std.proofs.lemmas.Cmp.{nat_cmp_total, int_cmp_total, then_total, on_total, ranked, int_ranked}
-use Rattle.std.proofs.lemmas.List.{get_or_append_left, get_or_push, length_push, get_or_default}
+use Rattle.std.proofs.lemmas.List.{get_or-map, get_or_default}
 use Rattle.std.proofs.lemmas.List.Elements.{All-from_get_or, All-get_or, Contains-get_or}
 use Rattle.std.proofs.lemmas.List.Sorted.{All-permutation, Contains-permutation, length_permutation, sorted_far, ranks_by}
 use Rattle.std.proofs.lemmas.Map.Keys.{IsDistinct-from_apart, IsDistinct-IsPermutation, apart_from_distinct}
 use Rattle.segment_cut.specs.AdjustedTimes.{adjusted_at}
-use Rattle.segment_cut.specs.inner.Keys.{Key, no_key, key_at, IsKeyBefore, AreKeys}
+use Rattle.segment_cut.specs.inner.Keys.{AreInLineOrder, Key, no_key, key_at, key_times, IsKeyBefore, AreKeys}
 
--- the keys of the first n events, by place
+-- the keys of the first n events, by place, at these times
 pub record AreMadeTo (tasks : List ℕ) (times : List ℤ) (n : ℕ) (keys : List Key) : Type 0 where
   pub each : length keys ≡ n
   pub value : (p : ℕ) → p < n → key_at keys p ≡ (get_or tasks p 0, adjusted_at times p, p)
 
-pub made_push : (tasks : List ℕ) (times : List ℤ) (n : ℕ) (keys : List Key) (key : Key) → AreMadeTo tasks times n keys → key ≡ (get_or tasks n 0, adjusted_at times n, n) → AreMadeTo tasks times (n + 1) (keys ++ key ∷ [])
-made_push tasks times n keys key a is = record {
-  each = length_push keys key ∙ ap (λ k. k + 1) a.each;
-  value = λ p lt. ⊎_elim
-      (λ (below : p < n). get_or_append_left keys (key ∷ []) no_key p (let e : length keys ≡ n = a.each in omega arith) ∙ a.value p below)
-      (λ (above : n ≤ p). let same : n ≡ p = omega arith in get_or_push keys key no_key p (a.each ∙ same) ∙ (is ∙ ap (λ (i : ℕ). (get_or tasks i 0, adjusted_at times i, i)) same))
-      (cases_lt p n);
-}
+-- the key at an index
+pub made_at : (tasks : List ℕ) (keys : List Key) (p : ℕ) → AreInLineOrder tasks keys → p < length keys → key_at keys p ≡ (get_or tasks p 0, adjusted_at (key_times keys) p, p)
+made_at tasks keys p a lt = λ i. (a.task p lt i, time i, a.place p lt i)
+  where
+    time : (key_at keys p).1 ≡ adjusted_at (key_times keys) p
+    time = sym (get_or-map (λ (k : Key). k.1) keys p no_key (pos 0) lt)
+
+pub made_to : (tasks : List ℕ) (keys : List Key) → AreInLineOrder tasks keys → AreMadeTo tasks (key_times keys) (length tasks) keys
+made_to tasks keys a = record { each = a.each; value = λ p lt. let e : length keys ≡ length tasks = a.each in made_at tasks keys p a (omega arith) }
 
 -- the order in which keys are sorted
 abbrev pub key_cmp : Key → Key → Ordering

@@ -1,12 +1,16 @@
 pub mod RepeatLemmas
 pub mod TimeLemmas
 pub mod KeyLemmas
+pub mod MadeLemmas
 pub mod LineOrderLemmas
 pub mod PairLemmas
 pub mod CutLemmas
+pub mod SegmentLemmas
 pub mod SpanLemmas
-pub mod ElementLemmas
 pub mod FaultLemmas
 pub mod UniqueListLemmas
+pub mod GivenLemmas
+pub mod NumberLemmas
+pub mod SameLemmas
 pub mod VerdictLemmas
 pub mod ScalingLemmas

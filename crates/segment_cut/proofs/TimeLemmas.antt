@@ -1,7 +1,7 @@
 -- The adjusted_time times, event by event.
-use Rattle.std.proofs.Common.{◌≡◌, ℕ, ◌+◌, ◌<◌, ◌≤◌, ℤ, pos, negsuc, List, [], ◌∷◌, ◌++◌, length, get_or, All, arith, sym, ap, ◌∙◌, subst, ⊎_elim}
+use Rattle.std.proofs.Common.{◌≡◌, ℕ, ◌+◌, ◌<◌, ◌≤◌, ℤ, pos, negsuc, List, [], ◌∷◌, ◌++◌, length, All, arith, sym, ap, ◌∙◌, subst, ⊎_elim}
 use Rattle.std.proofs.lemmas.Bool.{cases_lt}
-use Rattle.std.proofs.lemmas.List.{get_or_append_left, get_or_push, length_push, get_or-map}
+use Rattle.std.proofs.lemmas.List.{get_or_append_left, get_or_push, length_push}
 use Rattle.std.proofs.lemmas.List.Elements.{All-push, All-get_or}
 use Rattle.std.specs.Prelude.{FitsSigned}
 use Rattle.std.proofs.lemmas.Int.{ints}
@@ -24,13 +24,8 @@ pub record AreTimesTo (events : List Event) (n : ℕ) (times : List ℤ) : Type 
   pub in_range : All IsInClockRange times
 
 -- the adjusted_time time of the event at k, by its machine's offset
-pub adjusted_is : (events : List Event) (k : ℕ) (e : Event) (o t : ℤ) → k < length events → e ≡ get_or events k e → IsOffset events (machine_at events k) o → t ≡ adjusted_time e.time o → HasAdjustedTime events k t
-adjusted_is events k e o t lt is offset t_is =
-    let own : time_at events k ≡ e.time = get_or-map (λ (x : Event). x.time) events k e 0 lt ∙ ap (λ (x : Event). x.time) (sym is) in
-    (o, offset, t_is ∙ ap (λ (n : ℕ). adjusted_time n o) (sym own))
-
-pub line_is : (events : List Event) (k : ℕ) (e : Event) → k < length events → e ≡ get_or events k e → e.line ≡ line_at events k
-line_is events k e lt is = ap (λ (x : Event). x.line) is ∙ sym (get_or-map (λ (x : Event). x.line) events k e 0 lt)
+pub adjusted_is : (events : List Event) (k time : ℕ) (o t : ℤ) → time ≡ time_at events k → IsOffset events (machine_at events k) o → t ≡ adjusted_time time o → HasAdjustedTime events k t
+adjusted_is events k time o t own offset t_is = (o, offset, t_is ∙ ap (λ (n : ℕ). adjusted_time n o) own)
 
 pub times_push : (events : List Event) (n : ℕ) (times : List ℤ) (t : ℤ) → AreTimesTo events n times → HasAdjustedTime events n t → IsInClockRange t → AreTimesTo events (n + 1) (times ++ t ∷ [])
 times_push events n times t a here range = record {

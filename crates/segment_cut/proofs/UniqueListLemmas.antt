@@ -57,7 +57,7 @@ head_of [] = 0
 head_of (c ∷ cs) = c
 
 -- what stands after the first `@` is one text
-one_rest : (f g e d : List ℕ) → f ++ at_sign ∷ e ≡ g ++ at_sign ∷ d → (Contains f at_sign → ⊥) → (Contains g at_sign → ⊥) → e ≡ d
+pub one_rest : (f g e d : List ℕ) → f ++ at_sign ∷ e ≡ g ++ at_sign ∷ d → (Contains f at_sign → ⊥) → (Contains g at_sign → ⊥) → e ≡ d
 unfolding tail_of head_of
 one_rest [] [] e d is nf ng = ap tail_of is
 one_rest [] (c ∷ g) e d is nf ng = absurd (ng (subst (λ (x : ℕ). Contains (c ∷ g) x) (sym (ap head_of is)) (cons_here c g)))

@@ -8,8 +8,6 @@ use Rattle.std.proofs.lemmas.List.Elements.{All-get_or, All-contains}
 use Rattle.trace_types.specs.declared.event.Event.{Event}
 use Rattle.trace_types.specs.declared.segment.Segment.{Segment}
 use Rattle.trace_types.specs.declared.trace.Trace.{Trace}
-use Rattle.trace_types.specs.SegmentLists.{NamesDiffer, TasksStandTogether, JoinInTasks}
-use Rattle.trace_types.specs.Segments.{name_of, task_of, start_of, end_of}
 use Rattle.trace_types.specs.Events.{machine_at, line_at, name_at, time_at, named_events, sends_of, receipts_of}
 use Rattle.clock_offsets.specs.Offsets.{IsOffset, adjusted_time}
 use Rattle.trace_types.specs.Repeats.{AreDistinct, IsLineOfRepeat}
@@ -20,9 +18,8 @@ use Rattle.segment_cut.specs.Neighbours.{AreNeighbours, IsListedBefore, AreAllNe
 use Rattle.segment_cut.specs.Cutting.{most_events, IsShort, IsSpan, IsSegment, AreSegments, IsCut}
 use Rattle.segment_cut.specs.Faults.{IsTraceFault}
 use Rattle.segment_cut.proofs.PairLemmas.{time_asym}
+use Rattle.segment_cut.proofs.SameLemmas.{same_segment, same_trace}
 use Rattle.segment_cut.proofs.UniqueListLemmas.{one_list, one_element}
-use Rattle.std.proofs.Props.{props}
-use mathlib.Core.HLevel.{is_prop→PathP}
 
 -- a machine has one offset
 abbrev pub HaveOneOffset : Type 0
@@ -54,18 +51,6 @@ within_pairs events times xs ys p q z c = q.all z.0 z.1 (All-contains (λ (x : �
 pub one_pairs : (events : List Event) (times : List ℤ) (xs ys : List (ℕ × ℕ)) → AreAllNeighbours events times xs → AreAllNeighbours events times ys → xs ≡ ys
 one_pairs events times xs ys p q = one_list (λ x y. IsListedBefore events times x.0 y.0) (λ x y. listed_asym events times x.0 y.0) xs ys p.order q.order (within_pairs events times xs ys p q) (within_pairs events times ys xs q p)
 
--- segments with the same parts are one
-pub same_segment : (s r : Segment) → s.task ≡ r.task → s.start_event ≡ r.start_event → s.end_event ≡ r.end_event → s.start ≡ r.start → s.end ≡ r.end → s.element ≡ r.element → s ≡ r
-same_segment s r t a b c d e = λ i. record {
-  task = t i;
-  start_event = a i;
-  end_event = b i;
-  start = c i;
-  end = d i;
-  element = e i;
-  ordered = is_prop→PathP (λ j. c j ≤ℤ d j) (λ j. Prim.hlevel props) s.ordered r.ordered i;
-}
-
 one_segment : (events : List Event) (times : List ℤ) (x : ℕ × ℕ) (s r : Segment) → IsSegment events times x s → IsSegment events times x r → s ≡ r
 one_segment events times x s r p q = same_segment s r (p.task ∙ sym q.task) (p.start_event ∙ sym q.start_event) (p.end_event ∙ sym q.end_event) (p.start ∙ sym q.start) (p.end ∙ sym q.end) (one_element (name_at events x.0) s.element r.element p.element q.element)
 
@@ -92,18 +77,6 @@ one_span times n m p q =
     let e : pos n ≡ p.greatest -ℤ p.least = p.span in
     let f : pos m ≡ q.greatest -ℤ q.least = q.span in
     omega (arith, ints)
-
--- traces with the same parts are one
-pub same_trace : (t u : Trace) → t.request ≡ u.request → t.day ≡ u.day → t.latency ≡ u.latency → t.segments ≡ u.segments → t ≡ u
-same_trace t u r d l s = λ i. record {
-  request = r i;
-  day = d i;
-  latency = l i;
-  segments = s i;
-  names_differ = is_prop→PathP (λ j. NamesDiffer name_of (s j)) (λ j. Prim.hlevel props) t.names_differ u.names_differ i;
-  together = is_prop→PathP (λ j. TasksStandTogether task_of (s j)) (λ j. Prim.hlevel props) t.together u.together i;
-  joined = is_prop→PathP (λ j. JoinInTasks task_of start_of end_of (s j)) (λ j. Prim.hlevel props) t.joined u.joined i;
-}
 
 pub one_cut : HaveOneOffset → (request : List ℕ) (events : List Event) (t u : Trace) → IsCut request events t → IsCut request events u → t ≡ u
 one_cut unique request events t u p q =

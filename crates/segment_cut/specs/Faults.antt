@@ -5,8 +5,12 @@ use Rattle.trace_types.specs.Events.{named_events, sends_of, receipts_of}
 use Rattle.trace_types.specs.Repeats.{AreDistinct, IsLineOfRepeat}
 use Rattle.clock_offsets.specs.declared.clock_fault.ClockFault.{ClockFault}
 use Rattle.clock_offsets.specs.declared.clock_fault.ClockFault.TheVariants.{Memory as NoMemory}
-use Rattle.clock_offsets.specs.declared.clock_fault.ClockFault.TheVariants.{RepeatedSend as SentTwice}
-use Rattle.clock_offsets.specs.declared.clock_fault.ClockFault.TheVariants.{RepeatedRecv as ReceivedTwice}
+use Rattle.clock_offsets.specs.declared.clock_fault.ClockFault.TheVariants.{
+  RepeatedSend as SentTwice,
+}
+use Rattle.clock_offsets.specs.declared.clock_fault.ClockFault.TheVariants.{
+  RepeatedRecv as ReceivedTwice,
+}
 use Rattle.clock_offsets.specs.Faults.{AreMessagesOnce}
 use Rattle.segment_cut.specs.declared.trace_fault.TraceFault.{TraceFault}
 use Rattle.segment_cut.specs.declared.trace_fault.TraceFault.TheVariants.{Memory, TooManyEvents}
@@ -47,7 +51,7 @@ fault_reason (RepeatedSend line) = codes "repeated send"
 fault_reason (RepeatedRecv line) = codes "repeated receive"
 fault_reason (ClockRange line) = codes "clock out of range"
 
--- the number that is printed with it: how many events, or which line; 0 where memory ran out
+-- the number that is printed with it: how many events, or which line; 0 for out of memory
 abbrev pub fault_number : TraceFault → ℕ
 fault_number Memory = 0
 fault_number (TooManyEvents count) = count

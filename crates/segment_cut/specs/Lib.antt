@@ -1,6 +1,7 @@
 pub mod AdjustedTimes
 pub mod Neighbours
 pub mod Elements
+pub mod NumberedCuts
 pub mod Cutting
 pub mod Faults
 pub mod Scaling

@@ -1,19 +1,26 @@
-ghost use Rattle.std.specs.Prelude.{IfOk};
-ghost use Rattle.segment_cut.specs.Elements.{HasElement};
+ghost use Rattle.std.specs.Prelude.{◌≡◌, IfOk, option_copied};
+ghost use Rattle.segment_cut.specs.Elements.{HasElement, element_in};
 
 use std::alloc::{AllocError, Global};
 use trace_types::Text;
 
-/// Copies the data element that an event's name gives: the text after its first `@`, where that is
+/// Lends the data element that an event's name gives: the text after its first `@`, where that is
 /// not empty.
-pub(crate) fn copy_element(alloc: Global, name: &Text) -> Result<Option<Text>, AllocError>
-    ensures { IfOk result (λ element. HasElement name.now element) }
+pub fn element_of(name: &str) -> Option<&str>
+    ensures given { option_copied result ≡ element_in name.now }
+    ensures element { HasElement name.now (option_copied result) }
 {
-    let Some((_before, after)) = name.as_str().split_once('@') else {
-        return Ok(None);
-    };
-    if after.is_empty() {
-        return Ok(None);
+    let (_before, after) = name.split_once('@')?;
+    if after.is_empty() { None } else { Some(after) }
+}
+
+/// Copies the data element that an event's name gives, where it gives one. The only error is out of
+/// memory.
+pub fn copy_element(alloc: Global, name: &Text) -> Result<Option<Text>, AllocError>
+    ensures { IfOk result (λ element. element ≡ element_in name.now) }
+{
+    match element_of(name.as_str()) {
+        Some(element) => Ok(Some(Text::new(alloc, element)?)),
+        None => Ok(None),
     }
-    Ok(Some(Text::new(alloc, after)?))
 }

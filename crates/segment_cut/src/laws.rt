@@ -1,10 +1,11 @@
 //! Laws over the definitions alone: each function does nothing, and its contract is the law.
-ghost use Rattle.std.specs.Prelude.{◌≡◌, ℕ, ℤ, List};
+ghost use Rattle.std.specs.Prelude.{◌≡◌, ℕ, ℤ, List, Option};
 ghost use Rattle.trace_types.specs.declared.event.Event.{Event};
 ghost use Rattle.trace_types.specs.declared.trace.Trace.{Trace};
 ghost use Rattle.segment_cut.specs.declared.trace_fault.TraceFault.{TraceFault};
 ghost use Rattle.segment_cut.specs.AdjustedTimes.{AreAdjustedTimes};
 ghost use Rattle.segment_cut.specs.Cutting.{IsValid, IsCut};
+ghost use Rattle.segment_cut.specs.Elements.{HasElement, element_in};
 ghost use Rattle.segment_cut.specs.Faults.{IsTraceFault};
 ghost use Rattle.segment_cut.specs.Scaling.{AreOfOneMachine, AreTimelyMicroseconds};
 ghost use Rattle.segment_cut.specs.Scaling.{AreThousandfold, IsTraceThousandfold};
@@ -25,6 +26,13 @@ pub fn a_trace_in_thousandfold_times_is_cut_alike()
 {
     a_machine_has_one_offset();
 }
+
+/// States that a name has one element, or none, and that `element_in` computes it.
+pub fn a_name_has_one_element()
+    ensures given { (name : List ℕ) → HasElement name (element_in name) }
+    ensures one { (name : List ℕ) (a b : Option (List ℕ)) → HasElement name a → HasElement name b
+        → a ≡ b }
+{}
 
 /// States that a trace has one verdict: its events are cut in one way, or they have one fault, and
 /// never both.

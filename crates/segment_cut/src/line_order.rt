@@ -1,5 +1,6 @@
 ghost use Rattle.std.specs.Prelude.{◌≡◌, ◌<◌, ◌-◌, ℕ, IfOk, IfSome, IsTrue, length, slice_index_or};
-ghost use Rattle.segment_cut.specs.inner.Keys.{AreKeys, Key, key_at, IsKeyBefore};
+ghost use Rattle.segment_cut.specs.inner.Keys.{AreInLineOrder, AreKeys, key_at, key_times};
+ghost use Rattle.segment_cut.specs.inner.Keys.{IsKeyBefore};
 
 use std::alloc::{AllocError, Global};
 
@@ -45,12 +46,13 @@ fn link_tasks(alloc: Global, tasks: &[usize]) -> Result<Vec<usize>, AllocError>
 pub(crate) fn list_keys_by_line(
     alloc: Global,
     tasks: &[usize],
-    times: &[i64],
+    made: &[(usize, i64, usize)],
 ) -> Result<Option<Vec<(usize, i64, usize)>>, AllocError>
-    requires each { length times.now ≡ length tasks.now }
+    requires made { AreInLineOrder tasks.now made.now }
     requires within { (k : ℕ) → k < length tasks.now
         → slice_index_or tasks.now k 0 < length tasks.now }
-    ensures { IfOk result (λ r. IfSome r (λ keys. AreKeys tasks.now times.now keys.items)) }
+    ensures { IfOk result (λ r. IfSome r (λ keys.
+        AreKeys tasks.now (key_times made.now) keys.items)) }
 {
     let nexts = link_tasks(alloc, tasks)?;
     let mut keys: Vec<(usize, i64, usize)> = Vec::with_capacity(alloc, tasks.len())?;
@@ -67,7 +69,7 @@ pub(crate) fn list_keys_by_line(
             first += 1;
             continue;
         }
-        let key = (tasks[at], times[at], at);
+        let key = made[at];
         if !is_after_last(&keys, key) {
             return Ok(None);
         }

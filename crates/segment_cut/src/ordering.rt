@@ -1,5 +1,5 @@
 ghost use Rattle.std.specs.Prelude.{◌≡◌, ◌<◌, ℕ, IfOk, length, slice_index_or};
-ghost use Rattle.segment_cut.specs.inner.Keys.{AreKeys};
+ghost use Rattle.segment_cut.specs.inner.Keys.{AreInLineOrder, AreKeys, key_times};
 
 use crate::line_order::list_keys_by_line;
 use std::alloc::{AllocError, Global};
@@ -7,28 +7,25 @@ use std::alloc::{AllocError, Global};
 /// The most events that are sorted at once.
 const FEW: usize = 20;
 
-/// Sorts the events by the first event of their task, then by adjusted time, and then by line. The
-/// key of each is the index of its task's first event, its adjusted time and its index. Mostly the
-/// lines of each task are in that order already, so that many events need not be sorted.
+/// Sorts the keys of the events: by the first event of their task, then by adjusted time, and then
+/// by line. In most traces the lines of each task rise so already, and then more than `FEW` events
+/// are not sorted.
 pub(crate) fn sort_keys(
     alloc: Global,
     tasks: &[usize],
-    times: &[i64],
+    keys: Vec<(usize, i64, usize)>,
 ) -> Result<Vec<(usize, i64, usize)>, AllocError>
-    requires each { length times.now ≡ length tasks.now }
+    requires made { AreInLineOrder tasks.now keys.items }
     requires within { (k : ℕ) → k < length tasks.now
         → slice_index_or tasks.now k 0 < length tasks.now }
-    ensures { IfOk result (λ keys. AreKeys tasks.now times.now keys.items) }
+    ensures { IfOk result (λ sorted. AreKeys tasks.now (key_times keys.items) sorted.items) }
 {
     if tasks.len() > FEW
-        && let Some(keys) = list_keys_by_line(alloc, tasks, times)?
+        && let Some(sorted) = list_keys_by_line(alloc, tasks, &keys)?
     {
-        return Ok(keys);
+        return Ok(sorted);
     }
-    let mut keys = Vec::with_capacity(alloc, tasks.len())?;
-    for (at, task) in tasks.iter().enumerate() {
-        keys.push((*task, times[at], at))?;
-    }
-    keys.sort_unstable();
-    Ok(keys)
+    let mut sorted = keys;
+    sorted.sort_unstable();
+    Ok(sorted)
 }

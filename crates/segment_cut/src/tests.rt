@@ -1,14 +1,12 @@
-ghost use Rattle.std.specs.Prelude.{◌≡◌, ◌^◌, ◌<◌, ◌≤◌, IfOk, length, codes};
-ghost use Rattle.trace_types.specs.Times.{latest_time, AreTimely};
+mod many_texts;
 
-use crate::{TraceFault, cut};
+use crate::{CutTrace, TraceFault, cut, element_of};
+use event_table::{EventFields, EventTable, GatheredEvents, TextHints, gather};
 use std::alloc::{AllocError, Global};
 use std::process::Abort;
 use std::test::Fail;
-use trace_types::{Event, EventList, RawTrace, Segment, Text, Trace};
-
-/// The latest time of an event.
-const LATEST: u64 = 4_102_444_800_000_000_000;
+use std::thread::Threads;
+use trace_types::{LATEST_TIME, Segment, Text, Trace};
 
 /// A line of a trace: its machine, task, event and time, and the messages that it sends and
 /// receives.
@@ -31,57 +29,73 @@ type Cut = (
     Option<&'static str>,
 );
 
-/// Copies a text, where there is one.
-fn copy_text(alloc: Global, text: Option<&str>) -> Result<Option<Text>, AllocError> {
-    match text {
-        Some(text) => Ok(Some(Text::new(alloc, text)?)),
-        None => Ok(None),
+/// Makes the table of these lines, numbered from 1.
+fn make_table(alloc: Global, rows: &[Row]) -> Result<EventTable, AllocError> {
+    let mut table = EventTable::new(alloc);
+    let mut hints = TextHints::new(alloc)?;
+    for row in rows {
+        let fields = EventFields {
+            request: "r1",
+            machine: row.0,
+            task: row.1,
+            event: row.2,
+            time: row.3,
+            send: row.4,
+            recv: row.5,
+        };
+        if table.len() >= 5000 {
+            return Err(AllocError);
+        }
+        let line = table.len() as u32 + 1;
+        table.push(alloc, &mut hints, line, &fields)?;
     }
+    Ok(table)
 }
 
-/// Makes the event of a line.
-fn make_event(alloc: Global, row: &Row, line: u32) -> Result<Event, AllocError>
-    ensures line { IfOk result (λ e. e.line ≡ line) }
-    ensures request { IfOk result (λ e. e.request ≡ codes "r1") }
-    ensures early { IfOk result (λ e. e.time ≤ latest_time) }
-{
-    Ok(Event {
-        line,
-        request: Text::new(alloc, "r1")?,
-        machine: Text::new(alloc, row.0)?,
-        task: Text::new(alloc, row.1)?,
-        event: Text::new(alloc, row.2)?,
-        time: row.3.min(LATEST),
-        send: copy_text(alloc, row.4)?,
-        recv: copy_text(alloc, row.5)?,
-    })
+/// Gathers these lines.
+fn gather_rows<R: Abort + AllocGlobal + Threads + Sync>(
+    rt: &R,
+    rows: &[Row],
+) -> Result<GatheredEvents, Fail> {
+    let table = make_table(rt.alloc(), rows)?;
+    assert!(rt; table.len() == rows.len() && table.len() <= 5000);
+    let mut parts = Vec::new(rt.alloc());
+    parts.push(table)?;
+    Ok(gather(rt, rt.alloc(), parts, 1)?)
 }
 
-/// Makes the trace of these lines, numbered from 1.
-fn make_trace(alloc: Global, rows: &[Row]) -> Result<RawTrace, AllocError>
-    requires some { 0 < length rows.now }
-    requires few { length rows.now < 2 ^ 31 }
-    ensures each { IfOk result (λ raw. length raw.events ≡ length rows.now) }
-    ensures timely { IfOk result (λ raw. AreTimely raw.events) }
-{
-    let mut events = Vec::with_capacity(alloc, rows.len())?;
-    for (at, row) in rows.iter().enumerate() {
-        events.push(make_event(alloc, row, at as u32 + 1)?)?;
-    }
-    Ok(RawTrace {
-        request: Text::new(alloc, "r1")?,
-        events: EventList::of(events),
-    })
+/// Cuts the only trace of a batch.
+fn cut_only<'a, R: Abort + AllocGlobal>(
+    rt: &R,
+    gathered: &'a GatheredEvents,
+) -> Result<Result<CutTrace<'a>, TraceFault>, Fail> {
+    assert!(rt; gathered.len() == 1);
+    let raw = gathered.trace(0);
+    assert!(rt; raw.len() < 5000);
+    assert!(rt; raw.is_timely());
+    Ok(cut(rt.alloc(), &raw))
+}
+
+/// Copies a trace, and compares what it tells of itself with the copy.
+fn copy_cut(rt: &(impl Abort + AllocGlobal), cut: &CutTrace<'_>) -> Result<Trace, Fail> {
+    let trace = cut.copy(rt.alloc())?;
+    assert!(rt; cut.request().as_str() == trace.request.as_str());
+    assert_eq!(rt; cut.day(), trace.day);
+    assert_eq!(rt; cut.latency(), trace.latency);
+    assert_eq!(rt; cut.segments().len(), trace.segments.items().len());
+    Ok(trace)
 }
 
 /// Cuts the trace of these lines.
-fn answer(
-    rt: &(impl Abort + AllocGlobal),
+fn answer<R: Abort + AllocGlobal + Threads + Sync>(
+    rt: &R,
     rows: &[Row],
 ) -> Result<Result<Trace, TraceFault>, Fail> {
-    assert!(rt; !rows.is_empty() && rows.len() < 5000);
-    let raw = make_trace(rt.alloc(), rows)?;
-    Ok(cut(rt.alloc(), &raw))
+    let gathered = gather_rows(rt, rows)?;
+    match cut_only(rt, &gathered)? {
+        Ok(cut) => Ok(Ok(copy_cut(rt, &cut)?)),
+        Err(fault) => Ok(Err(fault)),
+    }
 }
 
 /// Compares a text.
@@ -89,11 +103,11 @@ fn is(text: &Text, expected: &str) -> bool {
     text.as_str() == expected
 }
 
-/// Compares an element.
-fn is_element(element: &Option<Text>, expected: Option<&str>) -> bool {
-    match (element, expected) {
-        (Some(element), Some(expected)) => is(element, expected),
-        (None, None) => true,
+/// Compares the element of an event's name, and a copy of it.
+fn is_element(name: &Text, copy: &Option<Text>, expected: Option<&str>) -> bool {
+    match (element_of(name.as_str()), copy, expected) {
+        (Some(element), Some(copy), Some(expected)) => element == expected && is(copy, expected),
+        (None, None, None) => true,
         _ => false,
     }
 }
@@ -105,12 +119,12 @@ fn is_cut(segment: &Segment, cut: &Cut) -> bool {
         && is(&segment.end_event, cut.2)
         && segment.start == cut.3
         && segment.end == cut.4
-        && is_element(&segment.element, cut.5)
+        && is_element(&segment.start_event, &segment.element, cut.5)
 }
 
 /// Asserts that these lines are cut into these segments, with this day and latency.
-fn cuts(
-    rt: &(impl Abort + AllocGlobal),
+fn cuts<R: Abort + AllocGlobal + Threads + Sync>(
+    rt: &R,
     rows: &[Row],
     day: u32,
     latency: u64,
@@ -135,8 +149,8 @@ fn cuts(
 }
 
 /// Asserts that these lines have this fault.
-fn refused(
-    rt: &(impl Abort + AllocGlobal),
+fn refused<R: Abort + AllocGlobal + Threads + Sync>(
+    rt: &R,
     rows: &[Row],
     expected: TraceFault,
 ) -> Result<(), Fail> {
@@ -229,7 +243,11 @@ fn faults_come_in_their_order(rt: HostRuntime) -> Result<(), Fail> {
 /// Makes two messages between each of m, n and p, so that n and then p are each the latest time
 /// ahead, or as much behind.
 fn far(ahead: bool) -> [Row<'static>; 8] {
-    let (here, there) = if ahead { (0, LATEST) } else { (LATEST, 0) };
+    let (here, there) = if ahead {
+        (0, LATEST_TIME)
+    } else {
+        (LATEST_TIME, 0)
+    };
     [
         ("m", "a", "1", here, Some("x"), None),
         ("n", "b", "1", there, None, Some("x")),
@@ -247,8 +265,8 @@ fn adjusted_times_have_a_range(rt: HostRuntime) -> Result<(), Fail> {
     // adjusted times at p: 0 - 2N, N - 1 - 2N and N - 2N, and then 1 + 2N and 0 + 2N
     let rows = [
         (true, 0, true),
-        (true, LATEST - 1, true),
-        (true, LATEST, false),
+        (true, LATEST_TIME - 1, true),
+        (true, LATEST_TIME, false),
         (false, 1, true),
         (false, 0, false),
     ];
@@ -285,86 +303,6 @@ fn a_trace_has_at_most_4096_events(rt: HostRuntime) -> Result<(), Fail> {
         answer(&rt, &rows_of(rt.alloc(), &names)?)?.err(),
         Some(fault)
     );
-    Ok(())
-}
-
-/// Makes this many names.
-fn make_names(alloc: Global, count: u32) -> Result<Vec<String>, AllocError> {
-    let mut names = Vec::new(alloc);
-    for at in 0..count {
-        names.push(format!(in alloc; "name {at}")?)?;
-    }
-    Ok(names)
-}
-
-/// Makes two lines for each name, of a task of that name, on one machine and by rising time. The
-/// first of them sends a message of that name, and the second receives it.
-fn pairs_of<'a>(alloc: Global, names: &'a [String]) -> Result<Vec<Row<'a>>, AllocError> {
-    let mut rows = Vec::new(alloc);
-    for name in names {
-        let task = name.as_str();
-        let time = rows.len() as u64;
-        rows.push(("m", task, "sent", time, Some(task), None))?;
-        rows.push(("m", task, "received", time, None, Some(task)))?;
-    }
-    Ok(rows)
-}
-
-/// Cuts these lines with one more after them, and finds the fault.
-fn fault_with(
-    rt: &(impl Abort + AllocGlobal),
-    names: &[String],
-    more: Row,
-) -> Result<Option<TraceFault>, Fail> {
-    let mut rows = pairs_of(rt.alloc(), names)?;
-    rows.push(more)?;
-    Ok(answer(rt, &rows)?.err())
-}
-
-#[test]
-fn few_and_many_texts_are_told_apart_alike(rt: HostRuntime) -> Result<(), Fail> {
-    // 30 to 34 events and then 62 to 66, so that there are about 32 events, and then 32 messages
-    for count in [15u32, 16, 17, 31, 32, 33, 200] {
-        let names = make_names(rt.alloc(), count)?;
-        let found = answer(&rt, &pairs_of(rt.alloc(), &names)?)?;
-        assert!(rt; found.is_ok());
-        if let Ok(trace) = found {
-            let segments = trace.segments.items();
-            assert_eq!(rt; segments.len(), names.len());
-            for (segment, name) in segments.iter().zip(names.iter()) {
-                assert!(rt; is(&segment.task, name.as_str()));
-            }
-        }
-        let line = 2 * count + 1;
-        assert_eq!(rt;
-            fault_with(&rt, &names, ("m", "name 0", "sent", 0, None, None))?,
-            Some(TraceFault::RepeatedEvent { line })
-        );
-        assert_eq!(rt;
-            fault_with(
-                &rt,
-                &names,
-                ("n", "name 0", "again", 0, Some("name 14"), None)
-            )?,
-            Some(TraceFault::RepeatedSend { line })
-        );
-        assert_eq!(rt;
-            fault_with(
-                &rt,
-                &names,
-                ("n", "name 0", "again", 0, None, Some("name 0"))
-            )?,
-            Some(TraceFault::RepeatedRecv { line })
-        );
-        assert_eq!(rt;
-            fault_with(
-                &rt,
-                &names,
-                ("n", "name", "sent", 0, Some("nam"), Some("name 00"))
-            )?,
-            None
-        );
-    }
     Ok(())
 }
 

@@ -1,4 +1,4 @@
-ghost use Rattle.std.specs.Prelude.{◌≢◌, ◌^◌, ◌<◌, ◌≤◌, IfOk, IfErr, OnOk, length};
+ghost use Rattle.std.specs.Prelude.{◌≡◌, ◌≢◌, ◌^◌, ◌<◌, ◌≤◌, IfOk, IfErr, OnOk, length};
 ghost use Rattle.trace_types.specs.Times.{AreTimely};
 ghost use Rattle.trace_types.specs.Events.{named_events};
 ghost use Rattle.trace_types.specs.Repeats.{AreDistinct};
@@ -10,14 +10,14 @@ ghost use Rattle.segment_cut.specs.declared.trace_fault.TraceFault.TheVariants.{
 ghost use Rattle.segment_cut.specs.Cutting.{IsShort, IsCut};
 ghost use Rattle.segment_cut.specs.Faults.{IsTraceFault};
 
-use crate::TraceFault;
+use crate::keys::make_keys;
 use crate::repeats::find_repeated_event;
 use crate::segments::list_segments;
 use crate::span::span;
-use crate::times::adjust_times;
+use crate::{CutTrace, TraceFault};
 use clock_offsets::{Field, find_first_events, offsets};
+use event_table::RawEvents;
 use std::alloc::Global;
-use trace_types::{Event, RawTrace, SegmentList, Trace};
 
 /// The most events that a trace may have.
 const MOST_EVENTS: usize = 4096;
@@ -27,20 +27,20 @@ const NANOSECONDS_PER_DAY: u64 = 86_400_000_000_000;
 
 /// Checks that the trace is short and that each task has each of its events once, and finds the
 /// first event of each event's task.
-fn check_events(alloc: Global, events: &[Event]) -> Result<Vec<usize>, TraceFault>
-    requires { length events.now < 2 ^ 32 }
-    ensures tasks { IfOk result (λ tasks. AreFirstEvents Task events.now tasks.items) }
-    ensures short { OnOk result (IsShort events.now) }
-    ensures once { OnOk result (AreDistinct (named_events events.now)) }
-    ensures err { IfErr result (λ fault. fault ≢ Memory → IsTraceFault events.now fault) }
+fn check_events(alloc: Global, raw: &RawEvents<'_>) -> Result<Vec<usize>, TraceFault>
+    requires { length raw.now.trace.events < 2 ^ 32 }
+    ensures tasks { IfOk result (λ tasks. AreFirstEvents Task raw.now.trace.events tasks.items) }
+    ensures short { OnOk result (IsShort raw.now.trace.events) }
+    ensures once { OnOk result (AreDistinct (named_events raw.now.trace.events)) }
+    ensures err { IfErr result (λ fault. fault ≢ Memory → IsTraceFault raw.now.trace.events fault) }
 {
-    if events.len() > MOST_EVENTS {
+    if raw.len() > MOST_EVENTS {
         return Err(TraceFault::TooManyEvents {
-            count: events.len() as u32,
+            count: raw.len() as u32,
         });
     }
-    let tasks = find_first_events(alloc, events, Field::Task)?;
-    match find_repeated_event(alloc, events, &tasks)? {
+    let tasks = find_first_events(alloc, raw, Field::Task)?;
+    match find_repeated_event(alloc, raw, &tasks)? {
         Some(line) => Err(TraceFault::RepeatedEvent { line }),
         None => Ok(tasks),
     }
@@ -48,34 +48,37 @@ fn check_events(alloc: Global, events: &[Event]) -> Result<Vec<usize>, TraceFaul
 
 /// Cuts the trace by these offsets, once the earlier checks have passed and the first event of each
 /// task is known.
-fn cut_by(
+fn cut_by<'a>(
     alloc: Global,
-    raw: &RawTrace,
+    raw: &RawEvents<'a>,
     tasks: &[usize],
     by_event: &[i128],
-) -> Result<Trace, TraceFault>
-    requires tasks { AreFirstEvents Task raw.now.events tasks.now }
-    requires timely { AreTimely raw.now.events }
-    requires short { IsShort raw.now.events }
-    requires named { AreDistinct (named_events raw.now.events) }
-    requires messages { AreMessagesOnce raw.now.events }
-    requires offsets { AreOffsets raw.now.events by_event.now }
-    ensures ok { IfOk result (λ t. IsCut raw.now.request raw.now.events t) }
-    ensures few { IfOk result (λ t. length t.segments ≤ length raw.now.events) }
-    ensures err { IfErr result (λ fault. fault ≢ Memory → IsTraceFault raw.now.events fault) }
+) -> Result<CutTrace<'a>, TraceFault>
+    requires tasks { AreFirstEvents Task raw.now.trace.events tasks.now }
+    requires timely { AreTimely raw.now.trace.events }
+    requires short { IsShort raw.now.trace.events }
+    requires named { AreDistinct (named_events raw.now.trace.events) }
+    requires messages { AreMessagesOnce raw.now.trace.events }
+    requires offsets { AreOffsets raw.now.trace.events by_event.now }
+    ensures ok { IfOk result (λ t. IsCut raw.now.trace.request raw.now.trace.events t.trace) }
+    ensures texts { IfOk result (λ t. t.texts ≡ raw.now.texts) }
+    ensures few { IfOk result (λ t. length t.trace.segments ≤ length raw.now.trace.events) }
+    ensures err { IfErr result (λ fault. fault ≢ Memory → IsTraceFault raw.now.trace.events fault) }
 {
-    let events = raw.events.items();
-    let adjusted = adjust_times(alloc, events, by_event)?;
-    let times = match adjusted {
-        Ok(times) => times,
+    let made = make_keys(alloc, raw, tasks, by_event)?;
+    let keys = match made {
+        Ok(keys) => keys,
         Err(line) => return Err(TraceFault::ClockRange { line }),
     };
-    let segments = list_segments(alloc, events, tasks, &times)?;
-    Ok(Trace {
-        request: raw.request.copy(alloc)?,
-        day: (events[0].time / NANOSECONDS_PER_DAY) as u32,
-        latency: span(&times),
-        segments: SegmentList::of(segments),
+    let _count = raw.len();
+    let latency = span(&keys);
+    let segments = list_segments(alloc, raw, tasks, keys)?;
+    Ok(CutTrace {
+        texts: raw.texts(),
+        request: raw.request_number(),
+        day: (raw.time(0) / NANOSECONDS_PER_DAY) as u32,
+        latency,
+        segments,
     })
 }
 
@@ -91,19 +94,20 @@ fn cut_by(
 /// nanoseconds. Segments are those of M. Chow et al., "The Mystery Machine", OSDI 2014; the
 /// spelling of elements is this project's own.
 ///
-/// Times are at most `trace_types::LATEST_TIME`; `trace_types::are_timely` tells.
+/// Times are at most `trace_types::LATEST_TIME`; `RawEvents::is_timely` tells.
 ///
 /// The error is the first fault that holds, or out of memory. The faults are, in their order: over
 /// 4,096 events, an event that its task has twice, a message that is sent twice, one that is
 /// received twice, an adjusted time out of range.
-pub fn cut(alloc: Global, raw: &RawTrace) -> Result<Trace, TraceFault>
-    requires few { length raw.now.events < 2 ^ 32 }
-    requires timely { AreTimely raw.now.events }
-    ensures ok { IfOk result (λ t. IsCut raw.now.request raw.now.events t) }
-    ensures few { IfOk result (λ t. length t.segments ≤ length raw.now.events) }
-    ensures err { IfErr result (λ fault. fault ≢ Memory → IsTraceFault raw.now.events fault) }
+pub fn cut<'a>(alloc: Global, raw: &RawEvents<'a>) -> Result<CutTrace<'a>, TraceFault>
+    requires few { length raw.now.trace.events < 2 ^ 32 }
+    requires timely { AreTimely raw.now.trace.events }
+    ensures ok { IfOk result (λ t. IsCut raw.now.trace.request raw.now.trace.events t.trace) }
+    ensures texts { IfOk result (λ t. t.texts ≡ raw.now.texts) }
+    ensures few { IfOk result (λ t. length t.trace.segments ≤ length raw.now.trace.events) }
+    ensures err { IfErr result (λ fault. fault ≢ Memory → IsTraceFault raw.now.trace.events fault) }
 {
-    let tasks = check_events(alloc, raw.events.items())?;
+    let tasks = check_events(alloc, raw)?;
     let by_event = offsets(alloc, raw)?;
     cut_by(alloc, raw, &tasks, &by_event)
 }

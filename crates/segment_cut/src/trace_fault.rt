@@ -54,7 +54,7 @@ impl TraceFault {
     }
 
     /// Gives the number that is printed with the reason: how many events, or which line; 0 where
-    /// memory ran out.
+    /// it is out of memory.
     pub fn number(self) -> u32
         ensures { result ≡ fault_number self }
     {

@@ -6,3 +6,4 @@ pub mod FilingLemmas
 pub mod NotingLemmas
 pub mod NumberingLemmas
 pub mod NamedLemmas
+pub mod SlotLemmas

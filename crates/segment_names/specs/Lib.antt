@@ -1,4 +1,5 @@
 pub mod Known
 pub mod Limits
+pub mod Namers
 pub mod Naming
 pub mod inner

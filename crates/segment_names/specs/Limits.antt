@@ -33,7 +33,7 @@ PassesLimit known traces fault = (k : ℕ) × (k < length traces)
     × ((j : ℕ) → j ≤ k → Fits (with_traces known (take j traces)))
     × IsPassed (with_traces known (take (k + 1) traces)) fault
 
--- there was no memory, or this limit is passed
+-- out of memory, or this limit is passed
 abbrev pub HasCause : (NameFault → Type 0) → NameFault → Type 0
 HasCause passed Memory = Unit {0}
 HasCause passed (TooManyNames count) = passed (TooManyNames count)

@@ -28,13 +28,17 @@ abbrev pub IsUnknownAt : Known → List Segment → ℕ → Type 0
 IsUnknownAt known segments k = (s : Segment) × (slice_get segments k ≡ Some s)
     × (name_number known (name_of s) ≡ None)
 
+-- some segment is such
+abbrev pub HasUnknown : Known → List Segment → Type 0
+HasUnknown known segments = (k : ℕ) × IsUnknownAt known segments k
+
 -- it is the first such segment
 abbrev pub IsFirstUnknown : Known → List Segment → ℕ → Type 0
 IsFirstUnknown known segments k = IsUnknownAt known segments k × ((j : ℕ) → j < k
     → IsUnknownAt known segments j → ⊥)
 
--- the trace is given back; it was not named because memory ran out, or because this segment is the
--- first that is not known
+-- the trace is given back: it was not named, out of memory or because this segment is the first
+-- that is not known
 abbrev pub IsRefused : Known → Trace → NameOne → Type 0
 IsRefused known trace (Memory back) = back ≡ trace
 IsRefused known trace (Unknown back segment) = (back ≡ trace)

@@ -1,3 +1,4 @@
 -- What private contracts alone cite.
 pub mod Filing
 pub mod Numbering
+pub mod Slots

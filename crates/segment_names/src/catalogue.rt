@@ -1,4 +1,5 @@
 use crate::NameFault;
+use crate::naming::numbers;
 use crate::tables::Tables;
 use std::alloc::Global;
 use std::marker::Model;
@@ -24,7 +25,8 @@ impl Model for Catalogue {
 
 impl Catalogue {
     ghost use Rattle.std.specs.Prelude.{◌≡◌, ◌<◌, ◌≤◌, length, [], slice_get, Some, OnOk};
-    ghost use Rattle.std.specs.Prelude.{OnErr, IfErr};
+    ghost use Rattle.std.specs.Prelude.{OnErr, IfErr, IfNone, IfSome, None};
+    ghost use Rattle.trace_types.specs.Limits.{most_names, most_tasks};
     ghost use Rattle.segment_names.specs.Known.{name_number, task_number, with_segments};
     ghost use Rattle.segment_names.specs.Limits.{Fits, HasCause, IsKept, IsPassed};
 
@@ -63,6 +65,21 @@ impl Catalogue {
             Some((number, _)) => Some(number as u32),
             None => None,
         }
+    }
+
+    /// Looks a name up by its three texts, and gives its number and that of its task. It takes no
+    /// memory.
+    pub(crate) fn look_up(&self, task: &Text, start: &Text, end: &Text) -> Option<(u32, u32)>
+        ensures absent { IfNone result (name_number self.now (task.now, start.now, end.now)
+            ≡ None) }
+        ensures number { IfSome result (λ r. name_number self.now (task.now, start.now, end.now)
+            ≡ Some r.0) }
+        ensures name { IfSome result (λ r. slice_get self.now.names r.0
+            ≡ Some (task.now, start.now, end.now)) }
+        ensures task { IfSome result (λ r. slice_get self.now.tasks r.1 ≡ Some task.now) }
+        ensures below { IfSome result (λ r. (r.0 < most_names) × (r.1 < most_tasks)) }
+    {
+        numbers(&self.tables, task, start, end)
     }
 
     /// The number of a task, or `None` where it is not in the catalogue. It takes no memory.

@@ -8,7 +8,9 @@ pub mod laws;
 mod name_fault;
 mod name_key;
 mod name_one;
+mod namer;
 mod naming;
+mod slot;
 mod tables;
 #[cfg(test)]
 mod tests;
@@ -17,3 +19,4 @@ mod unnamed;
 pub use catalogue::Catalogue;
 pub use name_fault::NameFault;
 pub use name_one::NameOne;
+pub use namer::Namer;

@@ -6,7 +6,7 @@ use std::alloc::{AllocError, AllocFailed};
 /// Why a trace is not added to a catalogue. Out of memory may come at any time.
 #[derive(Clone, Copy, Debug, PartialEq, Eq)]
 pub enum NameFault {
-    /// There was no memory.
+    /// Out of memory.
     Memory,
     /// There would be over 512 names.
     TooManyNames {

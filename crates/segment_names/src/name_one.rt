@@ -3,7 +3,7 @@ use trace_types::Trace;
 /// Why a trace is not named. The trace is given back as it was.
 #[derive(Debug, Drop)]
 pub enum NameOne {
-    /// There was no memory.
+    /// Out of memory.
     Memory {
         /// The trace that was to be named.
         trace: Trace,

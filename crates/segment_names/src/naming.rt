@@ -20,47 +20,56 @@ use trace_types::laws::numbering_is_one_to_one;
 use trace_types::{NameText, NamedSegment, NamedSegmentList, NamedTrace, Segment, Text, Trace};
 
 /// Gives the number of an element, which is the next one where the element is new.
-fn number_element(
-    alloc: Global,
+pub(crate) fn number_element(
     elements: &mut IndexSet<Text>,
-    element: &Option<Text>,
+    element: Option<Text>,
 ) -> Result<Option<u32>, AllocError>
     requires differ { AreDifferent elements.old.keys }
     requires few { length elements.old.keys < 2 ^ 32 - 1 }
     ensures differ { AreDifferent elements.new.keys }
     ensures grown { (more : List (List ℕ)) × (elements.new.keys ≡ elements.old.keys ++ more) }
     ensures keys { OnOk result (elements.new.keys
-        ≡ firsts_of bytes_eq (elements.old.keys ++ option_to_list element.now)) }
-    ensures number { IfOk result (λ number. IsElementAt elements.new.keys number element.now) }
+        ≡ firsts_of bytes_eq (elements.old.keys ++ option_to_list element)) }
+    ensures number { IfOk result (λ number. IsElementAt elements.new.keys number element) }
 {
     match element {
         Some(text) => {
-            let index = intern(alloc, elements, text)?;
+            let index = intern(elements, text)?;
             Ok(Some(index as u32))
         }
         None => Ok(None),
     }
 }
 
-/// Gives the numbers of a segment's name and of its task.
-fn numbers(tables: &Tables, segment: &Segment) -> Option<(u32, u32)>
+/// Gives the numbers of the name of these texts and of its task.
+pub(crate) fn numbers(tables: &Tables, task: &Text, start: &Text, end: &Text) -> Option<(u32, u32)>
     requires { Fits (known_in tables.now) }
-    ensures absent { IfNone result (name_number (known_in tables.now) (name_of segment.now)
+    ensures absent { IfNone result (name_number (known_in tables.now) (task.now, start.now, end.now)
         ≡ None) }
-    ensures number { IfSome result (λ r. name_number (known_in tables.now) (name_of segment.now)
-        ≡ Some r.0) }
+    ensures number { IfSome result (λ r. name_number (known_in tables.now)
+        (task.now, start.now, end.now) ≡ Some r.0) }
     ensures name { IfSome result (λ r. slice_get (known_in tables.now).names r.0
-        ≡ Some (name_of segment.now)) }
+        ≡ Some (task.now, start.now, end.now)) }
     ensures task { IfSome result (λ r. slice_get (known_in tables.now).tasks r.1
-        ≡ Some segment.now.task) }
+        ≡ Some task.now) }
     ensures below { IfSome result (λ r. (r.0 < most_names) × (r.1 < most_tasks)) }
 {
-    let (name, task) = tables.look_up(&segment.task, &segment.start_event, &segment.end_event)?;
+    let (name, task) = tables.look_up(task, start, end)?;
     Some((name as u32, task as u32))
 }
 
-/// Makes the segment of these numbers.
-fn numbered(segment: &Segment, name: u32, task: u32, element: Option<u32>) -> NamedSegment
+/// Copies a text, where there is one.
+fn copy_optional(alloc: Global, text: &Option<Text>) -> Result<Option<Text>, AllocError>
+    ensures { IfOk result (λ copy. copy ≡ text.now) }
+{
+    match text {
+        Some(text) => Ok(Some(text.copy(alloc)?)),
+        None => Ok(None),
+    }
+}
+
+/// Makes the named segment by these numbers.
+fn make_by_numbers(segment: &Segment, name: u32, task: u32, element: Option<u32>) -> NamedSegment
     requires name { name < most_names }
     requires task { task < most_tasks }
     ensures name { result.name ≡ name }
@@ -92,13 +101,19 @@ fn name_segments(
     let mut elements = IndexSet::new(alloc);
     let mut named = Vec::with_capacity(alloc, segments.len())?;
     for (index, segment) in segments.iter().enumerate() {
-        let Some((name, task)) = numbers(tables, segment) else {
+        let Some((name, task)) = numbers(
+            tables,
+            &segment.task,
+            &segment.start_event,
+            &segment.end_event,
+        ) else {
             return Err(Unnamed::Unknown {
                 segment: index as u32,
             });
         };
-        let element = number_element(alloc, &mut elements, &segment.element)?;
-        named.push(numbered(segment, name, task, element))?;
+        let element = copy_optional(alloc, &segment.element)?;
+        let number = number_element(&mut elements, element)?;
+        named.push(make_by_numbers(segment, name, task, number))?;
     }
     Ok(named)
 }

@@ -52,25 +52,16 @@ impl Model for Tables {
 }
 
 /// Gives the index of a text, which stands last if it is new.
-pub(crate) fn intern(
-    alloc: Global,
-    texts: &mut IndexSet<Text>,
-    text: &Text,
-) -> Result<usize, AllocError>
+pub(crate) fn intern(texts: &mut IndexSet<Text>, text: Text) -> Result<usize, AllocError>
     requires { AreDifferent texts.old.keys }
     ensures differ { AreDifferent texts.new.keys }
     ensures grown { (more : List (List ℕ)) × (texts.new.keys ≡ texts.old.keys ++ more) }
     ensures keys { OnOk result (texts.new.keys
-        ≡ firsts_of bytes_eq (texts.old.keys ++ text.now ∷ [])) }
-    ensures index { IfOk result (λ i. slice_get texts.new.keys i ≡ Some text.now) }
+        ≡ firsts_of bytes_eq (texts.old.keys ++ text ∷ [])) }
+    ensures index { IfOk result (λ i. slice_get texts.new.keys i ≡ Some text) }
 {
-    match texts.get_index_of(text) {
-        Some(index) => Ok(index),
-        None => {
-            let (index, _) = texts.insert_full(text.copy(alloc)?)?;
-            Ok(index)
-        }
-    }
+    let (index, _added) = texts.insert_full(text)?;
+    Ok(index)
 }
 
 /// Copies the name of a segment.
@@ -102,9 +93,9 @@ fn intern_name(
     ensures filed { IfOk result (λ key. IsFiledAs tasks.new.keys events.new.keys key
         (name_of segment.now)) }
 {
-    let task = intern(alloc, tasks, &segment.task)?;
-    let start = intern(alloc, events, &segment.start_event)?;
-    let end = intern(alloc, events, &segment.end_event)?;
+    let task = intern(tasks, segment.task.copy(alloc)?)?;
+    let start = intern(events, segment.start_event.copy(alloc)?)?;
+    let end = intern(events, segment.end_event.copy(alloc)?)?;
     Ok(NameKey { task, start, end })
 }
 

@@ -6,7 +6,7 @@ use std::alloc::{AllocError, AllocFailed};
 /// Why segments are not named.
 #[derive(Clone, Copy, Drop)]
 pub(crate) enum Unnamed {
-    /// There was no memory.
+    /// Out of memory.
     Memory,
     /// The segment at this index is the first whose name is not in the catalogue.
     Unknown { segment: u32 },

@@ -1,5 +1,5 @@
 -- The steps of an add: its names, its days, and why one is not taken.
-use Rattle.std.proofs.Common.{◌≡◌, ℕ, ◌*◌, List, ◌∷◌, length, map, sym, ap, ◌∙◌, subst}
+use Rattle.std.proofs.Common.{◌≡◌, ℕ, ◌*◌, ◌<◌, ◌≤◌, All, arith, List, ◌∷◌, length, map, sym, ap, ◌∙◌, subst}
 use Rattle.std.specs.List.{AllZip}
 use Rattle.batch_sheets.specs.declared.recording.DayLines.{DayLines}
 use Rattle.day_partitions.specs.Batches.{IsBatchFault, with_all}
@@ -17,7 +17,7 @@ use Rattle.session_rules.specs.Parts.{Refusals}
 use Rattle.session_rules.specs.Sessions.{State, graced, state_after, watch_parts}
 use Rattle.session_rules.specs.declared.limit.Limit.TheVariants.{Names, Tasks, Days}
 use Rattle.session_rules.specs.declared.refused.Refused.{Refused}
-use Rattle.trace_types.specs.Batch.{traces_of}
+use Rattle.trace_types.specs.Batch.{PlainTrace, traces_of}
 use Rattle.trace_types.specs.declared.event.Event.{Event}
 use Rattle.trace_types.specs.declared.trace.Trace.{Trace}
 use Rattle.session.specs.AddLaws.{AddIsTold, AddLeadsOn, AddPassesDays, IsAdded, session_after}
@@ -99,3 +99,7 @@ module _ (old : SessionState) (valid : List Trace) (wide : SessionState) (named 
     j,
     passes old s valid wide.book h.sheets h.watched days shown (is_added h.sheets h.watched h.book h.recorded) h.many h.count,
   )
+
+-- what is judged of the traces that were gathered of a batch is judged of its traces
+pub judged_of : (gathered : List PlainTrace) (events parts : List Event) (valid : List Trace) (refused : List Refused) → gathered ≡ traces_of parts → parts ≡ events → AreJudged gathered valid refused → AreJudged (traces_of events) valid refused
+judged_of gathered events parts valid refused all same judged = subst (λ ts. AreJudged ts valid refused) (all ∙ ap traces_of same) judged

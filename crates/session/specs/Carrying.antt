@@ -17,7 +17,6 @@ use Rattle.text_rows.specs.TextsOfParts.{AreTexts}
 use Rattle.text_rows.specs.declared.print_fault.PrintFault.{PrintFault}
 use Rattle.text_rows.specs.declared.print_fault.PrintFault.TheVariants as printing
 use Rattle.trace_types.specs.Batch.{requests_of}
-use Rattle.trace_types.specs.EventLines.{LinesRise}
 use Rattle.trace_types.specs.Times.{AreTimely}
 use Rattle.session.specs.SessionStates.{SessionState, Shows, most_micros}
 use Rattle.session.specs.declared.command_fault.CommandFault.{CommandFault}
@@ -53,11 +52,11 @@ IsReadyCommand commands.Slack = ⊤
 IsReadyCommand commands.Report = ⊤
 IsReadyCommand commands.Graph = ⊤
 
--- a session carries out the job: the lines of the events that it adds rise, and their times are
--- within the limit; a change that it forecasts takes no time or some, at most as much as now; the
--- claims that it verifies are fewer than 4,294,967,296
+-- a session carries out the job: it adds fewer than 4,294,967,296 events, whose times are within
+-- the limit; a change that it forecasts takes no time or some, at most as much as now; the claims
+-- that it verifies are fewer than 4,294,967,296
 abbrev pub IsReady : Job → Type 0
-IsReady (Add events) = LinesRise events × AreTimely events × (length events < 2 ^ 32)
+IsReady (Add events) = AreTimely events × (length events < 2 ^ 32)
 IsReady (Control command) = IsReadyCommand command
 IsReady Summary = ⊤
 IsReady (WhatIf change) = (0 < change.den) × (change.num ≤ change.den)

@@ -1,7 +1,8 @@
-ghost use Rattle.std.specs.Prelude.{◌≡◌, ◌^◌, ◌+◌, ◌<◌, ◌≤◌, All, List, length, IfOk, IfErr};
-ghost use Rattle.batch_sheets.specs.Named.{HasFewSegments};
+ghost use Rattle.std.specs.Prelude.{◌≡◌, ◌^◌, ◌+◌, ◌<◌, ◌≤◌, All, List, length, map, IfOk, IfErr};
+ghost use Rattle.batch_sheets.specs.Named.{HasFewSegments, cut_trace};
 ghost use Rattle.kept_books.specs.Shown.{AreShown};
 ghost use Rattle.refute_tests.specs.Clearing.{HaveNamesBelow};
+ghost use Rattle.segment_cut.specs.NumberedCuts.{NumberedCut};
 ghost use Rattle.session_rules.specs.Sessions.{State};
 ghost use Rattle.session.specs.Carrying.{kept_count};
 ghost use Rattle.session.specs.SessionStates.{Shows};
@@ -9,21 +10,24 @@ ghost use Rattle.session.specs.Sheets.{graced_by};
 ghost use Rattle.session.specs.inner.AddFaults.{HasAddCause, HasNamesCause};
 ghost use Rattle.session.specs.inner.AddSteps.{AreBooked, AreNamed, HasDaysCause, IsAddOf};
 ghost use Rattle.trace_types.specs.Batch.{requests_of};
-ghost use Rattle.trace_types.specs.EventLines.{LinesRise};
 ghost use Rattle.trace_types.specs.Times.{AreTimely};
 ghost use Rattle.trace_types.specs.declared.trace.Trace.{Trace};
 
+use crate::Session;
 use crate::add_fault::AddFault;
+use crate::batch_records::record_batch;
 use crate::laws::{
     add_is_told, add_leads_on, add_passes_days, names_grow, no_more_are_sheeted, no_more_are_valid,
 };
-use crate::{Session, record_batch};
 use batch_sheets::{DayLines, judge_batch, name_batch};
 use event_lines::EventParts;
+use event_table::laws::traces_keep_facts;
+use event_table::{Texts, gather};
 use mystery_io::Gate;
+use segment_cut::CutTrace;
 use session_rules::Refused;
 use std::thread::Threads;
-use trace_types::{NamedTrace, Trace};
+use trace_types::NamedTrace;
 
 /// A session after an add, and what is printed of the add.
 #[derive(Drop)]
@@ -44,16 +48,24 @@ struct NamedBatch {
 }
 
 impl Session {
-    /// Adds the names and tasks of valid traces, names these by all workers and gives them their
-    /// grace, and widens the book to the names. After an error the session is gone.
-    fn add_names<R: Threads + Sync>(self, rt: &R, valid: Vec<Trace>) -> Result<NamedBatch, AddFault>
-        requires { All HasFewSegments valid.items }
-        ensures added { IfOk result (λ b. AreNamed self valid.items b.session) }
+    /// Adds the names and tasks of valid traces, whose numbers are those of the texts, names these
+    /// by all workers and gives them their grace, and widens the book to the names. After an error
+    /// the session is gone.
+    fn add_names<R: Threads + Sync>(
+        self,
+        rt: &R,
+        texts: &Texts,
+        valid: Vec<CutTrace<'_>>,
+    ) -> Result<NamedBatch, AddFault>
+        requires few { All HasFewSegments (map cut_trace valid.items) }
+        requires texts { All (λ (c : NumberedCut). c.texts ≡ texts.now) valid.items }
+        ensures added { IfOk result (λ b.
+            AreNamed self (map cut_trace valid.entry.items) b.session) }
         ensures shown { IfOk result (λ b. AreShown b.session.known b.named.items
-            (graced_by b.session.grace valid.items)) }
+            (graced_by b.session.grace (map cut_trace valid.entry.items))) }
         ensures below { IfOk result
             (λ b. All (HaveNamesBelow (length b.session.known.names)) b.named.items) }
-        ensures cause { IfErr result (HasNamesCause self.known valid.items) }
+        ensures cause { IfErr result (HasNamesCause self.known (map cut_trace valid.entry.items)) }
     {
         names_grow();
         let Session {
@@ -66,7 +78,7 @@ impl Session {
         } = self;
         let _names = catalogue.names();
         let nanos = 1000 * u64::from(grace);
-        let named = name_batch(rt, alloc, &mut catalogue, valid, nanos, workers)?;
+        let named = name_batch(rt, alloc, &mut catalogue, texts, valid, nanos, workers)?;
         book.widen(catalogue.names())?;
         Ok(NamedBatch {
             session: Session {
@@ -124,7 +136,6 @@ impl Session {
         events: EventParts,
         gate: &G,
     ) -> Result<AddedBatch, AddFault>
-        requires rising { LinesRise events }
         requires timely { AreTimely events }
         requires short { length events < 2 ^ 32 }
         requires few { kept_count self + length (requests_of events) < 2 ^ 32 }
@@ -140,8 +151,10 @@ impl Session {
         add_leads_on();
         add_passes_days();
         add_is_told();
-        let judged = judge_batch(rt, self.alloc, events, self.workers)?;
-        let NamedBatch { mut session, named } = self.add_names(rt, judged.valid)?;
+        traces_keep_facts();
+        let gathered = gather(rt, self.alloc, events.into_parts(), self.workers)?;
+        let judged = judge_batch(rt, self.alloc, &gathered, self.workers)?;
+        let NamedBatch { mut session, named } = self.add_names(rt, gathered.texts(), judged.valid)?;
         let watched = session.add_days(rt, named, gate)?;
         Ok(AddedBatch {
             session,

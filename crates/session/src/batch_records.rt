@@ -14,8 +14,8 @@ use watch_bounds::laws::watch_lines_are_told_by_text;
 
 /// Records the named traces of a batch day by day by so many workers, who may wait for the gate: a
 /// sheet of each day, days rising, and the watch lines of each day after every so many of a worker's
-/// traces, 0 for none. The only error is that memory ran out.
-pub fn record_batch<R: Threads + Sync, G: Gate + Sync>(
+/// traces, 0 for none. The only error is out of memory.
+pub(crate) fn record_batch<R: Threads + Sync, G: Gate + Sync>(
     rt: &R,
     alloc: Global,
     catalogue: &Catalogue,

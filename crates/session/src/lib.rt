@@ -17,7 +17,6 @@ mod job_printing;
 pub mod laws;
 mod sessions;
 
-pub use batch_records::record_batch;
 pub use command_fault::CommandFault;
 pub use job_list::jobs;
 pub use session_rules::Job;

@@ -5,6 +5,7 @@ ghost use Rattle.trace_types.specs.Times.{AreTimely};
 use crate::{CommandFault, Job, Session};
 use certificates::{Claim, ClaimList, Matter};
 use event_lines::{Command, EventParts, lines_rise};
+use event_table::EventTable;
 use mystery_io::{MemSink, OpenGate, Sink};
 use session_rules::NamedChange;
 use std::alloc::{AllocError, Global};
@@ -61,8 +62,11 @@ fn add<R: Threads + Sync, S: Sink>(
     if !lines_rise(&events) || !are_timely(&events) {
         return Err(CommandFault::Memory);
     }
+    let Ok(table) = EventTable::of_events(session.alloc, &events) else {
+        return Err(CommandFault::Memory);
+    };
     let mut parts = EventParts::new(session.alloc);
-    let Ok(()) = parts.push_part(events) else {
+    let Ok(()) = parts.push_part(table) else {
         return Err(CommandFault::Memory);
     };
     session.command(rt, Job::Add { events: parts }, out, &OpenGate)

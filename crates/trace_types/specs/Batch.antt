@@ -2,17 +2,12 @@
 use Rattle.std.specs.Prelude.{ℕ, List, Bool, map, filter}
 use Rattle.std.specs.Str.{bytes_eq}
 use Rattle.trace_types.specs.declared.event.Event.{Event}
-use Rattle.trace_types.specs.declared.raw_trace.RawTrace.{RawTrace}
 use Rattle.trace_types.specs.Firsts.{firsts_of}
 
 -- a request and events of it
 pub record PlainTrace : Type 0 where
   pub request : List ℕ
   pub events : List Event
-
--- what a trace says, without the facts that its type keeps
-abbrev pub plain : RawTrace → PlainTrace
-plain trace = record { request = trace.request; events = trace.events }
 
 -- the event belongs to this request
 abbrev pub is_of : List ℕ → Event → Bool

@@ -1,5 +1,5 @@
--- What the events of a trace have, by index from 0. Events stand by rising line, so a lower index
--- is an earlier line.
+-- What the events of a trace have, by index from 0. Where the lines of a batch rise (LinesRise), a
+-- lower index is an earlier line.
 use Rattle.std.specs.Prelude.{ℕ, Option, Some, List, [], map, slice_index_or}
 use Rattle.trace_types.specs.declared.event.Event.{Event}
 

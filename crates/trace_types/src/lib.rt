@@ -5,7 +5,6 @@
 #![tactic(auto)]
 
 mod event;
-mod event_list;
 mod latest_time;
 pub mod laws;
 mod name_text;
@@ -13,7 +12,6 @@ mod named_segment;
 mod named_segment_list;
 mod named_trace;
 mod named_trace_list;
-mod raw_trace;
 mod segment;
 mod segment_list;
 mod short_text;
@@ -24,14 +22,12 @@ mod timely;
 mod trace;
 
 pub use event::Event;
-pub use event_list::EventList;
 pub use latest_time::{LATEST_TIME, LATEST_TIME_IN_MICROSECONDS};
 pub use name_text::NameText;
 pub use named_segment::NamedSegment;
 pub use named_segment_list::NamedSegmentList;
 pub use named_trace::NamedTrace;
 pub use named_trace_list::NamedTraceList;
-pub use raw_trace::RawTrace;
 pub use segment::Segment;
 pub use segment_list::SegmentList;
 pub use text::Text;

@@ -3,24 +3,32 @@ use Rattle.std.specs.Prelude.{◌≡◌, ℕ, ◌≤◌, ◌++◌, ◌∷◌, []
 use Rattle.kept_books.specs.Shown.{AreShown, IsShown}
 use Rattle.segment_names.specs.Known.{Known, with_traces}
 use Rattle.segment_names.specs.Limits.{Fits, IsKept, PassesLimit}
+use Rattle.segment_names.specs.Naming.{HasUnknown}
 use Rattle.segment_names.specs.declared.name_fault.NameFault.{NameFault}
 use Rattle.session_rules.specs.KeptTraces.{kept_with}
 use Rattle.trace_types.specs.declared.named_trace.NamedTrace.{NamedTrace}
 use Rattle.trace_types.specs.declared.trace.Trace.{Trace}
-use Rattle.batch_sheets.specs.declared.tries.Tried.{Tried}
-use Rattle.batch_sheets.specs.declared.tries.Tried.TheVariants.{Named, Unknown}
-use Rattle.batch_sheets.specs.Named.{HasFewSegments, IsKnownTrace}
+use Rattle.event_table.specs.Texts.{TextLists}
+use Rattle.segment_cut.specs.NumberedCuts.{NumberedCut}
+use Rattle.batch_sheets.specs.declared.known_names.NamedOrNew.{NamedOrNew}
+use Rattle.batch_sheets.specs.declared.known_names.NamedOrNew.TheVariants.{Named, New}
+use Rattle.batch_sheets.specs.Named.{HasFewSegments}
 
--- what came of trying to name a trace: it is named, with this grace, or it is given back, as some
--- name of it is not in the catalogue
-abbrev pub IsTried : Known → ℕ → Trace → Tried → Type 0
-IsTried known grace trace (Named named) = IsShown known named (kept_with grace trace)
-IsTried known grace trace (Unknown back) = (back ≡ trace) × (IsKnownTrace known trace → ⊥)
+-- the trace has few segments, and its numbers stand for these texts
+pub record IsToBeNamed (texts : TextLists) (c : NumberedCut) : Type 0 where
+  pub few : HasFewSegments c.trace
+  pub same_texts : c.texts ≡ texts
 
--- a trace that is given back has few segments
-abbrev pub HasFewTried : Tried → Type 0
-HasFewTried (Named named) = ⊤
-HasFewTried (Unknown trace) = HasFewSegments trace
+-- the trace is named, with this grace, or it is as it was and some name of it is not in the
+-- catalogue
+abbrev pub IsNamedOrNew : Known → ℕ → Trace → NamedOrNew → Type 0
+IsNamedOrNew known grace trace (Named named) = IsShown known named (kept_with grace trace)
+IsNamedOrNew known grace trace (New cut) = (cut.trace ≡ trace) × HasUnknown known trace.segments
+
+-- a trace with a new name has few segments
+abbrev pub HasFewIfNew : NamedOrNew → Type 0
+HasFewIfNew (Named named) = ⊤
+HasFewIfNew (New cut) = HasFewSegments cut.trace
 
 -- the names and tasks of the traces are added, no limit being passed by any of them, and the named
 -- traces are these, with this grace, under the catalogue's numbers then
@@ -31,20 +39,19 @@ pub record AddsAndNames (old new : Known) (grace : ℕ) (traces : List Trace)
   pub fits : (j : ℕ) → j ≤ length traces → Fits (with_traces old (take j traces))
   pub shown : AreShown new named (map (kept_with grace) traces)
 
--- likewise of the named traces behind those from before
+-- the same, with the named traces appended to those from before
 abbrev pub AppendsNamed : Known → Known → ℕ → List Trace → List NamedTrace → List NamedTrace
     → Type 0
 AppendsNamed old new grace traces before now = (more : List NamedTrace) × (now ≡ before ++ more)
     × AddsAndNames old new grace traces more
 
--- a trace that is named already is taken as it is, and the names of one that was given back are
--- added
-abbrev pub IsSettled : ℕ → Known → Known → Tried → NamedTrace → Type 0
-IsSettled grace old new (Named named) result = (new ≡ old) × (result ≡ named)
-IsSettled grace old new (Unknown trace) result =
-    AddsAndNames old new grace (trace ∷ []) (result ∷ [])
+-- a trace that is named is taken as it is, and the names of a new one are added
+abbrev pub CompletesOne : ℕ → Known → Known → NamedOrNew → NamedTrace → Type 0
+CompletesOne grace old new (Named named) result = (new ≡ old) × (result ≡ named)
+CompletesOne grace old new (New cut) result =
+    AddsAndNames old new grace (cut.trace ∷ []) (result ∷ [])
 
--- the names of a trace that was given back pass this limit
-abbrev pub PassesTried : Known → Tried → NameFault → Type 0
-PassesTried known (Named named) fault = ⊥
-PassesTried known (Unknown trace) fault = PassesLimit known (trace ∷ []) fault
+-- the names of a new trace pass this limit
+abbrev pub PassesIfNew : Known → NamedOrNew → NameFault → Type 0
+PassesIfNew known (Named named) fault = ⊥
+PassesIfNew known (New cut) fault = PassesLimit known (cut.trace ∷ []) fault

@@ -1,12 +1,11 @@
--- Digests of texts in groups, and the chain of a table that has a digest.
-use Rattle.std.specs.Prelude.{ℕ, ◌*◌, ◌/◌, ◌%◌, ◌^◌, List, bit_xor}
+-- Digests of messages, and the chain of a table that has a digest.
+use Rattle.std.specs.Prelude.{ℕ, ◌*◌, ◌/◌, ◌^◌, List}
 use Rattle.std.specs.Hash.FoldHasher.{initial, write, finish}
 
--- 64 bits that tell most texts and groups apart
-unfoldable pub digest_of : ℕ → List ℕ → ℕ
-digest_of group text =
-    bit_xor (finish (write initial text)) ((group * 0x9e37_79b9_7f4a_7c15) % 2 ^ 64)
+-- 64 bits that tell most messages apart
+unfoldable pub digest_of : List ℕ → ℕ
+digest_of message = finish (write initial message)
 
--- which one of so many chains has the texts with a digest
+-- which one of so many chains has the keys with a digest
 unfoldable pub chain_of : ℕ → ℕ → ℕ
 chain_of count digest = (digest * count) / 2 ^ 64

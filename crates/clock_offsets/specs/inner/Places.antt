@@ -1,4 +1,4 @@
--- Tables of texts with the indices of events.
+-- Tables of messages with the indices of events.
 use Rattle.std.specs.Prelude.{◌≡◌, ℕ, ◌<◌, Option, Some, None, List, slice_index_or}
 use Rattle.trace_types.specs.declared.event.Event.{Event}
 use Rattle.trace_types.specs.Events.{sends_of, receipts_of}
@@ -6,21 +6,9 @@ use Rattle.trace_types.specs.Repeats.{IsLineOfRepeat}
 use Rattle.clock_offsets.specs.declared.clock_fault.ClockFault.{ClockFault}
 use Rattle.clock_offsets.specs.declared.clock_fault.ClockFault.TheVariants.{RepeatedSend}
 use Rattle.clock_offsets.specs.declared.clock_fault.ClockFault.TheVariants.{RepeatedRecv}
-use Rattle.clock_offsets.specs.TextPlaces.{TextPlace, place_in}
-use Rattle.clock_offsets.specs.declared.first_events.Field.{Field}
-use Rattle.clock_offsets.specs.declared.first_events.Field.TheVariants.{Machine, Task}
+use Rattle.clock_offsets.specs.inner.MessagePlaces.{MessagePlace, place_in}
 use Rattle.clock_offsets.specs.declared.places.End.{End}
 use Rattle.clock_offsets.specs.declared.places.End.TheVariants.{Sending, Receipt}
-
--- the text of an event in a field
-abbrev pub field_of : Field → Event → List ℕ
-field_of Machine e = e.machine
-field_of Task e = e.task
-
--- the message of an event at an end
-abbrev pub message_at : End → Event → Option (List ℕ)
-message_at Sending e = e.send
-message_at Receipt e = e.recv
 
 -- the message of each event at an end
 abbrev pub messages_at : End → List Event → List (Option (List ℕ))
@@ -32,17 +20,13 @@ abbrev pub repeat_at : End → ℕ → ClockFault
 repeat_at Sending line = RepeatedSend line
 repeat_at Receipt line = RepeatedRecv line
 
--- the index that a table has for a text, where all texts are of one group
-abbrev pub index_in : List TextPlace → List ℕ → Option ℕ
-index_in places text = place_in places 0 text
-
 -- the table has the indices of the first n keys, which differ
 pub record AreIndices (keys : List (Option (List ℕ))) (n : ℕ)
-    (places : List TextPlace) : Type 0 where
-  pub right : (text : List ℕ) (p : ℕ) → index_in places text ≡ Some p → (p < n)
+    (places : List MessagePlace) : Type 0 where
+  pub right : (text : List ℕ) (p : ℕ) → place_in places text ≡ Some p → (p < n)
       × (slice_index_or keys p None ≡ Some text)
   pub all : (text : List ℕ) (p : ℕ) → p < n → slice_index_or keys p None ≡ Some text
-      → index_in places text ≡ Some p
+      → place_in places text ≡ Some p
 
 -- the fault is that a message occurs twice at an end, on the first such line
 abbrev pub IsRepeatAt : List Event → End → ClockFault → Type 0

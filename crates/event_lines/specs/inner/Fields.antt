@@ -1,7 +1,7 @@
 -- The fields that the code reads of an event line, and the members that they are.
 use Rattle.std.specs.Prelude.{◌≡◌, ◌*◌, false, codes, Some, option_map, unwrap_or}
 use Rattle.serde_json.specs.Data.{Data}
-use Rattle.event_lines.specs.declared.event_fields.EventFields.{EventFields}
+use Rattle.event_table.specs.declared.event_fields.EventFields.{EventFields}
 use Rattle.event_lines.specs.Members.{text_at, number_at}
 use Rattle.event_lines.specs.TimeUnits.{time_unit_of, nanoseconds_in}
 use Rattle.event_lines.specs.EventFaults.{lacks_member, has_wrong_kind, is_out_of_range, time_name}

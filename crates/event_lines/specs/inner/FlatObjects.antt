@@ -8,7 +8,7 @@ use Rattle.serde_json.specs.Data.{Data, Members, object, number, string, unsigne
 use Rattle.serde_json.specs.Read.{of_members, converted}
 use Rattle.serde_json.specs.Find.{get_member}
 use Rattle.event_lines.specs.declared.flat_lines.FlatMembers.{FlatMembers}
-use Rattle.event_lines.specs.declared.event_fields.EventFields.{EventFields}
+use Rattle.event_table.specs.declared.event_fields.EventFields.{EventFields}
 use Rattle.event_lines.specs.LineResults.{json_value}
 use Rattle.event_lines.specs.Members.{has_member}
 use Rattle.event_lines.specs.inner.Fields.{AreFields}

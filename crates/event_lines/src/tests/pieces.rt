@@ -57,7 +57,8 @@ const INPUTS: [(&str, &str); 13] = [
 
 /// Prints the number of each line of a run with the name of its event or its command.
 fn print_run(alloc: Global, run: &LineRun, printed: &mut Vec<String>) -> Result<(), AllocError> {
-    for event in &run.events {
+    for index in 0..run.events.len() {
+        let event = run.events.event(index);
         printed.push(format!(in alloc; "{} {}", event.line, event.event.as_str())?)?;
     }
     if let Some(control) = run.control {
@@ -160,7 +161,7 @@ fn count_runs<R: Threads + Sync>(
     Some(lines.into_runs().len())
 }
 
-/// A piece of fewer than 2,048 lines is one run.
+/// A piece of fewer than 65,536 events is one run.
 #[test]
 fn a_long_input_is_read_in_a_piece_for_each_worker(rt: HostRuntime) -> Result<(), Fail> {
     let blanks = " ".repeat(rt.alloc(), 99)?;

@@ -1,6 +1,6 @@
 -- The keys by which events are sorted, and the pairs of adjacent keys.
-use Rattle.std.specs.Prelude.{◌≡◌, ◌⊎◌, ◌==◌, if◌then◌else◌, ℕ, ◌<◌, ℤ, pos, ◌<ℤ◌, ◌≤ℤ◌, List, []}
-use Rattle.std.specs.Prelude.{◌∷◌, ◌++◌, length, slice_index_or}
+use Rattle.std.specs.Prelude.{◌≡◌, ◌⊎◌, ◌==◌, if◌then◌else◌, ℕ, ◌<◌, ℤ, pos, ◌<ℤ◌, List, []}
+use Rattle.std.specs.Prelude.{◌∷◌, ◌++◌, length, map, slice_index_or}
 use Rattle.segment_cut.specs.AdjustedTimes.{adjusted_at}
 
 -- the key of an event: the index of its task's first event, its adjusted time and its index
@@ -14,6 +14,21 @@ no_key = (0, pos 0, 0)
 -- the key at an index of the order
 abbrev pub key_at : List Key → ℕ → Key
 key_at keys p = slice_index_or keys p no_key
+
+-- the adjusted time in each key
+abbrev pub key_times : List Key → List ℤ
+key_times keys = map (λ (k : Key). k.1) keys
+
+-- the key at an index is that of the event with this index, whose task has this first event
+pub record AreInLineOrder (tasks : List ℕ) (keys : List Key) : Type 0 where
+  pub each : length keys ≡ length tasks
+  pub task : (p : ℕ) → p < length keys → (key_at keys p).0 ≡ slice_index_or tasks p 0
+  pub place : (p : ℕ) → p < length keys → (key_at keys p).2 ≡ p
+
+-- the times are those in the keys of the events
+abbrev pub HaveTimes : List Key → List ℤ → Type 0
+HaveTimes keys times = (p : ℕ) → p < length keys
+    → adjusted_at times (key_at keys p).2 ≡ (key_at keys p).1
 
 -- one key is before another
 abbrev pub IsKeyBefore : Key → Key → Type 0
@@ -38,8 +53,3 @@ pairs_from a (b ∷ rest) = (if a.0 == b.0 then (a.2, b.2) ∷ [] else []) ++ pa
 abbrev pub adjacent_pairs : List Key → List (ℕ × ℕ)
 adjacent_pairs [] = []
 adjacent_pairs (a ∷ rest) = pairs_from a rest
-
--- two of n events, of which the first has no greater time
-abbrev pub ArePlacesInOrder : ℕ → List ℤ → ℕ × ℕ → Type 0
-ArePlacesInOrder n times places = (places.0 < n) × (places.1 < n)
-    × (adjusted_at times places.0 ≤ℤ adjusted_at times places.1)

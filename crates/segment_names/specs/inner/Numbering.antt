@@ -51,7 +51,7 @@ pub record AreNumbered (known : Known) (segments : List Segment)
   pub numbers : NumbersFirst known elements segments (length segments) named
   pub kept : IsKept known
 
--- there was no memory, or this segment is the first that is not known
+-- out of memory, or this segment is the first that is not known
 abbrev pub IsCause : Known → List Segment → Unnamed → Type 0
 IsCause known segments Memory = Unit {0}
 IsCause known segments (Unknown segment) = IsFirstUnknown known segments segment

@@ -4,4 +4,4 @@ use Rattle.clock_offsets.proofs.digests.digest.Goals as goal
 
 pub returns : goal.returns
 unfolding digest_of
-returns c = rw (c.finish.ensures, c.write.ensures, c.default-hasher.ensures, c.as_bytes.ensures.value) refl
+returns c = rw (c.finish.ensures, c.write.ensures, c.default-hasher.ensures) refl

@@ -19,29 +19,32 @@ some_from n h = ⊎_elim (λ (lt : 0 < n). lt) (λ (le : n ≤ 0). let same : n 
 
 pub outward-init : goal.outward-init
 outward-init c =
-    let zeros : c.in_ok-offsets.offsets.items ≡ replicate (length c.args.events.now) (pos 0) = c.in_ok-offsets.ensures.items_if_clones_equal (λ y h. h) in
-    let found = visited_start c.args.events.now c.args.numbers.now (length c.args.events.now) (get_or c.args.numbers.now 0 0) c.requires.numbered c.requires.some refl refl in
-    let within : get_or c.args.numbers.now 0 0 < length c.args.events.now = c.requires.numbered.within 0 c.requires.some in
-    let less = unvisited_start (length c.args.events.now) (get_or c.args.numbers.now 0 0) within in
+    let n : ℕ = c.len-count.result in
+    let all : n ≡ length c.args.trace.now.trace.events = c.len-count.ensures.events in
+    let some : 0 < length c.args.trace.now.trace.events = omega (arith, c.len-count.ensures.some) in
+    let zeros : c.in_ok-offsets.offsets.items ≡ replicate n (pos 0) = c.in_ok-offsets.ensures.items_if_clones_equal (λ y h. h) in
+    let found = visited_start c.args.trace.now.trace.events c.args.numbers.now n (get_or c.args.numbers.now 0 0) c.requires.numbered some all refl in
+    let within : get_or c.args.numbers.now 0 0 < length c.args.trace.now.trace.events = c.requires.numbered.within 0 some in
+    let less = unvisited_start n (get_or c.args.numbers.now 0 0) (omega arith) in
     rw (c.in_ok-depths.ensures, zeros, c.in_ok-frontier.ensures.items) (record {
       visited = found;
-      frontier = frontier_start (length c.args.events.now) (get_or c.args.numbers.now 0 0) within;
-      offsets = offsets_start c.args.events.now c.args.numbers.now (length c.args.events.now) _ c.requires.some refl found;
+      frontier = frontier_start n (get_or c.args.numbers.now 0 0) (omega arith);
+      offsets = offsets_start c.args.trace.now.trace.events c.args.numbers.now n _ some all found;
       low = omega (arith, less);
       rising = λ _. omega (arith, less);
     })
 
 pub visit_next-requires-clause-frontier : goal.visit_next-requires-clause-frontier
 visit_next-requires-clause-frontier c = rw c.deref.ensures.value (λ k d lt.
-    let links : length c.args.links.now ≡ length c.args.events.now = c.requires.linked.each in
-    let below = frontier_below c.args.events.now c.args.numbers.now c.outward.depth c.outward.depths.items c.outward.frontier.items (get_or c.outward.frontier.items k d) c.requires.numbered c.outward.invariant.visited c.outward.invariant.frontier (Contains-get_or c.outward.frontier.items k d lt) in
+    let links : length c.args.links.now ≡ length c.args.trace.now.trace.events = c.requires.linked.each in
+    let below = frontier_below c.args.trace.now.trace.events c.args.numbers.now c.outward.depth c.outward.depths.items c.outward.frontier.items (get_or c.outward.frontier.items k d) c.requires.numbered c.outward.invariant.visited c.outward.invariant.frontier (Contains-get_or c.outward.frontier.items k d lt) in
     omega (arith, below))
 
 pub visit_next-requires-clause-within : goal.visit_next-requires-clause-within
 visit_next-requires-clause-within c = λ v lt l h.
-    let links : length c.args.links.now ≡ length c.args.events.now = c.requires.linked.each in
-    let depths : length c.outward.depths.items ≡ length c.args.events.now = c.outward.invariant.visited.each in
-    let below : l.to < length c.args.events.now = links_below c.args.events.now c.args.numbers.now c.args.links.now v c.requires.numbered c.requires.linked (omega arith) l h in
+    let links : length c.args.links.now ≡ length c.args.trace.now.trace.events = c.requires.linked.each in
+    let depths : length c.outward.depths.items ≡ length c.args.trace.now.trace.events = c.outward.invariant.visited.each in
+    let below : l.to < length c.args.trace.now.trace.events = links_below c.args.trace.now.trace.events c.args.numbers.now c.args.links.now v c.requires.numbered c.requires.linked (omega arith) l h in
     rw c.deref_mut.ensures.value (omega arith)
 
 pub visit_next-requires-clause-new : goal.visit_next-requires-clause-new
@@ -55,8 +58,8 @@ set_offsets-requires-clause-visited c =
     let kept : length c.visit_next.new.depths ≡ c.outward.depths.len = omega (arith, c.visit_next.auto.depths, c.deref_mut.ensures.len) in
     let visited : Visits (FrontierLinksTo c.args.links.now c.outward.frontier.items) (suc c.outward.depth) c.outward.depths.items c.visit_next.new.depths =
     rw (← c.deref.ensures.value, ← c.deref_mut.ensures.value, ← add-one) c.in_ok-next.ensures.visited in
-    let found : AreVisitedTo c.args.events.now c.args.numbers.now (suc c.outward.depth) c.visit_next.new.depths =
-    visited_further c.args.events.now c.args.numbers.now c.args.links.now c.outward.depth c.outward.depths.items c.visit_next.new.depths c.outward.frontier.items c.requires.numbered c.requires.linked c.outward.invariant.visited c.outward.invariant.frontier visited in
+    let found : AreVisitedTo c.args.trace.now.trace.events c.args.numbers.now (suc c.outward.depth) c.visit_next.new.depths =
+    visited_further c.args.trace.now.trace.events c.args.numbers.now c.args.links.now c.outward.depth c.outward.depths.items c.visit_next.new.depths c.outward.frontier.items c.requires.numbered c.requires.linked c.outward.invariant.visited c.outward.invariant.frontier visited in
     rw (c.deref-in-outward.ensures.value, written c.outward.depths.len c.visit_next.new.depths c.outward.depths.items kept, add-one) found
 
 pub set_offsets-requires-clause-set : goal.set_offsets-requires-clause-set
@@ -65,7 +68,7 @@ set_offsets-requires-clause-set c =
     let visited : Visits (FrontierLinksTo c.args.links.now c.outward.frontier.items) (suc c.outward.depth) c.outward.depths.items c.visit_next.new.depths =
     rw (← c.deref.ensures.value, ← c.deref_mut.ensures.value, ← add-one) c.in_ok-next.ensures.visited in
     rw (c.deref-in-outward.ensures.value, written c.outward.depths.len c.visit_next.new.depths c.outward.depths.items kept, c.deref_mut-in-outward.ensures.value)
-    (offsets_kept (FrontierLinksTo c.args.links.now c.outward.frontier.items) c.args.events.now c.outward.depth c.outward.depths.items c.visit_next.new.depths c.outward.offsets.items c.outward.invariant.offsets visited)
+    (offsets_kept (FrontierLinksTo c.args.links.now c.outward.frontier.items) c.args.trace.now.trace.events c.outward.depth c.outward.depths.items c.visit_next.new.depths c.outward.offsets.items c.outward.invariant.offsets visited)
 
 pub outward-preserved : goal.outward-preserved
 outward-preserved c =
@@ -73,13 +76,13 @@ outward-preserved c =
     let kept_offsets : length c.set_offsets.new.offsets ≡ c.outward.offsets.len = omega (arith, c.set_offsets.auto.offsets, c.deref_mut-in-outward.ensures.len) in
     let visited : Visits (FrontierLinksTo c.args.links.now c.outward.frontier.items) (suc c.outward.depth) c.outward.depths.items c.visit_next.new.depths =
     rw (← c.deref.ensures.value, ← c.deref_mut.ensures.value, ← add-one) c.in_ok-next.ensures.visited in
-    let found : AreVisitedTo c.args.events.now c.args.numbers.now (suc c.outward.depth) c.visit_next.new.depths =
-    visited_further c.args.events.now c.args.numbers.now c.args.links.now c.outward.depth c.outward.depths.items c.visit_next.new.depths c.outward.frontier.items c.requires.numbered c.requires.linked c.outward.invariant.visited c.outward.invariant.frontier visited in
-    let set : HaveOffsetsTo c.args.events.now (c.outward.depth + 1) c.visit_next.new.depths c.set_offsets.new.offsets =
-    subst (λ (ls : List (Option ℕ)). HaveOffsetsTo c.args.events.now (c.outward.depth + 1) ls c.set_offsets.new.offsets) (c.deref-in-outward.ensures.value ∙ written c.outward.depths.len c.visit_next.new.depths c.outward.depths.items kept) c.set_offsets.ensures in
+    let found : AreVisitedTo c.args.trace.now.trace.events c.args.numbers.now (suc c.outward.depth) c.visit_next.new.depths =
+    visited_further c.args.trace.now.trace.events c.args.numbers.now c.args.links.now c.outward.depth c.outward.depths.items c.visit_next.new.depths c.outward.frontier.items c.requires.numbered c.requires.linked c.outward.invariant.visited c.outward.invariant.frontier visited in
+    let set : HaveOffsetsTo c.args.trace.now.trace.events (c.outward.depth + 1) c.visit_next.new.depths c.set_offsets.new.offsets =
+    subst (λ (ls : List (Option ℕ)). HaveOffsetsTo c.args.trace.now.trace.events (c.outward.depth + 1) ls c.set_offsets.new.offsets) (c.deref-in-outward.ensures.value ∙ written c.outward.depths.len c.visit_next.new.depths c.outward.depths.items kept) c.set_offsets.ensures in
     let counted : unvisited c.visit_next.new.depths + vec_len c.in_ok-next.next ≡ unvisited c.outward.depths.items = rw (← c.deref_mut.ensures.value) c.in_ok-next.ensures.counted in
     let some : 0 < vec_len c.outward.frontier = some_from (vec_len c.outward.frontier) (sym c.is_empty.ensures ∙ c.outward-test.true) in
-    let rising : c.outward.depth + unvisited c.outward.depths.items < length c.args.events.now = c.outward.invariant.rising some in
+    let rising : c.outward.depth + unvisited c.outward.depths.items < length c.args.trace.now.trace.events = c.outward.invariant.rising some in
     rw (written c.outward.depths.len c.visit_next.new.depths c.outward.depths.items kept, written c.outward.offsets.len c.set_offsets.new.offsets c.outward.offsets.items kept_offsets) (record {
       visited = rw add-one found;
       frontier = c.in_ok-next.ensures.frontier;
@@ -91,5 +94,5 @@ outward-preserved c =
 pub returns : goal.returns
 returns c =
     let empty : c.outward.frontier.items ≡ [] = nil_from_length c.outward.frontier.items (omega (arith, c.outward.frontier.ok.0, (Decides-eqb (vec_len c.outward.frontier) 0).0 (sym c.is_empty.ensures ∙ c.outward-test.false))) in
-    offsets_end c.args.events.now c.args.numbers.now c.outward.depth c.outward.depths.items c.outward.offsets.items c.requires.numbered c.outward.invariant.visited
+    offsets_end c.args.trace.now.trace.events c.args.numbers.now c.outward.depth c.outward.depths.items c.outward.offsets.items c.requires.numbered c.outward.invariant.visited
     (subst (λ (vs : List ℕ). IsFrontier c.outward.depth c.outward.depths.items vs) empty c.outward.invariant.frontier) c.outward.invariant.offsets

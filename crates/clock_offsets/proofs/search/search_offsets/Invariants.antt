@@ -4,11 +4,11 @@ use Rattle.clock_offsets.proofs.search.search_offsets.Given as goal
 
 abbrev pub invariant-outward : goal.invariant-outward
 invariant-outward l = record {
-  visited : AreVisitedTo l.events l.numbers l.depth l.depths.items;
+  visited : AreVisitedTo l.trace.trace.events l.numbers l.depth l.depths.items;
   frontier : IsFrontier l.depth l.depths.items l.frontier.items;
-  offsets : HaveOffsetsTo l.events l.depth l.depths.items l.offsets.items;
-  low : l.depth + unvisited l.depths.items ≤ length l.events;
-  rising : 0 < vec_len l.frontier → l.depth + unvisited l.depths.items < length l.events;
+  offsets : HaveOffsetsTo l.trace.trace.events l.depth l.depths.items l.offsets.items;
+  low : l.depth + unvisited l.depths.items ≤ length l.trace.trace.events;
+  rising : 0 < vec_len l.frontier → l.depth + unvisited l.depths.items < length l.trace.trace.events;
 }
 
 abbrev pub decreases-outward : goal.decreases-outward

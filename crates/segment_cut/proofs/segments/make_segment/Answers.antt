@@ -1,21 +1,38 @@
-use Rattle.std.proofs.Common.{◌∙◌, pos, get_or, subst, List, ℕ, rules}
+use Rattle.std.proofs.Common.{◌≡◌, ◌∙◌, ℕ, List, [], sym, subst, rules}
 use Rattle.std.specs.Prelude.{FitsSigned}
 use Rattle.std.proofs.lemmas.Int.{to_z-of_z}
+use Rattle.std.proofs.lemmas.Option.{get_or_from_slice_get, slice_get_within}
 use mir.Syntax.{w64}
-use Rattle.segment_cut.specs.Elements.{HasElement}
-use Rattle.segment_cut.proofs.CutLemmas.{task_is, name_is}
+use Rattle.trace_types.specs.Events.{task_at, name_at}
+use Rattle.event_table.specs.Numbers.{text_under}
+use Rattle.segment_cut.specs.Elements.{HasElement, element_in}
+use Rattle.segment_cut.proofs.GivenLemmas.{given_element}
 use Rattle.segment_cut.proofs.segments.make_segment.Goals as goal
 
-pub returns : goal.returns
-returns c =
-    let first_fits : FitsSigned w64 (get_or c.args.times.now c.args.start (pos 0)) = search rules in
-    let second_fits : FitsSigned w64 (get_or c.args.times.now c.args.end (pos 0)) = search rules in
-    let name = name_is c.args.events.now c.args.start c.index-events-start.result c.requires.start c.index-events-start.is in
+pub returns-clause-segment : goal.returns-clause-segment
+returns-clause-segment c = λ times at_start at_end.
+    let texts = c.args.trace.now.texts in
+    let events = c.args.trace.now.trace.events in
+    let start = c.args.start in
+    let end = c.args.end in
+    let start_fits : FitsSigned w64 start.1 = search rules in
+    let end_fits : FitsSigned w64 end.1 = search rules in
+    let name : text_under texts.names c.event.result ≡ name_at events start.2 = get_or_from_slice_get texts.names c.event.result (name_at events start.2) [] c.event.ensures in
     record {
-      task = c.in_ok-copy.ensures ∙ task_is c.args.events.now c.args.start c.index-events-start.result c.requires.start c.index-events-start.is;
-      start_event = c.in_ok-copy-2.ensures ∙ name_is c.args.events.now c.args.start c.index-events-start.result c.requires.start c.index-events-start.is;
-      end_event = c.in_ok-copy-3.ensures ∙ name_is c.args.events.now c.args.end c.index-events-end.result c.requires.end c.index-events-end.is;
-      start = to_z-of_z w64 (get_or c.args.times.now c.args.start (pos 0)) first_fits;
-      end = to_z-of_z w64 (get_or c.args.times.now c.args.end (pos 0)) second_fits;
-      element = subst (λ (n : List ℕ). HasElement n c.in_ok-copy_element.field-0) (name_is c.args.events.now c.args.start c.index-events-start.result c.requires.start c.index-events-start.is) c.in_ok-copy_element.ensures;
+      task = get_or_from_slice_get texts.tasks c.task.result (task_at events start.2) [] c.task.ensures;
+      start_event = name;
+      end_event = get_or_from_slice_get texts.names c.event-2.result (name_at events end.2) [] c.event-2.ensures;
+      start = to_z-of_z w64 start.1 start_fits ∙ sym at_start;
+      end = to_z-of_z w64 end.1 end_fits ∙ sym at_end;
+      element = subst (λ (n : List ℕ). HasElement (name_at events start.2) (element_in n)) (sym name) (given_element (name_at events start.2));
+    }
+
+pub returns-clause-texts : goal.returns-clause-texts
+returns-clause-texts c =
+    let texts = c.args.trace.now.texts in
+    let events = c.args.trace.now.trace.events in
+    record {
+      task = slice_get_within texts.tasks c.task.result (task_at events c.args.start.2) c.task.ensures;
+      start_event = slice_get_within texts.names c.event.result (name_at events c.args.start.2) c.event.ensures;
+      end_event = slice_get_within texts.names c.event-2.result (name_at events c.args.end.2) c.event-2.ensures;
     }

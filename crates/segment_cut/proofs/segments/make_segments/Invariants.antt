@@ -1,7 +1,6 @@
-use Rattle.std.proofs.Common.{take}
-use Rattle.std.specs.List.{AllZip}
-use Rattle.segment_cut.specs.Cutting.{IsSegment}
+use Rattle.std.proofs.Common.{◌-◌}
+use Rattle.segment_cut.proofs.SegmentLemmas.{AreSegmentsTo}
 use Rattle.segment_cut.proofs.segments.make_segments.Given as goal
 
-abbrev pub invariant-loop-start : goal.invariant-loop-start
-invariant-loop-start l = AllZip (IsSegment l.events l.times) (take l.start-index l.pairs) l.segments.items
+abbrev pub invariant-loop-at : goal.invariant-loop-at
+invariant-loop-at l = AreSegmentsTo l.trace.texts l.trace.trace.events l.keys (l.at - 1) l.segments.items

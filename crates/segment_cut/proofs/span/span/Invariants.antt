@@ -1,9 +1,11 @@
-use Rattle.std.proofs.Common.{◌≡◌, take, pos, fold, get_or}
+use Rattle.std.proofs.Common.{◌≡◌, take, fold}
 use Rattle.std.specs.Int.{int_max, int_min}
+use Rattle.segment_cut.specs.inner.Keys.{key_times}
+use Rattle.segment_cut.proofs.SpanLemmas.{first_of}
 use Rattle.segment_cut.proofs.span.span.Given as goal
 
-abbrev pub invariant-loop-time : goal.invariant-loop-time
-invariant-loop-time l = record {
-  greatest : l.greatest ≡ fold int_max (get_or l.times 0 (pos 0)) (take l.time-index l.times);
-  least : l.least ≡ fold int_min (get_or l.times 0 (pos 0)) (take l.time-index l.times);
+abbrev pub invariant-loop-task : goal.invariant-loop-task
+invariant-loop-task l = record {
+  greatest : l.greatest ≡ fold int_max (first_of (key_times l.keys)) (take l._task-index (key_times l.keys));
+  least : l.least ≡ fold int_min (first_of (key_times l.keys)) (take l._task-index (key_times l.keys));
 }

@@ -1,32 +1,41 @@
-use Rattle.std.proofs.Common.{sym, ap, ◌∙◌, subst, ◌≡◌, ◌∷◌, [], ◌++◌, List, ℕ, Bool, false, if◌then◌else◌}
+use Rattle.std.proofs.Common.{◌≡◌, ℕ, List, [], ◌∷◌, ◌++◌, Bool, true, false, if◌then◌else◌, Some, refl, sym, ap, ◌∙◌, subst, append-nil}
 use Rattle.std.specs.Str.{bytes_eq}
 use Rattle.std.specs.List.{list_any}
-use Rattle.indexmap.specs.IndexSet.{insert_key}
+use Rattle.trace_types.specs.Firsts.{firsts_of}
 use Rattle.segment_names.specs.inner.Filing.{AreDifferent}
-use Rattle.segment_names.proofs.FirstLemmas.{firsts-there, firsts-new, differ-new}
-use Rattle.segment_names.proofs.FindLemmas.{any-some, any-none, found-there}
+use Rattle.segment_names.proofs.FirstLemmas.{differ-new, firsts-push, firsts-same, with_key}
 use Rattle.segment_names.proofs.TextLemmas.{text_means, text_own}
 use Rattle.segment_names.proofs.tables.intern.Goals as goal
 
-pub returns-in-Some-clause-keys : goal.returns-in-Some-clause-keys
-returns-in-Some-clause-keys c = let keys = c.args.texts.now.keys in let text = c.args.text.now in
-    sym (firsts-there bytes_eq text_means text_own keys text c.requires (any-some (bytes_eq text) keys c.in-Some.index (sym c.in-Some.ensures.index)))
+-- the texts with one more, where the test says whether it is there
+by_test : (keys : List (List ℕ)) (text : List ℕ) (b : Bool) → list_any (bytes_eq text) keys ≡ b → with_key bytes_eq keys text ≡ (if b then keys else keys ++ text ∷ [])
+by_test keys text b e = ap (λ (c : Bool). if c then keys else keys ++ text ∷ []) e
 
-pub returns-in-Some-clause-index : goal.returns-in-Some-clause-index
-returns-in-Some-clause-index c = found-there bytes_eq text_means text_own c.args.texts.now.keys c.args.text.now c.in-Some.index (sym c.in-Some.ensures.index)
+differ : (keys : List (List ℕ)) (text : List ℕ) → AreDifferent keys → AreDifferent (with_key bytes_eq keys text)
+differ keys text d = by (list_any (bytes_eq text) keys) refl
+  where
+    by : (b : Bool) → list_any (bytes_eq text) keys ≡ b → AreDifferent (with_key bytes_eq keys text)
+    by true e = subst AreDifferent (sym (by_test keys text true e)) d
+    by false e = subst AreDifferent (sym (by_test keys text false e)) (differ-new bytes_eq text_means text_own keys text d e)
 
--- a new text stands last
-pushed : (keys new : List (List ℕ)) (text copy : List ℕ) → copy ≡ text → list_any (bytes_eq text) keys ≡ false → new ≡ insert_key bytes_eq keys copy → new ≡ keys ++ text ∷ []
-pushed keys new text copy same none e = e ∙ ap (λ (t : List ℕ). insert_key bytes_eq keys t) same ∙ ap (λ (b : Bool). if b then keys else keys ++ text ∷ []) none
+grown : (keys : List (List ℕ)) (text : List ℕ) → (more : List (List ℕ)) × (with_key bytes_eq keys text ≡ keys ++ more)
+grown keys text = by (list_any (bytes_eq text) keys) refl
+  where
+    by : (b : Bool) → list_any (bytes_eq text) keys ≡ b → (more : List (List ℕ)) × (with_key bytes_eq keys text ≡ keys ++ more)
+    by true e = ([], by_test keys text true e ∙ sym (append-nil keys))
+    by false e = (text ∷ [], by_test keys text false e)
 
-pub returns-in_ok-index-in-None-clause-differ : goal.returns-in_ok-index-in-None-clause-differ
-returns-in_ok-index-in-None-clause-differ c = let keys = c.args.texts.now.keys in let text = c.args.text.now in
-    let none = any-none (bytes_eq text) keys (sym c.in-None.ensures.index) in
-    subst AreDifferent (sym (pushed keys c.insert_full.new.self.keys text c.in_ok-copy-in-None.field-0 c.in_ok-copy-in-None.ensures none c.in_ok-index-in-None.ensures.keys))
-    (differ-new bytes_eq text_means text_own keys text c.requires none)
+firsts : (keys : List (List ℕ)) (text : List ℕ) → AreDifferent keys → with_key bytes_eq keys text ≡ firsts_of bytes_eq (keys ++ text ∷ [])
+firsts keys text d = sym (firsts-push bytes_eq text_means text_own keys text ∙ ap (λ (l : List (List ℕ)). with_key bytes_eq l text) (firsts-same bytes_eq text_means text_own keys d))
 
-pub returns-in_ok-index-in-None-clause-keys : goal.returns-in_ok-index-in-None-clause-keys
-returns-in_ok-index-in-None-clause-keys c = let keys = c.args.texts.now.keys in let text = c.args.text.now in
-    let none = any-none (bytes_eq text) keys (sym c.in-None.ensures.index) in
-    pushed keys c.insert_full.new.self.keys text c.in_ok-copy-in-None.field-0 c.in_ok-copy-in-None.ensures none c.in_ok-index-in-None.ensures.keys
-    ∙ sym (firsts-new bytes_eq text_means text_own keys text c.requires none)
+pub returns-clause-differ : goal.returns-clause-differ
+returns-clause-differ c = subst AreDifferent (sym c.in_ok-index.ensures.keys) (differ c.args.texts.now.keys c.args.text c.requires)
+
+pub returns-clause-grown : goal.returns-clause-grown
+returns-clause-grown c = let g = grown c.args.texts.now.keys c.args.text in (g.0, c.in_ok-index.ensures.keys ∙ g.1)
+
+pub returns-clause-keys : goal.returns-clause-keys
+returns-clause-keys c = c.in_ok-index.ensures.keys ∙ firsts c.args.texts.now.keys c.args.text c.requires
+
+pub returns-clause-index : goal.returns-clause-index
+returns-clause-index c = let s = c.in_ok-index.ensures.stored in s.1 ∙ ap (λ (t : List ℕ). Some t) (sym (text_means c.args.text s.0 s.2))

@@ -1,0 +1,17 @@
+pub mod BlockLemmas
+pub mod CountLemmas
+pub mod CutLemmas
+pub mod FillLemmas
+pub mod FirstLemmas
+pub mod GroupLemmas
+pub mod KeptLemmas
+pub mod LimitLemmas
+pub mod LookLemmas
+pub mod MessageLemmas
+pub mod PartLemmas
+pub mod RenumberLemmas
+pub mod StartLemmas
+pub mod StepLemmas
+pub mod TableLemmas
+pub mod TextLemmas
+pub mod TraceLemmas

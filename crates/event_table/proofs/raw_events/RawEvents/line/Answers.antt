@@ -1,0 +1,10 @@
+use Rattle.std.proofs.Common.{sym}
+use Rattle.trace_types.specs.declared.event.Event.{Event}
+use Rattle.event_table.proofs.LookLemmas.{index_within, read_at}
+use Rattle.event_table.proofs.raw_events.RawEvents.line.Goals as goal
+
+pub event_at-requires : goal.event_at-requires
+event_at-requires c = index_within c.self.inside.texts.now c.self.inside.messages.now c.self.inside.events.now c.args.self.now c.self.view_is c.args.at c.requires
+
+pub returns : goal.returns
+returns c = sym (read_at c.self.inside.texts.now c.self.inside.messages.now c.self.inside.events.now c.args.self.now c.self.view_is c.args.at c.event_at.result.now c.event_at.ensures (λ (e : Event). e.line) 0)

@@ -1,0 +1,6 @@
+pub mod Cuts
+pub mod Gathered
+pub mod LentEvents
+pub mod Numbers
+pub mod Texts
+pub mod inner

@@ -1,0 +1,72 @@
+-- Events whose texts are numbers of tables, and whose messages are places in lists.
+use Rattle.std.specs.Prelude.{ℕ, ◌≡◌, ◌<◌, ◌==◌, ◌⊎◌, List, [], length, map, All}
+use Rattle.std.specs.Prelude.{slice_index_or}
+use Rattle.std.specs.Prelude.{Option, None, Some, option_map, if◌then◌else◌}
+use Rattle.trace_types.specs.declared.event.Event.{Event}
+use Rattle.event_table.specs.declared.event_fields.EventFields.{EventFields}
+use Rattle.event_table.specs.declared.event_numbers.EventNumbers.{EventNumbers}
+use Rattle.event_table.specs.Texts.{AreFewMessages, AreFewTexts, MessageLists, TextLists}
+
+-- the place that stands for no message
+abbrev pub no_message : ℕ
+no_message = 4294967295
+
+-- the text with this number
+abbrev pub text_under : List (List ℕ) → ℕ → List ℕ
+text_under texts number = slice_index_or texts number []
+
+-- the message at this place, if it is the place of one
+abbrev pub message_under : List (List ℕ) → ℕ → Option (List ℕ)
+message_under messages place =
+    if place == no_message then None else Some (text_under messages place)
+
+-- the event with these numbers
+abbrev pub event_under : TextLists → MessageLists → EventNumbers → Event
+event_under texts messages numbers = record {
+  line = numbers.line;
+  request = text_under texts.requests numbers.request;
+  machine = text_under texts.machines numbers.machine;
+  task = text_under texts.tasks numbers.task;
+  event = text_under texts.names numbers.event;
+  time = numbers.time;
+  send = message_under messages.sends numbers.send;
+  recv = message_under messages.receipts numbers.recv;
+}
+
+-- the events with these numbers
+abbrev pub events_under : TextLists → MessageLists → List EventNumbers → List Event
+events_under texts messages numbers = map (event_under texts messages) numbers
+
+-- the event of a line that says this
+abbrev pub event_of : ℕ → EventFields → Event
+event_of line fields = record {
+  line = line;
+  request = fields.request.now;
+  machine = fields.machine.now;
+  task = fields.task.now;
+  event = fields.event.now;
+  time = fields.time;
+  send = option_map (λ s. s.now) fields.send;
+  recv = option_map (λ s. s.now) fields.recv;
+}
+
+-- the place is that of one of so many messages, or stands for none
+abbrev pub IsPlace : ℕ → ℕ → Type 0
+IsPlace count place = (place ≡ no_message) ⊎ (place < count)
+
+-- the event's numbers are those of texts, and its places those of messages
+pub record AreWithin (texts : TextLists) (messages : MessageLists) (numbers : EventNumbers)
+    : Type 0 where
+  pub request : numbers.request < length texts.requests
+  pub machine : numbers.machine < length texts.machines
+  pub task : numbers.task < length texts.tasks
+  pub event : numbers.event < length texts.names
+  pub send : IsPlace (length messages.sends) numbers.send
+  pub recv : IsPlace (length messages.receipts) numbers.recv
+
+-- events whose texts and messages are these; there are at most as many of each kind as events
+pub record IsTable (texts : TextLists) (messages : MessageLists) (events : List EventNumbers)
+    : Type 0 where
+  pub within : All (AreWithin texts messages) events
+  pub few : AreFewTexts (length events) texts
+  pub few_messages : AreFewMessages (length events) messages

@@ -1,0 +1,89 @@
+use super::{Row, answer, is};
+use crate::TraceFault;
+use std::alloc::{AllocError, Global};
+use std::process::Abort;
+use std::test::Fail;
+use std::thread::Threads;
+
+/// Makes this many names.
+fn make_names(alloc: Global, count: u32) -> Result<Vec<String>, AllocError> {
+    let mut names = Vec::new(alloc);
+    for at in 0..count {
+        names.push(format!(in alloc; "name {at}")?)?;
+    }
+    Ok(names)
+}
+
+/// Makes two lines for each name, of a task of that name, on one machine and by rising time. The
+/// first of them sends a message of that name, and the second receives it.
+fn pairs_of<'a>(alloc: Global, names: &'a [String]) -> Result<Vec<Row<'a>>, AllocError> {
+    let mut rows = Vec::new(alloc);
+    for name in names {
+        let task = name.as_str();
+        let time = rows.len() as u64;
+        rows.push(("m", task, "sent", time, Some(task), None))?;
+        rows.push(("m", task, "received", time, None, Some(task)))?;
+    }
+    Ok(rows)
+}
+
+/// Cuts these lines with one more after them, and finds the fault.
+fn fault_with<R: Abort + AllocGlobal + Threads + Sync>(
+    rt: &R,
+    names: &[String],
+    more: Row,
+) -> Result<Option<TraceFault>, Fail> {
+    let mut rows = pairs_of(rt.alloc(), names)?;
+    rows.push(more)?;
+    Ok(answer(rt, &rows)?.err())
+}
+
+#[test]
+fn few_and_many_texts_are_told_apart_alike(rt: HostRuntime) -> Result<(), Fail> {
+    // 30 to 34 events and then 62 to 66, so that there are about 32 events, and then 32 messages
+    for count in [15u32, 16, 17, 31, 32, 33, 200] {
+        let names = make_names(rt.alloc(), count)?;
+        let found = answer(&rt, &pairs_of(rt.alloc(), &names)?)?;
+        assert!(rt; found.is_ok());
+        if let Ok(trace) = found {
+            let segments = trace.segments.items();
+            assert_eq!(rt; segments.len(), names.len());
+            assert!(rt;
+                segments
+                    .iter()
+                    .zip(&names)
+                    .all(|(s, name)| is(&s.task, name.as_str()))
+            );
+        }
+        let line = 2 * count + 1;
+        assert_eq!(rt;
+            fault_with(&rt, &names, ("m", "name 0", "sent", 0, None, None))?,
+            Some(TraceFault::RepeatedEvent { line })
+        );
+        assert_eq!(rt;
+            fault_with(
+                &rt,
+                &names,
+                ("n", "name 0", "again", 0, Some("name 14"), None)
+            )?,
+            Some(TraceFault::RepeatedSend { line })
+        );
+        assert_eq!(rt;
+            fault_with(
+                &rt,
+                &names,
+                ("n", "name 0", "again", 0, None, Some("name 0"))
+            )?,
+            Some(TraceFault::RepeatedRecv { line })
+        );
+        assert_eq!(rt;
+            fault_with(
+                &rt,
+                &names,
+                ("n", "name", "sent", 0, Some("nam"), Some("name 00"))
+            )?,
+            None
+        );
+    }
+    Ok(())
+}
