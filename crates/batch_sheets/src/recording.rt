@@ -36,7 +36,7 @@ pub struct RecordedDays {
     pub watched: Vec<DayLines>,
 }
 
-/// Records the traces of a day by so many workers beside one another.
+/// Records the traces of a day by so many workers, as `offer_all` does.
 fn record_day<R: Threads + Sync, G: Gate + Sync>(
     rt: &R,
     alloc: Global,

@@ -1,5 +1,5 @@
 -- Parts of a recording: what a worker makes of one, and how they are halved and joined.
-use Rattle.std.proofs.Common.{◌≡◌, ℕ, ◌+◌, ◌-◌, ◌/◌, ◌<◌, ◌≤◌, List, [], ◌∷◌, ◌++◌, length, length-append, length-drop, take, drop, refl, sym, ap, ap₂, ◌∙◌, subst, arith}
+use Rattle.std.proofs.Common.{◌≡◌, ℕ, ◌+◌, ◌-◌, ◌/◌, ◌<◌, ◌≤◌, List, [], ◌∷◌, ◌++◌, Result, Ok, Err, IfErr, IfOk, length, length-append, length-drop, take, drop, refl, sym, ap, ap₂, ◌∙◌, subst, arith}
 use Rattle.std.proofs.Math.Seq.{take-add}
 use Rattle.std.proofs.lemmas.List.{drop-drop, drop-take, length-take-le, take-append-drop, take-append-le, take-take, take_all}
 use Rattle.std.proofs.lemmas.List.Elements.{All-drop, All-take}
@@ -121,6 +121,18 @@ stopped_one recorder old new given names rows s =
       rows = subst HasRows same rows;
     }
 
+-- the same halves, by other names of them
+pub halves_as : (recorder : RecorderState) (worker : ℕ) (old mine theirs first other : PartState) → mine ≡ first → theirs ≡ other
+    → AreHalves recorder worker (recording_of old) (rest_of old) (recording_of first) (rest_of first) (recording_of other) (rest_of other)
+    → AreHalves recorder worker (recording_of old) (rest_of old) (recording_of mine) (rest_of mine) (recording_of theirs) (rest_of theirs)
+halves_as recorder worker old mine theirs first other one two halves =
+    subst (λ (p : PartState). AreHalves recorder worker (recording_of old) (rest_of old) (recording_of p) (rest_of p) (recording_of theirs) (rest_of theirs)) (sym one)
+    (subst (λ (p : PartState). AreHalves recorder worker (recording_of old) (rest_of old) (recording_of first) (rest_of first) (recording_of p) (rest_of p)) (sym two) halves)
+
+-- the same cut, by other names of its parts
+pub cut_as : (old mine theirs first other : PartState) → mine ≡ first → theirs ≡ other → IsCutInto old first other → IsCutInto old mine theirs
+cut_as old mine theirs first other one two cut = subst (λ (p : PartState). IsCutInto old p theirs) (sym one) (subst (λ (p : PartState). IsCutInto old first p) (sym two) cut)
+
 module _ (recorder : RecorderState) (every worker : ℕ) (old first other : PartState) (several : 1 < old.pass.view.shares)
     (halves : AreHalves recorder worker (recording_of old) (rest_of old) (recording_of first) (rest_of first) (recording_of other) (rest_of other)) (cut : IsCutInto old first other) where
   -- the first part's traces so far, as the whole part's
@@ -172,6 +184,28 @@ module _ (recorder : RecorderState) (every worker : ℕ) (old first other : Part
               (subst (λ (m : ℕ). AreRowsWithin m (take (length other.given) other.given) two.view.done) cut.other_names b.rows.rows));
         };
       }
+
+  -- the first half stands alone, as what was kept
+  pub block_kept_as : (pass one : Holding) (n : ℕ) (lines : List WatchLine) → pass ≡ one → n ≡ length first.given → HasRecorded recorder every worker first one lines → HasStoppedAt recorder old pass n
+  block_kept_as pass one n lines e long a =
+      subst (λ (p : Holding). HasStoppedAt recorder old p n) (sym e) (subst (λ (m : ℕ). HasStoppedAt recorder old one m) (sym long) (block_kept one lines a))
+
+  -- both halves recorded all their traces, and this is what they gave
+  pub block_recorded_as : (pass one two : Holding) (all lines more : List WatchLine) → pass ≡ together one two → all ≡ lines ++ more → HasRecorded recorder every worker first one lines
+      → HasRecorded recorder every (worker + old.pass.view.shares / 2) other two more → HasRecorded recorder every worker old pass all
+  block_recorded_as pass one two all lines more e sum a b =
+      subst (λ (p : Holding). HasRecorded recorder every worker old p all) (sym e)
+      (subst (λ (ls : List WatchLine). HasRecorded recorder every worker old (together one two) ls) (sym sum) (block_recorded one two lines more a b))
+
+-- what follows from what is known of an `Ok`
+pub if_ok_both : {A E : Type 0} (P Q R : A → Type 0) (r : Result A E) → ((a : A) → P a → Q a → R a) → IfOk r P → IfOk r Q → IfOk r R
+if_ok_both P Q R (Ok a) f p q = f a p q
+if_ok_both P Q R (Err e) f p q = tt
+
+-- what follows from what is known of an `Err`
+pub if_err_of : {A E : Type 0} (P Q : E → Type 0) (r : Result A E) → ((e : E) → P e → Q e) → IfErr r P → IfErr r Q
+if_err_of P Q (Ok a) f p = tt
+if_err_of P Q (Err e) f p = f e p
 
 -- the lines of a whole part are those of the recordings before and after
 pub watched_part : (every width n : ℕ) (part : PartState) (pass : Holding) (traces ts us : List NamedTrace) (lines : List WatchLine) → rest_of part ≡ traces

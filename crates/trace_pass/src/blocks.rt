@@ -1,5 +1,6 @@
-ghost use Rattle.std.specs.Prelude.{◌≡◌, ◌^◌, ◌<◌, ◌≤◌, IfErr, IfOk};
+ghost use Rattle.std.specs.Prelude.{◌≡◌, ◌^◌, ◌<◌, ◌≤◌, ◌++◌, IfErr, IfOk};
 ghost use Rattle.std.specs.Thread.{IsSync};
+ghost use Rattle.word_rule.specs.Holdings.{IsOf, together};
 ghost use Rattle.trace_pass.specs.Halving.{first_part};
 ghost use Rattle.trace_pass.specs.inner.Parts.{HasRows, IsCutInto, part_of, recording_of, rest_of};
 ghost use Rattle.trace_pass.specs.inner.Working.{AreHalves, CanOffer, HasRecorded, HasStoppedAt};
@@ -56,10 +57,32 @@ fn halve<'a>(recorder: &Recorder, part: Part<'a>, worker: u32) -> (Part<'a>, Par
     )
 }
 
-/// Offers the part's traces by a block of workers, of whom this one is the first, as many as the
-/// part has shares: one half of them beside the other. The only fault is that memory ran out.
-pub(crate) fn offer_block<R: Threads + Sync, G: Gate + Sync>(
-    rt: &R,
+/// Joins what the two halves of a block gave, of which the first one recorded so many traces. The
+/// only fault is that memory ran out, and then what the second half gave is dropped.
+fn join_halves(
+    recorder: &Recorder,
+    first: (Pass, Vec<WatchLine>),
+    recorded: usize,
+    second: (Pass, Vec<WatchLine>),
+) -> Result<(Pass, Vec<WatchLine>), Stopped>
+    requires first { IsOf recorder.now.table first.0 }
+    requires second { IsOf recorder.now.table second.0 }
+    ensures pass { IfOk result (λ r. r.0 ≡ together first.0 second.0) }
+    ensures lines { IfOk result (λ r. r.1.items ≡ first.1.items ++ second.1.items) }
+    ensures fault { IfErr result (λ f. (f.pass ≡ first.0) × (f.recorded ≡ recorded)) }
+{
+    let (mut pass, mut lines) = first;
+    let (other, mut more) = second;
+    if lines.append(&mut more).is_err() {
+        return Err(Stopped { pass, recorded });
+    }
+    recorder.table.join(&mut pass, other);
+    Ok((pass, lines))
+}
+
+/// Offers the part's traces by a block of workers, as `offer_block` does, one worker after another
+/// in this thread.
+fn offer_in_turn<G: Gate>(
     recorder: &Recorder,
     part: Part<'_>,
     worker: u32,
@@ -75,6 +98,42 @@ pub(crate) fn offer_block<R: Threads + Sync, G: Gate + Sync>(
     let shares = part.shares();
     if shares < 2 {
         return offer_part(recorder, part, worker, every, gate);
+    }
+    let (mine, other) = halve(recorder, part, worker);
+    let kept = mine.given.len();
+    let first = match offer_in_turn(recorder, mine, worker, every, gate) {
+        Ok(first) => first,
+        Err(fault) => return Err(fault),
+    };
+    let Ok(second) = offer_in_turn(recorder, other, worker + shares / 2, every, gate) else {
+        return Err(Stopped {
+            pass: first.0,
+            recorded: kept,
+        });
+    };
+    join_halves(recorder, first, kept, second)
+}
+
+/// Offers the part's traces by a block of workers, of whom this one is the first, as many as the
+/// part has shares: one half of them beside the other. With a gate that never waits, workers
+/// with little to do take turns in one thread. The only fault is that memory ran out.
+pub(crate) fn offer_block<R: Threads + Sync, G: Gate + Sync>(
+    rt: &R,
+    recorder: &Recorder,
+    part: Part<'_>,
+    worker: u32,
+    every: u32,
+    gate: &G,
+) -> Result<(Pass, Vec<WatchLine>), Stopped>
+    requires { CanOffer recorder.now (recording_of part) (rest_of part) worker }
+    ensures ok { IfOk result
+        (λ r. HasRecorded recorder.now every worker part.entry r.0 r.1.items) }
+    ensures fault { IfErr result
+        (λ f. HasStoppedAt recorder.now part.entry f.pass f.recorded) }
+{
+    let shares = part.shares();
+    if shares < 2 || gate.never_waits() && part.has_little_work() {
+        return offer_in_turn(recorder, part, worker, every, gate);
     }
     let next = worker + shares / 2;
     let (mine, other) = halve(recorder, part, worker);
@@ -142,20 +201,11 @@ pub(crate) fn offer_block<R: Threads + Sync, G: Gate + Sync>(
         Ok(first) => first,
         Err(fault) => return Err(fault),
     };
-    let (mut pass, mut lines) = first;
     let Ok(second) = second else {
         return Err(Stopped {
-            pass,
+            pass: first.0,
             recorded: kept,
         });
     };
-    let (other, mut more) = second;
-    if lines.append(&mut more).is_err() {
-        return Err(Stopped {
-            pass,
-            recorded: kept,
-        });
-    }
-    recorder.table.join(&mut pass, other);
-    Ok((pass, lines))
+    join_halves(recorder, first, kept, second)
 }

@@ -24,6 +24,14 @@ pub(crate) struct Part<'a> {
     pub(crate) names: u32,
 }
 
+/// Work below this is little, in nanoseconds, roughly: ten times what it takes to start a thread
+/// and join it.
+const LITTLE_WORK: usize = 262_144;
+
+/// What it takes to offer a trace, in nanoseconds, roughly, beside one for each pair of its
+/// segments.
+const TRACE_WORK: usize = 256;
+
 /// What is left of a part: its pass, and how many of its traces are recorded.
 #[derive(Drop)]
 pub(crate) struct Stopped {
@@ -72,6 +80,21 @@ impl Part<'_> {
         ensures counts { self.now.recorded + result ≡ length self.now.given }
     {
         self.given.len() - self.recorded
+    }
+
+    /// Tests whether offering the traces that are left is little work. Looks at no more of them
+    /// than it needs to tell.
+    pub(crate) fn has_little_work(&self) -> bool {
+        let mut work = 0usize;
+        for trace in &self.given[self.recorded..] {
+            let segments = trace.segments.items().len();
+            let pairs = segments.saturating_mul(segments);
+            work = work.saturating_add(pairs).saturating_add(TRACE_WORK);
+            if work >= LITTLE_WORK {
+                return false;
+            }
+        }
+        true
     }
 
     /// Gives the pass and the number of recorded traces. Takes no memory.

@@ -94,13 +94,15 @@ fn day_of(alloc: Global, touch: u32, count: u32) -> Result<Vec<NamedTrace>, Allo
     Ok(traces)
 }
 
-/// Offers such a day by so many workers and closes. Gives nothing where memory ran out.
-fn sheet_by<R: Threads + Sync>(
+/// Offers such a day by so many workers through a gate and closes. Gives nothing where memory ran
+/// out.
+fn sheet_by<R: Threads + Sync, G: Gate + Sync>(
     rt: &R,
     alloc: Global,
     workers: u32,
     traces: Vec<NamedTrace>,
     every: u32,
+    gate: &G,
 ) -> Option<(DaySheet, WatchLines)>
     requires some { 0 < workers }
     requires names { All (HaveNamesBelow 2) traces.items }
@@ -109,8 +111,7 @@ fn sheet_by<R: Threads + Sync>(
     let Ok((recorder, recording)) = Recorder::open(alloc, 2, workers) else {
         return None;
     };
-    let Ok((recording, lines)) = offer_all(rt, &recorder, recording, traces, every, &OpenGate)
-    else {
+    let Ok((recording, lines)) = offer_all(rt, &recorder, recording, traces, every, gate) else {
         return None;
     };
     match recorder.close(recording) {
@@ -179,6 +180,14 @@ impl Gate for OneBeforeZero {
             self.failed.store(1, Ordering::SeqCst);
         }
     }
+}
+
+/// Never waits, and does not tell so: all workers stand beside one another.
+#[derive(Clone, Copy)]
+struct PassingGate;
+
+impl Gate for PassingGate {
+    fn turn(&self, _worker: u32, _trace: u32) {}
 }
 
 #[test]
@@ -283,7 +292,8 @@ fn every_number_of_workers_gives_the_plain_sheet(rt: HostRuntime) -> Result<(), 
     let plain = DaySheet::plain(alloc, day_of(alloc, 3, 8)?, 2)?;
     assert_eq!(rt; plain.words().words().last().copied(), Some(LEFT));
     for workers in [1, 2, 3, 4, 7, 64] {
-        let Some((sheet, lines)) = sheet_by(&rt, alloc, workers, day_of(alloc, 3, 8)?, 2) else {
+        let day = day_of(alloc, 3, 8)?;
+        let Some((sheet, lines)) = sheet_by(&rt, alloc, workers, day, 2, &PassingGate) else {
             return Err(Fail::from("memory"));
         };
         assert!(rt; have_same_requests(sheet.traces(), plain.traces()));
@@ -294,10 +304,55 @@ fn every_number_of_workers_gives_the_plain_sheet(rt: HostRuntime) -> Result<(), 
 }
 
 #[test]
+fn an_open_gate_changes_neither_words_nor_lines(rt: HostRuntime) -> Result<(), Fail> {
+    let alloc = rt.alloc();
+    for workers in [2, 3, 7] {
+        // Where all traces refute the same, each watch number is the same in every schedule.
+        for (touch, alike) in [(9, true), (4, false)] {
+            let day = day_of(alloc, touch, 9)?;
+            let Some((turns, lines)) = sheet_by(&rt, alloc, workers, day, 1, &OpenGate) else {
+                return Err(Fail::from("memory"));
+            };
+            let day = day_of(alloc, touch, 9)?;
+            let Some((beside, others)) = sheet_by(&rt, alloc, workers, day, 1, &PassingGate) else {
+                return Err(Fail::from("memory"));
+            };
+            assert!(rt; have_same_requests(turns.traces(), beside.traces()));
+            assert_eq!(rt; turns.words().words(), beside.words().words());
+            assert_eq!(rt; lines.items().len(), 9);
+            assert_eq!(rt; others.items().len(), 9);
+            for (line, other) in lines.items().iter().zip(others.items()) {
+                assert_eq!(rt; (line.worker, line.done), (other.worker, other.done));
+                assert!(rt; !alike || line.refuted == other.refuted);
+            }
+        }
+    }
+    Ok(())
+}
+
+#[test]
+fn workers_with_little_to_do_take_turns(rt: HostRuntime) -> Result<(), Fail> {
+    let alloc = rt.alloc();
+    let Some((_sheet, lines)) = sheet_by(&rt, alloc, 2, day_of(alloc, 2, 4)?, 1, &OpenGate) else {
+        return Err(Fail::from("memory"));
+    };
+    let expected = [(0, 1, 2), (0, 2, 2), (1, 1, 3), (1, 2, 3)];
+    assert_eq!(rt; lines.items().len(), 4);
+    for (line, (worker, done, refuted)) in lines.items().iter().zip(expected) {
+        assert_eq!(rt;
+            (line.worker, line.done, line.refuted),
+            (worker, done, refuted)
+        );
+    }
+    Ok(())
+}
+
+#[test]
 fn few_traces_or_none_leave_workers_idle(rt: HostRuntime) -> Result<(), Fail> {
     let alloc = rt.alloc();
     for (count, every, left) in [(1, 1, LEFT | 1), (1, 0, LEFT | 1), (0, 1, u64::MAX)] {
-        let Some((sheet, lines)) = sheet_by(&rt, alloc, 4, day_of(alloc, 1, count)?, every) else {
+        let day = day_of(alloc, 1, count)?;
+        let Some((sheet, lines)) = sheet_by(&rt, alloc, 4, day, every, &PassingGate) else {
             return Err(Fail::from("memory"));
         };
         let words = sheet.words().words();
