@@ -10,7 +10,6 @@ pub mod LineRowLemmas
 pub mod PieceLemmas
 pub mod PlainObjectLemmas
 pub mod PlainTextLemmas
-pub mod ReadingLemmas
 pub mod RiseLemmas
 pub mod StopLemmas
 pub mod TakingLemmas

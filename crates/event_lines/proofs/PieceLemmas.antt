@@ -1,12 +1,15 @@
 -- An input in pieces: bytes that are cut at a line feed, and what each piece says.
-use Rattle.std.proofs.Common.{◌≡◌, ℕ, ◌+◌, ◌<◌, List, [], ◌∷◌, ◌++◌, length, Bool, true, false, Result, Ok, Err, arith, refl, sym, ap, subst, ◌∙◌, append_assoc}
+use Rattle.std.proofs.Common.{◌≡◌, ℕ, ◌+◌, ◌<◌, ◌≤◌, List, [], ◌∷◌, ◌++◌, length, Bool, true, false, Result, Ok, Err, arith, refl, sym, ap, ◌∙◌, append_assoc}
 use Rattle.std.specs.List.{slice_split, onto_first}
+use Rattle.std.proofs.lemmas.List.{length-append}
 use Rattle.std.proofs.lemmas.List.Splits.{slice_split-cons_yes, slice_split-cons_no, length-slice_split}
+use Rattle.std.proofs.lemmas.List.Sums.{count_by-le-length}
 use Rattle.event_lines.specs.declared.line.Line.{Line}
 use Rattle.event_lines.specs.declared.line_error.LineError.{LineError}
+use Rattle.event_lines.specs.declared.lines_read.LinesRead.{LinesRead}
 use Rattle.event_lines.specs.Cut.{is_line_feed, input_lines}
 use Rattle.event_lines.specs.InputLines.{LineFault, both_said, lines_said_from}
-use Rattle.event_lines.specs.inner.Readings.{IsReading}
+use Rattle.event_lines.specs.inner.Readings.{IsNumberedReading, IsReadingFrom}
 use Rattle.event_lines.proofs.InputLineLemmas.{both_said-nil, lines_said_from-cons}
 
 -- ---- bytes that are cut at a line feed
@@ -27,6 +30,10 @@ slice_split-append p (x ∷ xs) y ys is = by (p x) refl (slice_split-append p xs
 
 pub input_lines-cut : (front back : List ℕ) → input_lines (front ++ 10 ∷ back) ≡ input_lines front ++ input_lines back
 input_lines-cut front back = slice_split-append is_line_feed front 10 back refl
+
+-- there is at most one line more than bytes
+pub few_input_lines : (bytes : List ℕ) → length (input_lines bytes) ≤ length bytes + 1
+few_input_lines bytes = omega (arith, length-slice_split is_line_feed bytes, count_by-le-length is_line_feed bytes)
 
 -- ---- what a front says and then what the back after it says
 
@@ -54,9 +61,11 @@ pub both_pieces : (n : ℕ) (front back : List ℕ) → lines_said_from n (input
 both_pieces n front back = ap (lines_said_from n) (input_lines-cut front back) ∙ lines_said_from-append n (input_lines front) (input_lines back)
 
 -- a reading of two pieces of bytes is one of the bytes
-pub pieces_read : (n next : ℕ) (bytes front back : List ℕ) (r : Result (List Line) LineError) → bytes ≡ front ++ 10 ∷ back → next ≡ n + length (input_lines front)
-    → IsReading (both_said (lines_said_from n (input_lines front)) (lines_said_from next (input_lines back))) r → IsReading (lines_said_from n (input_lines bytes)) r
-pieces_read n next bytes front back r cut is reading =
-    let whole : lines_said_from n (input_lines bytes) ≡ both_said (lines_said_from n (input_lines front)) (lines_said_from next (input_lines back)) =
-    rw (cut, is) (both_pieces n front back) in
-    subst (λ said. IsReading said r) (sym whole) reading
+pub pieces_read : (n : ℕ) (bytes front back : List ℕ) (r : Result LinesRead LineError) → bytes ≡ front ++ 10 ∷ back
+    → IsNumberedReading (both_said (lines_said_from n (input_lines front)) (lines_said_from (n + length (input_lines front)) (input_lines back))) (n + length (input_lines front) + length (input_lines back)) r
+    → IsReadingFrom n bytes r
+pieces_read n bytes front back r cut reading =
+    let whole = ap (λ xs. lines_said_from n (input_lines xs)) cut ∙ both_pieces n front back in
+    let lines = ap length (ap input_lines cut ∙ input_lines-cut front back) ∙ length-append (input_lines front) (input_lines back) in
+    let next : n + length (input_lines bytes) ≡ n + length (input_lines front) + length (input_lines back) = omega (arith, lines) in
+    rw (whole, next) reading

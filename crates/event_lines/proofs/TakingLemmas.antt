@@ -1,6 +1,6 @@
 -- An input that is taken in pieces.
-use Rattle.std.proofs.Common.{◌≡◌, ℕ, ◌+◌, ◌≤◌, List, [], ◌∷◌, ◌++◌, length, true, Result, Ok, Err, arith, sym, ap, subst, ◌∙◌, append_assoc, append-nil}
-use Rattle.std.specs.Prelude.{◌==◌, IfOk, IfErr}
+use Rattle.std.proofs.Common.{◌≡◌, ℕ, ◌+◌, List, [], ◌∷◌, ◌++◌, length, true, Result, Ok, arith, sym, ap, subst, ◌∙◌, append_assoc, append-nil}
+use Rattle.std.specs.Prelude.{◌==◌}
 use Rattle.std.proofs.lemmas.List.{length-append, nil_from_length}
 use Rattle.std.proofs.lemmas.Bool.{eqb-true}
 use Rattle.event_lines.specs.declared.line.Line.{Line}
@@ -8,8 +8,7 @@ use Rattle.event_lines.specs.declared.line_error.LineError.{LineError}
 use Rattle.event_lines.specs.Cut.{input_lines}
 use Rattle.event_lines.specs.InputLines.{LineFault, both_said, lines_said_from, IsLineError}
 use Rattle.event_lines.specs.LinesTaken.{LinesTaken, TakesBytes, said_with}
-use Rattle.event_lines.specs.inner.Readings.{IsReading}
-use Rattle.event_lines.proofs.PieceLemmas.{both_said-assoc, both_pieces}
+use Rattle.event_lines.proofs.PieceLemmas.{both_said-assoc, both_pieces, few_input_lines}
 
 -- lines that end are read, and the bytes after them begin a new line
 lines_ended : (said new : Result (List Line) LineFault) (n next : ℕ) (front later : List ℕ) → new ≡ both_said said (lines_said_from n (input_lines front)) → next ≡ n + length (input_lines front)
@@ -20,15 +19,15 @@ lines_ended said new n next front later e is =
 
 -- bytes were taken that end lines
 pub ends_lines : (old new : LinesTaken) (bytes front : List ℕ) → front ≡ old.rest ++ bytes → new.ended ≡ both_said old.ended (lines_said_from old.number (input_lines front))
-    → new.number ≡ old.number + length (input_lines front) → length (input_lines front) ≤ length front + 1 → new.rest ≡ [] → TakesBytes old (bytes ++ 10 ∷ []) new
-ends_lines old new bytes front whole e is few none = record {
+    → old.number + length (input_lines front) ≡ new.number → new.rest ≡ [] → TakesBytes old (bytes ++ 10 ∷ []) new
+ends_lines old new bytes front whole e is none = record {
   said = λ later.
       let joined : front ++ 10 ∷ later ≡ old.rest ++ ((bytes ++ 10 ∷ []) ++ later) =
       ap (λ xs. xs ++ 10 ∷ later) whole ∙ append_assoc old.rest bytes (10 ∷ later) ∙ ap (λ xs. old.rest ++ xs) (sym (append_assoc bytes (10 ∷ []) later)) in
       ap (λ xs. both_said new.ended (lines_said_from new.number (input_lines (xs ++ later)))) none
-      ∙ lines_ended old.ended new.ended old.number new.number front later e is
+      ∙ lines_ended old.ended new.ended old.number new.number front later e (sym is)
       ∙ ap (λ xs. both_said old.ended (lines_said_from old.number (input_lines xs))) joined;
-  room = omega (arith, is, few, ap length none, ap length whole ∙ length-append old.rest bytes, length-append bytes (10 ∷ []));
+  room = omega (arith, is, few_input_lines front, ap length none, ap length whole ∙ length-append old.rest bytes, length-append bytes (10 ∷ []));
 }
 
 -- bytes are taken after others
@@ -46,13 +45,11 @@ feed_between bytes front back cut = cut ∙ sym (append_assoc front (10 ∷ []) 
 reading_with_none : (said : Result (List Line) LineFault) (n : ℕ) (rest : List ℕ) → both_said said (lines_said_from n (input_lines rest)) ≡ both_said said (lines_said_from n (input_lines (rest ++ [])))
 reading_with_none said n rest = ap (λ xs. both_said said (lines_said_from n (input_lines xs))) (sym (append-nil rest))
 
-pub finished_lines : (taken : LinesTaken) (r : Result (List Line) LineError) → IsReading (both_said taken.ended (lines_said_from taken.number (input_lines taken.rest))) r → IfOk r (λ v. said_with taken [] ≡ Ok v)
-finished_lines taken (Ok v) h = sym (reading_with_none taken.ended taken.number taken.rest) ∙ h
-finished_lines taken (Err e) h = tt
+pub finished_lines : (taken : LinesTaken) (v : List Line) → both_said taken.ended (lines_said_from taken.number (input_lines taken.rest)) ≡ Ok v → said_with taken [] ≡ Ok v
+finished_lines taken v h = sym (reading_with_none taken.ended taken.number taken.rest) ∙ h
 
-pub finished_error : (taken : LinesTaken) (r : Result (List Line) LineError) → IsReading (both_said taken.ended (lines_said_from taken.number (input_lines taken.rest))) r → IfErr r (IsLineError (said_with taken []))
-finished_error taken (Ok v) h = tt
-finished_error taken (Err e) h = subst (λ said. IsLineError said e) (reading_with_none taken.ended taken.number taken.rest) h
+pub finished_error : (taken : LinesTaken) (e : LineError) → IsLineError (both_said taken.ended (lines_said_from taken.number (input_lines taken.rest))) e → IsLineError (said_with taken []) e
+finished_error taken e h = subst (λ said. IsLineError said e) (reading_with_none taken.ended taken.number taken.rest) h
 
 -- no byte is kept where their number is 0
 pub nothing_kept : (rest : List ℕ) (count : ℕ) → length rest ≡ count → (count == 0) ≡ true → rest ≡ []

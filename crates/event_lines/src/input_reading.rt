@@ -1,19 +1,19 @@
 ghost use Rattle.std.specs.Prelude.{◌≡◌, ◌≤◌, ◌<◌, ◌+◌, ◌^◌, All, length, Ok, IfOk, IfErr};
 ghost use Rattle.event_lines.specs.GoodLines.{IsLimited, IsTimely, NumbersRise};
-ghost use Rattle.event_lines.specs.Cut.{input_lines};
-ghost use Rattle.event_lines.specs.InputLines.{lines_said, lines_said_from, IsLineError};
-ghost use Rattle.event_lines.specs.inner.Readings.{IsReading};
+ghost use Rattle.event_lines.specs.InputLines.{lines_said, IsLineError};
+ghost use Rattle.event_lines.specs.inner.Readings.{IsReadingFrom};
 
+use crate::lines_read::LinesRead;
 use crate::pieces::read_pieces;
 use crate::{LineError, LineParts};
 use std::alloc::Global;
 use std::thread::Threads;
 
-/// The least length at which a piece of an input is worth a thread of its own, in bytes.
+/// How many bytes for each thread are worth starting it.
 pub(crate) const LEAST_PIECE: usize = 65_536;
 
-/// Reads the lines of bytes, numbered from this one on, by up to so many workers, each a piece of
-/// at least about this length.
+/// Reads the lines of bytes, numbered from this one on, by up to so many workers, one for each
+/// `least` bytes at most.
 pub(crate) fn read_shared<R: Threads + Sync>(
     rt: &R,
     alloc: Global,
@@ -21,18 +21,18 @@ pub(crate) fn read_shared<R: Threads + Sync>(
     bytes: &[u8],
     workers: u32,
     least: usize,
-) -> Result<LineParts, LineError>
+) -> Result<LinesRead, LineError>
     requires few { first + length bytes.now < 2 ^ 32 }
     requires some { 0 < least }
-    ensures { IsReading (lines_said_from first (input_lines bytes.now)) result }
+    ensures { IsReadingFrom first bytes.now result }
 {
     let pieces = workers.min((bytes.len() / least) as u32);
     read_pieces(rt, alloc, first, bytes, pieces)
 }
 
 /// Reads the lines of an input: one entry for each line that is not blank, in order. Up to so many
-/// workers read in parallel, each a piece of about equal length; a short input is read by the
-/// caller alone.
+/// workers read in parallel, each a piece, which all end at about the same time; a short input is
+/// read by the caller alone.
 ///
 /// An input has fewer than 2^32 - 1 bytes, so that the number of each line fits 32 bits.
 ///
@@ -52,5 +52,5 @@ pub fn read_lines<R: Threads + Sync>(
     ensures limited { IfOk result (λ v. All IsLimited v) }
     ensures few { IfOk result (λ v. length v ≤ length bytes.now + 1) }
 {
-    read_shared(rt, alloc, 1, bytes, workers, LEAST_PIECE)
+    Ok(read_shared(rt, alloc, 1, bytes, workers, LEAST_PIECE)?.lines)
 }

@@ -17,6 +17,7 @@ mod line_reader;
 mod line_reading;
 mod line_run;
 mod lines;
+mod lines_read;
 mod lines_so_far;
 mod object_members;
 mod pieces;

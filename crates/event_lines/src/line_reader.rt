@@ -5,7 +5,7 @@ ghost use Rattle.event_lines.specs.LinesTaken.{TakesBytes, room_after, said_with
 
 use crate::lines::read_piece;
 use crate::lines_so_far::LinesSoFar;
-use crate::pieces::{count_lines, cut_at_last_line_feed, cut_at_line_feed, join_readings};
+use crate::pieces::{cut_at_last_line_feed, cut_at_line_feed, join_readings};
 use crate::{LineError, LineParts};
 use std::alloc::{AllocError, Global};
 use std::marker::Model;
@@ -68,15 +68,17 @@ impl LineReader {
         ensures { OnOk result (TakesBytes self.old (bytes.now ++ 10 ∷ []) self.new) }
     {
         if self.rest.is_empty() {
-            self.lines
+            let last = self
+                .lines
                 .add(rt, self.alloc, self.workers, self.number, bytes)?;
-            self.number += count_lines(bytes) as u32;
+            self.number = last + 1;
             return Ok(());
         }
         self.rest.extend_from_slice(bytes)?;
-        self.lines
+        let last = self
+            .lines
             .add(rt, self.alloc, self.workers, self.number, &self.rest)?;
-        self.number += count_lines(&self.rest) as u32;
+        self.number = last + 1;
         self.rest.clear();
         Ok(())
     }
@@ -121,6 +123,6 @@ impl LineReader {
             rest,
             ..
         } = self;
-        join_readings(lines.into_reading(), read_piece(alloc, number, &rest))
+        Ok(join_readings(lines.into_reading(), read_piece(alloc, number, &rest))?.lines)
     }
 }

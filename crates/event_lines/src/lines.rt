@@ -1,14 +1,15 @@
 ghost use Rattle.std.specs.Prelude.{◌≡◌, ◌≤◌, ◌<◌, ◌+◌, ◌^◌, ◌∷◌, [], ◌++◌, length};
-ghost use Rattle.std.specs.Prelude.{Ok, IfOk, IfErr, OnOk, IsOkAnd};
+ghost use Rattle.std.specs.Prelude.{IfErr, OnOk, IsOkAnd};
 ghost use Rattle.std.specs.List.{position_or_len};
-ghost use Rattle.event_lines.specs.Cut.{input_lines, is_line_feed};
+ghost use Rattle.event_lines.specs.Cut.{is_line_feed};
 ghost use Rattle.event_lines.specs.InputLines.{lines_said_from, IsLineError};
-ghost use Rattle.event_lines.specs.inner.Readings.{IsReading};
+ghost use Rattle.event_lines.specs.inner.Readings.{IsReadingFrom};
 
+use crate::LineError;
 use crate::blank_lines::is_blank_line;
 use crate::line_reading::add_line;
+use crate::lines_read::LinesRead;
 use crate::run_builder::RunBuilder;
-use crate::{LineError, LineParts};
 use json::Scratch;
 use memchr::memchr;
 use std::alloc::Global;
@@ -51,12 +52,9 @@ fn add_numbered_line(
 ///
 /// The errors are `Memory`, and `Bad` with the number of the first bad line and the first reason
 /// that holds of it.
-fn read_in_turn(alloc: Global, first: u32, bytes: &[u8]) -> Result<RunBuilder, LineError>
+pub(crate) fn read_piece(alloc: Global, first: u32, bytes: &[u8]) -> Result<LinesRead, LineError>
     requires { first + length bytes.now < 2 ^ 32 }
-    ensures lines_read { IfOk result (λ v.
-        lines_said_from first (input_lines bytes.now) ≡ Ok v) }
-    ensures first_bad { IfErr result
-        (IsLineError (lines_said_from first (input_lines bytes.now))) }
+    ensures { IsReadingFrom first bytes.now result }
 {
     let mut lines = RunBuilder::new(alloc)?;
     let mut scratch = Scratch::new(alloc);
@@ -66,18 +64,12 @@ fn read_in_turn(alloc: Global, first: u32, bytes: &[u8]) -> Result<RunBuilder, L
         let end = start + line_end(&bytes[start..]);
         add_numbered_line(alloc, number, &bytes[start..end], &mut scratch, &mut lines)?;
         if end == bytes.len() {
-            return Ok(lines);
+            return Ok(LinesRead {
+                lines: lines.into_parts()?,
+                last: number,
+            });
         }
         number += 1;
         start = end + 1;
     }
-}
-
-/// Reads the lines of one piece of an input, numbered from this one on.
-pub(crate) fn read_piece(alloc: Global, first: u32, bytes: &[u8]) -> Result<LineParts, LineError>
-    requires { first + length bytes.now < 2 ^ 32 }
-    ensures { IsReading (lines_said_from first (input_lines bytes.now)) result }
-{
-    let lines = read_in_turn(alloc, first, bytes)?;
-    Ok(lines.into_parts()?)
 }

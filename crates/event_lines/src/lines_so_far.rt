@@ -1,10 +1,12 @@
-ghost use Rattle.std.specs.Prelude.{◌≡◌, ◌<◌, ◌+◌, ◌^◌, length, OnOk};
+ghost use Rattle.std.specs.Prelude.{◌≡◌, ◌≤◌, ◌<◌, ◌+◌, ◌^◌, length, IfOk, OnOk};
 ghost use Rattle.event_lines.specs.Cut.{input_lines};
 ghost use Rattle.event_lines.specs.InputLines.{both_said, lines_said_from};
 ghost use Rattle.event_lines.specs.inner.LinesSoFar.{said_so_far};
 ghost use Rattle.event_lines.specs.inner.Readings.{IsReading};
 
 use crate::input_reading::{LEAST_PIECE, read_shared};
+use crate::lines_read::LinesRead;
+use crate::pieces::last_number;
 use crate::{LineError, LineParts, Why};
 use std::alloc::{AllocError, Global};
 use std::thread::Threads;
@@ -20,7 +22,7 @@ pub(crate) enum LinesSoFar {
 
 impl LinesSoFar {
     /// Reads the lines of bytes, numbered from this one on, by up to so many workers, and appends
-    /// what they say. The only error is out of memory.
+    /// what they say. Returns the number of the last line. The only error is out of memory.
     pub(crate) fn add<R: Threads + Sync>(
         &mut self,
         rt: &R,
@@ -28,20 +30,25 @@ impl LinesSoFar {
         workers: u32,
         first: u32,
         bytes: &[u8],
-    ) -> Result<(), AllocError>
+    ) -> Result<u32, AllocError>
         requires { first + length bytes.now < 2 ^ 32 }
-        ensures { OnOk result (said_so_far self.new
+        ensures last { IfOk result (λ last. first + length (input_lines bytes.now) ≡ last + 1) }
+        ensures few { IfOk result (λ last. last ≤ first + length bytes.now) }
+        ensures said { OnOk result (said_so_far self.new
             ≡ both_said (said_so_far self.old) (lines_said_from first (input_lines bytes.now))) }
     {
         let LinesSoFar::Good { lines } = self else {
-            return Ok(());
+            return Ok(last_number(first, bytes));
         };
         match read_shared(rt, alloc, first, bytes, workers, LEAST_PIECE) {
-            Ok(more) => lines.append(more),
+            Ok(LinesRead { lines: more, last }) => {
+                lines.append(more)?;
+                Ok(last)
+            }
             Err(LineError::Memory) => Err(AllocError),
             Err(LineError::Bad { line, why }) => {
                 *self = LinesSoFar::Bad { line, why };
-                Ok(())
+                Ok(last_number(first, bytes))
             }
         }
     }

@@ -1,6 +1,7 @@
 ghost use Rattle.std.specs.Prelude.{◌<◌};
 
 use crate::input_reading::read_shared;
+use crate::pieces::first_length;
 use crate::{LineError, LineParts, LineReader, LineRun, read_lines};
 use std::alloc::{AllocError, Global};
 use std::test::Fail;
@@ -101,7 +102,8 @@ fn print_shared<R: Threads + Sync>(
     if bytes.len() > 1000 {
         return Err(AllocError);
     }
-    print_reading(alloc, read_shared(rt, alloc, 1, bytes, workers, least))
+    let reading = read_shared(rt, alloc, 1, bytes, workers, least);
+    print_reading(alloc, reading.map(|read| read.lines))
 }
 
 #[test]
@@ -115,6 +117,66 @@ fn an_input_says_the_same_in_any_number_of_pieces(rt: HostRuntime) -> Result<(),
         }
     }
     Ok(())
+}
+
+/// Inputs whose pieces end and begin with blank lines wherever they are cut, what they say, and the
+/// number of the last line of those without a bad line.
+const BLANK_ENDS: [(&str, &str, Option<u32>); 4] = [
+    ("", "", Some(1)),
+    ("\n\n\r\n\n \n\n\n\n\t\n", "", Some(10)),
+    (
+        "\n\r\n{\"do\":\"add\"}\n\n \t\n{\"do\":\"model\"}\n\n\n{\"do\":\"graph\"}\n\r\n\n\
+            {\"do\":\"paths\"}\n\n\n{\"do\":\"slack\"}\n\n",
+        "3 Add,6 Model,9 Graph,12 Paths,15 Slack",
+        Some(17),
+    ),
+    (
+        "\n\r\n{\"do\":\"add\"}\n\n \t\n{\"do\":\"model\"}\n\n\n\n{\"do\":\"stop\"}\n\r\n\
+            {\"do\":5}\n\n\n{\"do\":\"slack\"}\n\n",
+        "10 unknown command",
+        None,
+    ),
+];
+
+/// Finds the number of the last line of a short input that so many workers share.
+fn last_of<R: Threads + Sync>(rt: &R, alloc: Global, bytes: &[u8], workers: u32) -> Option<u32> {
+    if bytes.len() > 1000 {
+        return None;
+    }
+    let read = read_shared(rt, alloc, 1, bytes, workers, 1).ok()?;
+    Some(read.last)
+}
+
+#[test]
+fn blank_lines_at_the_ends_of_pieces_are_numbered(rt: HostRuntime) -> Result<(), Fail> {
+    for (input, said, last) in BLANK_ENDS {
+        for workers in [1, 2, 3, 4, 7] {
+            let printed = print_shared(&rt, rt.alloc(), input.as_bytes(), workers, 1)?;
+            assert_eq!(rt; printed.as_str(), said, "{workers} workers");
+            let found = last_of(&rt, rt.alloc(), input.as_bytes(), workers);
+            assert_eq!(rt; found, last, "{workers} workers");
+        }
+    }
+    Ok(())
+}
+
+/// Counting a byte takes a twentieth of the time of reading it.
+#[test]
+fn four_pieces_are_read_by_about_the_same_time(rt: HostRuntime) {
+    let bytes = 4_000_000;
+    let front = first_length(bytes, 4);
+    let back = bytes - front;
+    let first = first_length(front, 2);
+    let third = first_length(back, 2);
+    let ends = [
+        first,
+        first / 20 + (front - first),
+        front / 20 + third,
+        front / 20 + third / 20 + (back - third),
+    ];
+    for end in ends {
+        assert!(rt; 1_075_000 < end && end < 1_081_000, "{end}");
+    }
 }
 
 /// Prints what an input says that a reader takes in pieces of this length.
