@@ -6,6 +6,7 @@ mod fault_tables;
 mod faults;
 mod forecasts;
 mod limits;
+mod many_traces;
 mod page_load;
 mod real;
 mod replays;

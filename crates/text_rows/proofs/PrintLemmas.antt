@@ -1,7 +1,7 @@
 -- Printing one text after another.
 use Rattle.std.proofs.Common.{◌≡◌, ℕ, ◌+◌, ◌-◌, ◌≤◌, ◌<◌, min, List, [], ◌∷◌, ◌++◌, length, take, drop, get_or, map, Option, Some, None, arith, refl, sym, ◌∙◌, ap, append_assoc}
 use Rattle.std.proofs.Math.Seq.{take-add}
-use Rattle.std.proofs.lemmas.List.{append-nil, length-append, take_all, take-append-le, drop-append-le, drop-drop, length-drop, take_min}
+use Rattle.std.proofs.lemmas.List.{append-nil, length-append, take_all, take-append-le, drop-append-le, drop-drop, length-drop, take_min, drop_all}
 use Rattle.std.specs.Prelude.{Result, Ok, Err}
 use Rattle.std.specs.List.{flat_map, join_with_byte}
 use Rattle.std.specs.Io.KnownBytes.{append_known}
@@ -109,6 +109,19 @@ prefix_longer before now waited a b f = prefix_more before before now waited wai
 -- a text that was printed, and then a prefix of another
 pub prefix_after : (before mid now : Option (List ℕ)) (waited between a b : List ℕ) → Prints before mid waited between a → AppendsPrefix mid now (between ++ b) → AppendsPrefix before now (waited ++ (a ++ b))
 prefix_after before mid now waited between a b p f = rw (← append-nil b) (prefix_more before mid now waited between a b [] p f)
+
+-- a flushed buffer was printed, and no text after it
+pub prints_flushed : (before mid : Option (List ℕ)) (held : List ℕ) → mid ≡ append_known before held → Prints before mid held [] []
+prints_flushed before mid held flushed = record {
+  count = length held;
+  within = omega (arith, length-append held []);
+  written = flushed ∙ ap (append_known before) (sym (take_all (length held) (held ++ []) (omega (arith, length-append held [])) ∙ append-nil held));
+  rest = sym (drop_all (length held) (held ++ []) (omega (arith, length-append held [])));
+}
+
+-- a prefix of what the buffer held is one of that and a text
+pub prefix_held : (before now : Option (List ℕ)) (held text : List ℕ) → AppendsPrefix before now held → AppendsPrefix before now (held ++ text)
+prefix_held before now held text f = prefix_longer before now held [] text (rw (append-nil held) f)
 
 -- a text of which a prefix was written as it was flushed
 pub prefix_flushed : (before mid now : Option (List ℕ)) (between a : List ℕ) → Prints before mid [] between a → AppendsPrefix mid now between → AppendsPrefix before now a

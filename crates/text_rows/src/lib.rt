@@ -11,6 +11,8 @@ mod row_buffer;
 mod row_bytes;
 mod row_list;
 mod row_printing;
+mod text_printing;
+mod text_sink;
 
 pub use field::Field;
 pub use part_list::{PartTexts, Parts, print_parts};
@@ -18,6 +20,8 @@ pub use print_fault::PrintFault;
 pub use row_buffer::RowBuffer;
 pub use row_list::{Rows, print_rows};
 pub use row_printing::{flush, print_row};
+pub use text_printing::print_texts;
+pub use text_sink::TextSink;
 
 #[cfg(test)]
 mod tests;

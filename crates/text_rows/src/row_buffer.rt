@@ -9,7 +9,7 @@ use std::alloc::{AllocError, Global};
 use std::marker::Model;
 
 /// Flush the buffer at this size.
-const FLUSH_SIZE: usize = 65_536;
+pub(crate) const FLUSH_SIZE: usize = 65_536;
 
 /// Bytes of rows that are not written yet, seen as their list.
 #[derive(Debug, Drop)]
@@ -55,6 +55,13 @@ impl RowBuffer {
         ensures { OnOk result (self.new ≡ self.old ++ row_of (map field_text fields.now)) }
     {
         put_row(&mut self.bytes, fields)
+    }
+
+    /// Appends a text. The only error is an allocation failure.
+    pub(crate) fn push_text(&mut self, text: &[u8]) -> Result<(), AllocError>
+        ensures { OnOk result (self.new ≡ self.old ++ text.now) }
+    {
+        self.bytes.extend_from_slice(text)
     }
 
     /// Empties the buffer and keeps its memory.

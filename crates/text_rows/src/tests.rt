@@ -3,7 +3,10 @@ ghost use Rattle.text_rows.specs.Printing.{PrintsText};
 ghost use Rattle.text_rows.specs.Rows.{row_of, figure};
 
 use crate::laws::calls_follow;
-use crate::{Field, Parts, PrintFault, RowBuffer, Rows, flush, print_parts, print_row, print_rows};
+use crate::{
+    Field, Parts, PrintFault, RowBuffer, Rows, TextSink, flush, print_parts, print_row, print_rows,
+    print_texts,
+};
 use mystery_io::{MemSink, Sink};
 use std::alloc::Global;
 use std::test::Fail;
@@ -177,6 +180,51 @@ fn a_full_buffer_is_flushed(rt: HostRuntime) -> Result<(), Fail> {
         assert_eq!(rt; print_long_rows(&mut sink, &mut buffer, count), Ok(()));
         assert_eq!(rt; buffer.bytes().len(), held);
         assert_eq!(rt; buffer.is_full(), false);
+        assert_eq!(rt; sink.bytes().len(), written);
+    }
+    Ok(())
+}
+
+#[test]
+fn made_texts_stand_in_order_after_what_the_buffer_held(rt: HostRuntime) -> Result<(), Fail> {
+    let alloc = rt.alloc();
+    let mut sink = TextSink::new(alloc);
+    let mut buffer = RowBuffer::new(alloc);
+    let mut texts = Vec::new(alloc);
+    texts.push(b"a\n".to_vec(alloc)?)?;
+    texts.push(Vec::from_elem(alloc, b'b', 70_000)?)?;
+    texts.push(b"c\n".to_vec(alloc)?)?;
+    assert_eq!(rt;
+        print_row(&mut sink, &mut buffer, &[Field::Word("head")]),
+        Ok(())
+    );
+    assert_eq!(rt; print_texts(&mut sink, &mut buffer, &texts), Ok(()));
+    assert_eq!(rt; buffer.bytes(), b"c\n".as_slice());
+    assert_eq!(rt; flush(&mut sink, &mut buffer), Ok(()));
+    let bytes = sink.into_bytes();
+    assert_eq!(rt; bytes.len(), 70_009);
+    assert!(rt; bytes.starts_with(b"head\na\nb"));
+    assert!(rt; bytes.ends_with(b"bbc\n"));
+    Ok(())
+}
+
+#[test]
+fn a_made_text_is_cut_where_a_write_fails(rt: HostRuntime) -> Result<(), Fail> {
+    let alloc = rt.alloc();
+    let mut texts = Vec::new(alloc);
+    texts.push(Vec::from_elem(alloc, b'b', 65_536)?)?;
+    // The first write is that of the buffer.
+    for (call, written) in [(1, 0), (2, 5), (3, 30_005)] {
+        let mut sink = MemSink::new(alloc, 30_000, [call].to_vec(alloc)?, 100_000)?;
+        let mut buffer = RowBuffer::new(alloc);
+        assert_eq!(rt;
+            print_row(&mut sink, &mut buffer, &[Field::Word("head")]),
+            Ok(())
+        );
+        assert_eq!(rt;
+            print_texts(&mut sink, &mut buffer, &texts),
+            Err(PrintFault::Write)
+        );
         assert_eq!(rt; sink.bytes().len(), written);
     }
     Ok(())

@@ -1,6 +1,6 @@
 -- What a parallel map over traces gives where each of its calls succeeds, and lists of lent traces
 -- that are taken a chunk at a time.
-use Rattle.std.proofs.Common.{◌≡◌, ℕ, zero, suc, ◌+◌, ◌-◌, ◌<◌, ◌≤◌, List, [], ◌∷◌, ◌++◌, length, get_or, take, drop, map, Option, Result, Ok, Err, IfOk, refl, sym, ◌∙◌, ap, subst, append_assoc, arith}
+use Rattle.std.proofs.Common.{◌≡◌, ℕ, ◌+◌, ◌-◌, ◌<◌, ◌≤◌, List, [], ◌∷◌, ◌++◌, length, take, drop, map, Option, Result, Ok, Err, IfOk, refl, sym, ◌∙◌, ap, subst, append_assoc, arith}
 use Rattle.std.specs.Prelude.{MatchResult, Contains}
 use Rattle.std.specs.Borrow.{Bor}
 use Rattle.std.specs.List.{AllZip, flat_map}
@@ -28,18 +28,6 @@ pub collected : {X Y Z E : Type 0} (R : X → Y → Type 0) (xs : List X) (resul
 collected {X} {Y} {Z} {E} R xs results (Ok v) all (ys, are, is) =
     subst (AllZip R xs) (sym is) (values_of E R xs ys (subst (λ (l : List (Result Y E)). AllZip (λ x y. IfOk y (R x)) xs l) are all))
 collected R xs results (Err e) all found = tt
-
--- items at one place of two lists that are alike
-pub zip_at : {X Y : Type 0} (R : X → Y → Type 0) (xs : List X) (ys : List Y) (i : ℕ) (d : X) (e : Y) → AllZip R xs ys → i < length xs → R (get_or xs i d) (get_or ys i e)
-zip_at R [] [] i d e h lt = absurd (omega (arith, lt))
-zip_at R [] (y ∷ ys) i d e h lt = absurd h
-zip_at R (x ∷ xs) [] i d e h lt = absurd h
-zip_at R (x ∷ xs) (y ∷ ys) zero d e h lt = h.0
-zip_at R (x ∷ xs) (y ∷ ys) (suc i) d e h lt = zip_at R xs ys i d e h.1 (omega (arith, lt))
-
--- what is read at one place of two lists that are alike
-pub zip_read : {X Y : Type 0} (R : X → Y → Type 0) (xs : List X) (ys : List Y) (i : ℕ) (x : X) (y : Y) → AllZip R xs ys → i < length xs → x ≡ get_or xs i x → y ≡ get_or ys i y → R x y
-zip_read {X} {Y} R xs ys i x y h lt atx aty = subst (λ (a : X). R a y) (sym atx) (subst (λ (b : Y). R (get_or xs i x) b) (sym aty) (zip_at R xs ys i x y h lt))
 
 -- the traces that are lent
 abbrev pub lent : List (Bor NamedTrace) → List NamedTrace

@@ -1,6 +1,7 @@
 mod BookLemmas
 mod ChunkLemmas
 mod EdgeLemmas
+mod MadeLemmas
 mod PrintLemmas
 mod ShownLemmas
 mod TextLemmas

@@ -1,14 +1,19 @@
-//! How many traces are computed together, and how many of them by one thread. It changes only time
+//! How many traces are printed together, and how many of them by one thread. It changes only time
 //! and memory.
-ghost use Rattle.std.specs.Prelude.{◌<◌, ◌≤◌, length};
+ghost use Rattle.std.specs.Prelude.{◌≡◌, ◌<◌, ◌≤◌, length, IfOk};
+ghost use Rattle.trace_rows.specs.inner.Pieces.{traces_of_pieces};
 
+use std::alloc::{AllocError, Global};
 use trace_types::NamedTrace;
 
 /// How much the traces of a chunk cost together, at most, unless one alone costs more.
-const CHUNK_COST: u64 = 32_000_000;
+const CHUNK_COST: u64 = 16_000_000;
 
-/// How much a piece of a chunk costs that is worth a thread of its own.
+/// How much a piece of a chunk may cost in any case; less is not worth a thread.
 const PIECE_COST: u64 = 250_000;
+
+/// Which part of its chunk a piece may cost.
+const CHUNK_PARTS: u64 = 16;
 
 /// How much each trace costs besides its pairs of segments.
 const TRACE_COST: u64 = 1_000;
@@ -19,9 +24,9 @@ fn trace_cost(trace: &NamedTrace) -> u64 {
     segments.saturating_mul(segments).saturating_add(TRACE_COST)
 }
 
-/// Counts the first of these traces that cost little enough together: at least one, where there is
-/// one.
-pub(crate) fn chunk_length(traces: &[&NamedTrace]) -> usize
+/// Counts the first of these traces that cost at most so much together: at least one, whatever it
+/// costs.
+fn count_within(traces: &[&NamedTrace], most: u64) -> usize
     requires { 0 < length traces.now }
     ensures some { 0 < result }
     ensures within { result ≤ length traces.now }
@@ -29,18 +34,53 @@ pub(crate) fn chunk_length(traces: &[&NamedTrace]) -> usize
     let mut cost = trace_cost(traces[0]);
     for place in 1..traces.len() {
         cost = cost.saturating_add(trace_cost(traces[place]));
-        if cost > CHUNK_COST {
+        if cost > most {
             return place;
         }
     }
     traces.len()
 }
 
-/// Gives the number of these traces that are worth a thread of their own, at least one.
-pub(crate) fn least_piece(traces: &[&NamedTrace]) -> usize {
+/// Counts the first of these traces that make a chunk: at least one.
+pub(crate) fn chunk_length(traces: &[&NamedTrace]) -> usize
+    requires { 0 < length traces.now }
+    ensures some { 0 < result }
+    ensures within { result ≤ length traces.now }
+{
+    count_within(traces, CHUNK_COST)
+}
+
+/// Gives how much a piece of these traces costs at most, unless one trace alone costs more.
+fn piece_cost(traces: &[&NamedTrace]) -> u64 {
     let cost = traces
         .iter()
         .fold(0u64, |cost, trace| cost.saturating_add(trace_cost(trace)));
-    let count = (traces.len() as u64).saturating_mul(PIECE_COST) / cost.max(1);
-    count.max(1) as usize
+    PIECE_COST.max(cost / CHUNK_PARTS)
+}
+
+/// Traces that one thread makes a text of.
+#[derive(Clone, Copy)]
+pub(crate) struct Piece<'a> {
+    pub(crate) traces: &'a [&'a NamedTrace],
+}
+
+/// Cuts traces into pieces, each with as many as may be in it by their cost. The only error is that
+/// memory ran out.
+pub(crate) fn cut_pieces<'a>(
+    alloc: Global,
+    traces: &'a [&'a NamedTrace],
+) -> Result<Vec<Piece<'a>>, AllocError>
+    ensures { IfOk result (λ pieces. traces_of_pieces pieces.items ≡ traces.now) }
+{
+    let most = piece_cost(traces);
+    let mut pieces = Vec::new(alloc);
+    let mut at = 0;
+    'pieces: while at < traces.len() {
+        let end = at + count_within(&traces[at..], most);
+        pieces.push(Piece {
+            traces: &traces[at..end],
+        })?;
+        at = end;
+    }
+    Ok(pieces)
 }

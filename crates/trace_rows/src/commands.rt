@@ -74,9 +74,9 @@ fn print_whole<R: Threads + Sync, S: Sink, K: TraceTexts>(
 /// header with the number of traces, then the paths, by day and within a day in the order in which
 /// the traces were taken. Times are in nanoseconds.
 ///
-/// Graphs are made by all processors, a chunk of traces at a time, and what is told of a chunk is
-/// printed before the next is made. After an error a prefix of the text was printed, and nothing is
-/// said of the buffer.
+/// Texts are made by all processors, a chunk of traces at a time, and those of a chunk are printed
+/// before the next are made. After an error a prefix of the text was printed, and nothing is said
+/// of the buffer.
 pub fn print_paths<R: Threads + Sync, S: Sink>(
     rt: &R,
     alloc: Global,

@@ -19,17 +19,15 @@ use text_rows::laws::{calls_follow, part_calls_follow};
 use text_rows::{Field, PrintFault, RowBuffer, print_row};
 use trace_graph::OrderedGraph;
 use trace_types::NamedTrace;
-use weighted_dag::NumberList;
 
 /// The critical paths of traces.
 #[derive(Clone, Copy)]
 pub(crate) struct PathTexts;
 
-/// The critical path of a trace, and its graph without the edges.
+/// The critical path of a trace, and its graph.
 #[derive(Drop)]
 pub(crate) struct TracePath {
-    order: NumberList,
-    weights: Vec<u64>,
+    graph: OrderedGraph,
     chain: Chain,
 }
 
@@ -118,7 +116,7 @@ impl TraceTexts for PathTexts {
     ghost part = { λ _ kept k. PathOf kept k };
 
     ghost computes = { λ _ b t path.
-        IsPathUnderBook b t path.order path.weights.items path.chain.length path.chain.vertices };
+        IsPathUnderBook b t path.graph.order path.graph.dag path.chain.length path.chain.vertices };
 
     fn compute(
         &self,
@@ -126,14 +124,9 @@ impl TraceTexts for PathTexts {
         book: &PreparedBook<'_>,
         trace: &NamedTrace,
     ) -> Result<TracePath, AllocError> {
-        let OrderedGraph { order, dag } = book.graph_of(alloc, trace)?;
-        let chain = critical(alloc, &dag)?;
-        let weights = Vec::from_slice(alloc, dag.weights())?;
-        Ok(TracePath {
-            order,
-            weights,
-            chain,
-        })
+        let graph = book.graph_of(alloc, trace)?;
+        let chain = critical(alloc, &graph.dag)?;
+        Ok(TracePath { graph, chain })
     }
 
     fn print<S: Sink>(
@@ -150,8 +143,8 @@ impl TraceTexts for PathTexts {
         let numbered = NumberedTrace::new(
             book.catalogue(),
             trace,
-            computed.order.items(),
-            computed.weights.as_slice(),
+            computed.graph.order.items(),
+            computed.graph.dag.weights(),
         );
         print_path(sink, buffer, &numbered, &computed.chain)
     }

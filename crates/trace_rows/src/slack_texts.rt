@@ -18,17 +18,15 @@ use text_rows::laws::{calls_follow, part_calls_follow};
 use text_rows::{Field, PrintFault, RowBuffer, print_row};
 use trace_graph::OrderedGraph;
 use trace_types::NamedTrace;
-use weighted_dag::NumberList;
 
 /// The slacks of traces.
 #[derive(Clone, Copy)]
 pub(crate) struct SlackTexts;
 
-/// The longest length of a trace's graph and its slacks, and the graph without the edges.
+/// The longest length of a trace's graph and its slacks, and the graph.
 #[derive(Drop)]
 pub(crate) struct TraceSlacks {
-    order: NumberList,
-    weights: Vec<u64>,
+    graph: OrderedGraph,
     table: SlackTable,
 }
 
@@ -116,7 +114,7 @@ impl TraceTexts for SlackTexts {
 
     ghost part = { λ _ kept k. SlacksOf kept k };
 
-    ghost computes = { λ _ b t slacks. AreSlacksUnderBook b t slacks.order slacks.weights.items
+    ghost computes = { λ _ b t slacks. AreSlacksUnderBook b t slacks.graph.order slacks.graph.dag
         slacks.table.longest slacks.table.slacks.items };
 
     fn compute(
@@ -125,14 +123,9 @@ impl TraceTexts for SlackTexts {
         book: &PreparedBook<'_>,
         trace: &NamedTrace,
     ) -> Result<TraceSlacks, AllocError> {
-        let OrderedGraph { order, dag } = book.graph_of(alloc, trace)?;
-        let table = longest_and_slacks(alloc, &dag)?;
-        let weights = Vec::from_slice(alloc, dag.weights())?;
-        Ok(TraceSlacks {
-            order,
-            weights,
-            table,
-        })
+        let graph = book.graph_of(alloc, trace)?;
+        let table = longest_and_slacks(alloc, &graph.dag)?;
+        Ok(TraceSlacks { graph, table })
     }
 
     fn print<S: Sink>(
@@ -149,8 +142,8 @@ impl TraceTexts for SlackTexts {
         let numbered = NumberedTrace::new(
             book.catalogue(),
             trace,
-            computed.order.items(),
-            computed.weights.as_slice(),
+            computed.graph.order.items(),
+            computed.graph.dag.weights(),
         );
         print_table(sink, buffer, &numbered, &computed.table)
     }

@@ -1,15 +1,17 @@
 ghost use Rattle.std.specs.Prelude.{◌≡◌, ◌∷◌, [], List, IfOk, length, map};
 ghost use Rattle.std.specs.Borrow.{Bor};
-ghost use Rattle.std.specs.List.{All, AllZip};
+ghost use Rattle.std.specs.List.{All};
 ghost use Rattle.refute_tests.specs.Clearing.{HaveNamesBelow};
 ghost use Rattle.session_rules.specs.KeptTraces.{Kept};
 ghost use Rattle.session_rules.specs.Parts.{Part};
 ghost use Rattle.text_rows.specs.Printing.{print_faults};
-ghost use Rattle.trace_rows.specs.inner.ShownTraces.{NumberedBook as Book, PrintsShown};
-ghost use Rattle.trace_rows.specs.inner.ShownTraces.{traces_in};
+ghost use Rattle.text_rows.specs.TextSinks.{all_bytes};
+ghost use Rattle.trace_rows.specs.inner.Pieces.{traces_of_pieces};
+ghost use Rattle.trace_rows.specs.inner.ShownTraces.{IsShownText, NumberedBook as Book};
+ghost use Rattle.trace_rows.specs.inner.ShownTraces.{PrintsShown, traces_in};
 ghost use Rattle.trace_types.specs.declared.named_trace.NamedTrace.{NamedTrace};
 
-use crate::chunks::{chunk_length, least_piece};
+use crate::chunks::{Piece, chunk_length, cut_pieces};
 use crate::numbered_book::NumberedBook;
 use crate::prepared_book::PreparedBook;
 use mystery_io::Sink;
@@ -17,14 +19,14 @@ use rayon::prelude::*;
 use session_rules::SessionPart;
 use std::alloc::{AllocError, Global};
 use std::thread::Threads;
-use text_rows::laws::{part_calls_follow, parts_follow};
-use text_rows::{PrintFault, RowBuffer};
+use text_rows::laws::{flush_ends_parts, part_calls_follow, parts_follow};
+use text_rows::{PrintFault, RowBuffer, TextSink, flush, print_texts};
 use trace_types::NamedTrace;
 
-/// A kind of texts of traces. What a text tells of a trace is computed before any of it is printed,
-/// so that several traces can be computed at once.
+/// A kind of texts of traces. What a text tells of a trace is computed before any of it is printed.
 pub(crate) trait TraceTexts: Sync {
-    /// What is computed of a trace.
+    /// What is computed of a trace. Threads share the kind of texts, and so what it can compute has
+    /// to be fit for threads.
     type Computed: Send + Drop;
 
     /// The part of a kept trace.
@@ -59,44 +61,17 @@ pub(crate) trait TraceTexts: Sync {
         ensures counted { S.faults sink.new ≡ print_faults result (S.faults sink.old) };
 }
 
-/// Computes what the part of each trace tells, by all processors.
-fn compute_each<R: Threads + Sync, K: TraceTexts>(
-    rt: &R,
+/// Computes what the part of each of these traces tells and prints it, one trace after another.
+fn print_in_turn<S: Sink, K: TraceTexts>(
     alloc: Global,
     book: &PreparedBook<'_>,
     texts: &K,
     traces: &[&NamedTrace],
-) -> Result<Vec<K::Computed>, AllocError>
-    requires { All (λ (t : Bor NamedTrace). HaveNamesBelow (length book.now.known.names) t.now)
-        traces.now }
-    ensures { IfOk result (λ computed. AllZip
-        (λ (t : Bor NamedTrace) c. K.computes texts.now book.now t.now c)
-        traces.now computed.items) }
-{
-    let computed: Result<Vec<K::Computed>, AllocError> = traces
-        .par_iter()
-        .with_min_len(least_piece(traces))
-        .map(
-            |trace: &&NamedTrace| -> Result<K::Computed, AllocError>
-                requires { HaveNamesBelow (length book.now.known.names) trace.now.now }
-                ensures { IfOk result (K.computes texts.entry.now book.entry.now trace.now.now) }
-            { texts.compute(alloc, book, trace) },
-        )
-        .collect(rt, alloc)?;
-    computed
-}
-
-/// Prints the parts of these traces, in order, from what was computed of them.
-fn print_computed<S: Sink, K: TraceTexts>(
-    book: &PreparedBook<'_>,
-    texts: &K,
-    traces: &[&NamedTrace],
-    computed: &[K::Computed],
     sink: &mut S,
     buffer: &mut RowBuffer,
 ) -> Result<(), PrintFault>
-    requires { AllZip (λ (t : Bor NamedTrace) c. K.computes texts.now book.now t.now c)
-        traces.now computed.now }
+    requires { All (λ (t : Bor NamedTrace). HaveNamesBelow (length book.now.known.names) t.now)
+        traces.now }
     ensures printed { PrintsShown S.written S.faults result sink.old sink.new book.now
         (K.part texts.now) (map (λ (t : Bor NamedTrace). t.now) traces.now)
         buffer.old buffer.new }
@@ -105,12 +80,72 @@ fn print_computed<S: Sink, K: TraceTexts>(
     parts_follow::<SessionPart>();
     part_calls_follow::<S, SessionPart>();
     for place in 0..traces.len() {
-        texts.print(book, traces[place], &computed[place], sink, buffer)?;
+        let trace = traces[place];
+        let computed = texts.compute(alloc, book, trace)?;
+        texts.print(book, trace, &computed, sink, buffer)?;
     }
     Ok(())
 }
 
-/// Computes what the parts of these traces tell, and then prints them, in order.
+/// Makes a text of the parts of these traces. The only error is that memory ran out, since nothing
+/// else stops a sink in memory.
+fn make_text<K: TraceTexts>(
+    alloc: Global,
+    book: &PreparedBook<'_>,
+    texts: &K,
+    traces: &[&NamedTrace],
+) -> Result<Vec<u8>, AllocError>
+    requires { All (λ (t : Bor NamedTrace). HaveNamesBelow (length book.now.known.names) t.now)
+        traces.now }
+    ensures { IfOk result (λ text. IsShownText book.now (K.part texts.now)
+        (map (λ (t : Bor NamedTrace). t.now) traces.now) text.items) }
+{
+    flush_ends_parts::<SessionPart>();
+    let mut sink = TextSink::new(alloc);
+    let mut buffer = RowBuffer::new(alloc);
+    let Ok(()) = print_in_turn(alloc, book, texts, traces, &mut sink, &mut buffer) else {
+        return Err(AllocError);
+    };
+    let Ok(()) = flush(&mut sink, &mut buffer) else {
+        return Err(AllocError);
+    };
+    Ok(sink.into_bytes())
+}
+
+/// Makes a text of the parts of each piece of traces, by all processors. The only error is that
+/// memory ran out.
+fn make_texts<R: Threads + Sync, K: TraceTexts>(
+    rt: &R,
+    alloc: Global,
+    book: &PreparedBook<'_>,
+    texts: &K,
+    pieces: &[Piece<'_>],
+) -> Result<Vec<Vec<u8>>, AllocError>
+    requires { All (λ (t : Bor NamedTrace). HaveNamesBelow (length book.now.known.names) t.now)
+        (traces_of_pieces pieces.now) }
+    ensures { IfOk result (λ made. IsShownText book.now (K.part texts.now)
+        (map (λ (t : Bor NamedTrace). t.now) (traces_of_pieces pieces.now))
+        (all_bytes made.items)) }
+{
+    parts_follow::<SessionPart>();
+    let made: Result<Vec<Vec<u8>>, AllocError> = pieces
+        .par_iter()
+        .with_min_len(1)
+        .map(
+            |piece: &Piece<'_>| -> Result<Vec<u8>, AllocError>
+                requires { All (λ (t : Bor NamedTrace).
+                    HaveNamesBelow (length book.now.known.names) t.now) piece.now.traces.now }
+                ensures { IfOk result (λ text. IsShownText book.entry.now
+                    (K.part texts.entry.now)
+                    (map (λ (t : Bor NamedTrace). t.now) piece.now.traces.now)
+                    text.items) }
+            { make_text(alloc, book, texts, piece.traces) },
+        )
+        .collect(rt, alloc)?;
+    made
+}
+
+/// Prints the parts of these traces, in order. Many are made into texts by all processors first.
 fn print_chunk<R: Threads + Sync, S: Sink, K: TraceTexts>(
     rt: &R,
     alloc: Global,
@@ -128,12 +163,16 @@ fn print_chunk<R: Threads + Sync, S: Sink, K: TraceTexts>(
     ensures counted { S.faults sink.new ≡ print_faults result (S.faults sink.old) }
 {
     parts_follow::<SessionPart>();
-    let computed = compute_each(rt, alloc, book, texts, traces)?;
-    print_computed(book, texts, traces, &computed, sink, buffer)
+    let pieces = cut_pieces(alloc, traces)?;
+    if pieces.len() < 2 {
+        return print_in_turn(alloc, book, texts, traces, sink, buffer);
+    }
+    let made = make_texts(rt, alloc, book, texts, &pieces)?;
+    print_texts(sink, buffer, &made)
 }
 
-/// Prints the parts of these traces, in order. They are computed a chunk at a time, and what was
-/// computed of a chunk is freed before the next.
+/// Prints the parts of these traces, in order, a chunk at a time. The texts of a chunk are freed
+/// before those of the next are made.
 pub(crate) fn print_each<R: Threads + Sync, S: Sink, K: TraceTexts>(
     rt: &R,
     alloc: Global,

@@ -25,25 +25,21 @@ pub record IsGraphUnderBook (b : NumberedBook) (t : NamedTrace) (order : List �
     weights = g.weights;
   })
 
--- of the longest chains of a trace's graph, whose vertices have this order and these weights, the
--- first, with its length
-pub record IsPathUnderBook (b : NumberedBook) (t : NamedTrace) (order weights : List ℕ) (total : ℕ)
-    (chain : List ℕ) : Type 0 where
-  pub graph : Graph
+-- of the longest chains of a trace's graph, whose vertices have this order, the first, with its
+-- length
+pub record IsPathUnderBook (b : NumberedBook) (t : NamedTrace) (order : List ℕ) (graph : Graph)
+    (total : ℕ) (chain : List ℕ) : Type 0 where
   pub of_trace : IsGraphUnderBook b t order graph
-  pub weighted : weights ≡ graph.weights
   pub chained : IsChain graph chain
   pub none_longer : NoneIsLonger graph (chain_length graph chain)
   pub first : NoLongestIsBefore graph chain
   pub adds_up : total ≡ chain_length graph chain
 
--- the longest length of a trace's graph, whose vertices have this order and these weights, and the
--- slack of each vertex
-pub record AreSlacksUnderBook (b : NumberedBook) (t : NamedTrace) (order weights : List ℕ)
+-- the longest length of a trace's graph, whose vertices have this order, and the slack of each
+-- vertex
+pub record AreSlacksUnderBook (b : NumberedBook) (t : NamedTrace) (order : List ℕ) (graph : Graph)
     (longest : ℕ) (slacks : List ℕ) : Type 0 where
-  pub graph : Graph
   pub of_trace : IsGraphUnderBook b t order graph
-  pub weighted : weights ≡ graph.weights
   pub is_longest : IsLongestLength graph longest
   pub entries : length slacks ≡ order_of graph
   pub each : EachIndex graph.weights (λ v. IsSlack graph v (slice_index slacks v))

@@ -7,7 +7,7 @@ use Rattle.session_rules.specs.KeptTraces.{Kept}
 use Rattle.session_rules.specs.Parts.{Header, IsPart, Part}
 use Rattle.session_rules.specs.TraceTexts.{name_at}
 use Rattle.kept_books.specs.Shown.{AreShown, IsShown}
-use Rattle.text_rows.specs.TextsOfParts.{PrintsTexts}
+use Rattle.text_rows.specs.TextsOfParts.{AreTexts, PrintsTexts}
 use Rattle.text_rows.specs.declared.print_fault.PrintFault.{PrintFault}
 use Rattle.trace_types.specs.declared.named_trace.NamedTrace.{NamedTrace}
 use Rattle.trace_rows.specs.inner.NumberedTraces.{IsNumbered, NumberedTrace, vertex_name}
@@ -41,6 +41,13 @@ abbrev pub PrintsShown : {S T : Type 0} → (S → Option (List ℕ)) → (S →
 PrintsShown written faults result old new b part traces held holds = (kept : List Kept)
     → AreShown b.known (traces_in b) kept → (some : List Kept) → AreShown b.known traces some
     → PrintsTexts written faults result old new IsPart (map (part kept) some) held holds
+
+-- the bytes are a text of the parts of these traces of the book, whatever kept traces are shown
+abbrev pub IsShownText : NumberedBook → (List Kept → Kept → Part) → List NamedTrace → List ℕ
+    → Type 0
+IsShownText b part traces text = (kept : List Kept) → AreShown b.known (traces_in b) kept
+    → (some : List Kept) → AreShown b.known traces some
+    → AreTexts IsPart (map (part kept) some) text
 
 -- a call printed a header of this word and the parts of all traces of the book, likewise
 abbrev pub PrintsWhole : {S T : Type 0} → (S → Option (List ℕ)) → (S → ℕ) → Result T PrintFault

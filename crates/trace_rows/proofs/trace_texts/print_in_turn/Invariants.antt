@@ -4,7 +4,7 @@ use Rattle.std.specs.List.{flat_map}
 use Rattle.trace_types.specs.declared.named_trace.NamedTrace.{NamedTrace}
 use Rattle.trace_rows.specs.inner.ShownTraces.{PrintsShown}
 use Rattle.trace_rows.proofs.PrintLemmas.{done}
-use Rattle.trace_rows.proofs.trace_texts.print_computed.Given as goal
+use Rattle.trace_rows.proofs.trace_texts.print_in_turn.Given as goal
 
 -- the parts so far
 abbrev pub invariant-loop-place : goal.invariant-loop-place
