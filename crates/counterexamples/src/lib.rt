@@ -2,6 +2,8 @@
 //! trace that does, those of all relations in one pass, and whether kept traces show a claim.
 #![tactic(auto)]
 
+#[cfg(test)]
+mod claim_tests;
 mod claims;
 mod elements;
 mod finding;
