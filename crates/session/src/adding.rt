@@ -1,8 +1,14 @@
-ghost use Rattle.std.specs.Prelude.{◌≡◌, ◌^◌, ◌+◌, ◌<◌, ◌≤◌, All, List, length, map, IfOk, IfErr};
+ghost use Rattle.std.specs.Prelude.{◌≡◌, ◌^◌, ◌+◌, ◌<◌, ◌≤◌, All, List, length, map};
+ghost use Rattle.std.specs.Prelude.{IfErr, IfOk, OnOk};
 ghost use Rattle.batch_sheets.specs.Named.{HasFewSegments, cut_trace};
+ghost use Rattle.day_partitions.specs.Books.{with_names};
 ghost use Rattle.kept_books.specs.Shown.{AreShown};
 ghost use Rattle.refute_tests.specs.Clearing.{HaveNamesBelow};
 ghost use Rattle.segment_cut.specs.NumberedCuts.{NumberedCut};
+ghost use Rattle.segment_names.specs.Known.{with_traces};
+ghost use Rattle.segment_names.specs.Limits.{IsKept, PassesLimit};
+ghost use Rattle.segment_names.specs.declared.name_fault.NameFault.{NameFault};
+ghost use Rattle.session_rules.specs.KeptTraces.{kept_with};
 ghost use Rattle.session_rules.specs.Sessions.{State};
 ghost use Rattle.session.specs.Carrying.{kept_count};
 ghost use Rattle.session.specs.SessionStates.{Shows};
@@ -10,6 +16,7 @@ ghost use Rattle.session.specs.Sheets.{graced_by};
 ghost use Rattle.session.specs.inner.AddFaults.{HasAddCause, HasNamesCause};
 ghost use Rattle.session.specs.inner.AddSteps.{AreBooked, AreNamed, HasDaysCause, IsAddOf};
 ghost use Rattle.trace_types.specs.Batch.{requests_of};
+ghost use Rattle.trace_types.specs.Limits.{most_grace};
 ghost use Rattle.trace_types.specs.Times.{AreTimely};
 ghost use Rattle.trace_types.specs.declared.trace.Trace.{Trace};
 
@@ -20,12 +27,15 @@ use crate::laws::{
     add_is_told, add_leads_on, add_passes_days, names_grow, no_more_are_sheeted, no_more_are_valid,
 };
 use batch_sheets::{DayLines, judge_batch, name_batch};
+use day_partitions::DayBook;
 use event_lines::EventParts;
 use event_table::laws::traces_keep_facts;
 use event_table::{Texts, gather};
 use mystery_io::Gate;
 use segment_cut::CutTrace;
+use segment_names::Catalogue;
 use session_rules::Refused;
+use std::alloc::Global;
 use std::thread::Threads;
 use trace_types::NamedTrace;
 
@@ -45,6 +55,44 @@ pub(crate) struct AddedBatch {
 struct NamedBatch {
     session: Session,
     named: Vec<NamedTrace>,
+}
+
+/// Adds the names and tasks of traces to a catalogue, widens a book to the names, and names the
+/// traces with this grace, in nanoseconds, by up to so many workers. The texts are those that the
+/// numbers of the traces stand for. After an error the catalogue may have some of the names.
+fn name_and_widen<R: Threads + Sync>(
+    rt: &R,
+    alloc: Global,
+    catalogue: &mut Catalogue,
+    book: &mut DayBook,
+    texts: &Texts,
+    traces: Vec<CutTrace<'_>>,
+    grace: u64,
+    workers: u32,
+) -> Result<Vec<NamedTrace>, AddFault>
+    requires few { All HasFewSegments (map cut_trace traces.items) }
+    requires texts { All (λ (c : NumberedCut). c.texts ≡ texts.now) traces.items }
+    requires grace { grace ≤ most_grace }
+    requires names { book.old.names ≡ length catalogue.old.names }
+    ensures kept { IsKept catalogue.old }
+    ensures none { OnOk result ((fault : NameFault)
+        → PassesLimit catalogue.old (map cut_trace traces.entry.items) fault → ⊥) }
+    ensures added { OnOk result
+        (catalogue.new ≡ with_traces catalogue.old (map cut_trace traces.entry.items)) }
+    ensures widened { OnOk result
+        (book.new ≡ with_names book.old (length catalogue.new.names)) }
+    ensures shown { IfOk result (λ named. AreShown catalogue.new named.items
+        (map (kept_with grace) (map cut_trace traces.entry.items))) }
+    ensures below { IfOk result
+        (λ named. All (HaveNamesBelow (length catalogue.new.names)) named.items) }
+    ensures cause { IfErr result
+        (HasNamesCause catalogue.old (map cut_trace traces.entry.items)) }
+{
+    names_grow();
+    let _names = catalogue.names();
+    let named = name_batch(rt, alloc, catalogue, texts, traces, grace, workers)?;
+    book.widen(catalogue.names())?;
+    Ok(named)
 }
 
 impl Session {
@@ -67,7 +115,6 @@ impl Session {
             (λ b. All (HaveNamesBelow (length b.session.known.names)) b.named.items) }
         ensures cause { IfErr result (HasNamesCause self.known (map cut_trace valid.entry.items)) }
     {
-        names_grow();
         let Session {
             alloc,
             workers,
@@ -76,10 +123,17 @@ impl Session {
             watch,
             grace,
         } = self;
-        let _names = catalogue.names();
         let nanos = 1000 * u64::from(grace);
-        let named = name_batch(rt, alloc, &mut catalogue, texts, valid, nanos, workers)?;
-        book.widen(catalogue.names())?;
+        let named = name_and_widen(
+            rt,
+            alloc,
+            &mut catalogue,
+            &mut book,
+            texts,
+            valid,
+            nanos,
+            workers,
+        )?;
         Ok(NamedBatch {
             session: Session {
                 alloc,

@@ -180,20 +180,48 @@ fn turned_batch(alloc: Global) -> Result<Vec<Event>, AllocError> {
     Ok(events)
 }
 
+/// Watches each trace, adds events and prints the model.
+fn watch_and_add<R: Threads + Sync, S: Sink>(
+    rt: &R,
+    session: Session,
+    events: Vec<Event>,
+    out: &mut S,
+) -> Result<Session, CommandFault> {
+    let session = control(rt, session, Command::Watch { every: 1 }, out)?;
+    let session = add(rt, session, events, out)?;
+    control(rt, session, Command::Model, out)
+}
+
+/// Prints paths, slacks and graphs.
+fn print_views<R: Threads + Sync, S: Sink>(
+    rt: &R,
+    session: Session,
+    out: &mut S,
+) -> Result<Session, CommandFault> {
+    let session = control(rt, session, Command::Paths, out)?;
+    let session = control(rt, session, Command::Slack, out)?;
+    control(rt, session, Command::Graph, out)
+}
+
+/// Keeps no day and prints the model.
+fn keep_nothing<R: Threads + Sync, S: Sink>(
+    rt: &R,
+    session: Session,
+    out: &mut S,
+) -> Result<Session, CommandFault> {
+    let session = control(rt, session, Command::Keep { days: 0 }, out)?;
+    control(rt, session, Command::Model, out)
+}
+
 #[test]
 fn a_session_adds_drops_keeps_and_prints(rt: HostRuntime) -> Result<(), Fail> {
     let alloc = rt.alloc();
     let mut out = MemSink::new(alloc, 100, Vec::new(alloc), 1000)?;
-    let mut session = Session::new(alloc, 1)?;
-    session = control(&rt, session, Command::Watch { every: 1 }, &mut out)?;
-    session = add(&rt, session, batch(alloc)?, &mut out)?;
-    session = control(&rt, session, Command::Model, &mut out)?;
-    session = control(&rt, session, Command::Drop { day: 1 }, &mut out)?;
-    session = control(&rt, session, Command::Paths, &mut out)?;
-    session = control(&rt, session, Command::Slack, &mut out)?;
-    session = control(&rt, session, Command::Graph, &mut out)?;
-    session = control(&rt, session, Command::Keep { days: 0 }, &mut out)?;
-    let _session = control(&rt, session, Command::Model, &mut out)?;
+    let session = Session::new(alloc, 1)?;
+    let session = watch_and_add(&rt, session, batch(alloc)?, &mut out).expect(&rt, "session");
+    let session = control(&rt, session, Command::Drop { day: 1 }, &mut out).expect(&rt, "session");
+    let session = print_views(&rt, session, &mut out).expect(&rt, "session");
+    let _session = keep_nothing(&rt, session, &mut out).expect(&rt, "session");
     assert_eq!(rt;
         out.bytes(),
         b"refused\tr3\trepeated event\t6\n\
@@ -221,17 +249,17 @@ fn a_session_adds_drops_keeps_and_prints(rt: HostRuntime) -> Result<(), Fail> {
 fn a_session_reports_and_forecasts(rt: HostRuntime) -> Result<(), Fail> {
     let alloc = rt.alloc();
     let mut out = MemSink::new(alloc, 100, Vec::new(alloc), 1000)?;
-    let mut session = Session::new(alloc, 1)?;
-    session = add(&rt, session, batch(alloc)?, &mut out)?;
+    let session = Session::new(alloc, 1)?;
+    let session = add(&rt, session, batch(alloc)?, &mut out).expect(&rt, "session");
     let change = NamedChange {
         name: name(alloc, "a")?,
         num: 1,
         den: 4,
     };
-    session = control(&rt, session, Command::Report, &mut out)?;
-    session = carry_out(&rt, session, Job::Summary, &mut out)?;
-    session = carry_out(&rt, session, Job::Tail, &mut out)?;
-    let _session = carry_out(&rt, session, Job::WhatIf { change }, &mut out)?;
+    let session = control(&rt, session, Command::Report, &mut out).expect(&rt, "session");
+    let session = carry_out(&rt, session, Job::Summary, &mut out).expect(&rt, "session");
+    let session = carry_out(&rt, session, Job::Tail, &mut out).expect(&rt, "session");
+    let _session = carry_out(&rt, session, Job::WhatIf { change }, &mut out).expect(&rt, "session");
     assert_eq!(rt;
         out.bytes(),
         b"refused\tr3\trepeated event\t6\n\
@@ -255,16 +283,16 @@ fn a_session_reports_and_forecasts(rt: HostRuntime) -> Result<(), Fail> {
 fn a_session_certifies_and_verifies(rt: HostRuntime) -> Result<(), Fail> {
     let alloc = rt.alloc();
     let mut out = MemSink::new(alloc, 100, Vec::new(alloc), 1000)?;
-    let mut session = Session::new(alloc, 1)?;
-    session = add(&rt, session, turned_batch(alloc)?, &mut out)?;
-    session = carry_out(&rt, session, Job::Why, &mut out)?;
+    let session = Session::new(alloc, 1)?;
+    let session = add(&rt, session, turned_batch(alloc)?, &mut out).expect(&rt, "session");
+    let session = carry_out(&rt, session, Job::Why, &mut out).expect(&rt, "session");
     let mut claims = Vec::new(alloc);
     claims.push(claim(alloc, 2, "a", "b", 1, "r2")?)?;
     claims.push(claim(alloc, 3, "b", "a", 0, "r1")?)?;
-    session = verify(&rt, session, claims, &mut out)?;
+    let session = verify(&rt, session, claims, &mut out).expect(&rt, "session");
     let mut claims = Vec::new(alloc);
     claims.push(claim(alloc, 7, "a", "b", 0, "r1")?)?;
-    let _session = verify(&rt, session, claims, &mut out)?;
+    let _session = verify(&rt, session, claims, &mut out).expect(&rt, "session");
     assert_eq!(rt;
         out.bytes(),
         b"why\ttraces=2\trefuted=2\n\
