@@ -109,6 +109,34 @@ fn number_part(
     })
 }
 
+/// Numbers the texts of parts in the whole tables, part after part, and appends their messages and
+/// the parts.
+fn add_parts(
+    alloc: Global,
+    whole: &mut NumberedParts,
+    parts: Vec<EventTable>,
+) -> Result<(), AllocError>
+    requires texts { AreFewTexts (length (whole_events whole.old.parts.items)) whole.old.texts }
+    requires messages { AreFewMessages (length (whole_events whole.old.parts.items))
+        whole.old.messages }
+    requires within { All (AreWithin whole.old.texts whole.old.messages)
+        (whole_events whole.old.parts.items) }
+    requires few { length (events_under whole.old.texts whole.old.messages
+        (whole_events whole.old.parts.items) ++ events_of_tables parts.items) < 2 ^ 32 }
+    ensures events { OnOk result (events_under whole.new.texts whole.new.messages
+        (whole_events whole.new.parts.items)
+        ≡ events_under whole.old.texts whole.old.messages (whole_events whole.old.parts.items)
+        ++ events_of_tables parts.items) }
+    ensures within { OnOk result (All (AreWithin whole.new.texts whole.new.messages)
+        (whole_events whole.new.parts.items)) }
+{
+    for part in parts {
+        let numbered = number_part(alloc, &mut whole.texts, &mut whole.messages, part)?;
+        whole.parts.push(numbered)?;
+    }
+    Ok(())
+}
+
 /// Numbers the texts of all parts in the same tables, part after part, and appends all messages.
 /// The only error is out of memory.
 pub(crate) fn number_parts(
@@ -121,15 +149,12 @@ pub(crate) fn number_parts(
     ensures within { IfOk result (λ n. All (AreWithin n.texts n.messages)
         (whole_events n.parts.items)) }
 {
-    let mut texts = Texts::new(alloc);
-    let mut messages = Messages::new(alloc);
-    let mut numbered = Vec::with_capacity(alloc, parts.len())?;
-    for part in parts {
-        numbered.push(number_part(alloc, &mut texts, &mut messages, part)?)?;
-    }
-    Ok(NumberedParts {
-        texts,
-        messages,
+    let numbered = Vec::with_capacity(alloc, parts.len())?;
+    let mut whole = NumberedParts {
+        texts: Texts::new(alloc),
+        messages: Messages::new(alloc),
         parts: numbered,
-    })
+    };
+    add_parts(alloc, &mut whole, parts)?;
+    Ok(whole)
 }
