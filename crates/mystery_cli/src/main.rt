@@ -1,41 +1,14 @@
 //! The program `mystery`: it learns from logged events how the segments of requests depend on each
-//! other. `run` is the whole program over any files, sinks and gate; `main` gives it the real ones.
+//! other. `mystery_run::run` is the whole program; `main` gives it the real files and streams.
 #![tactic(auto)]
 
-mod action;
-mod certificate;
-mod change_words;
-mod command_line;
-mod drill;
-mod forecast;
-mod hex;
-mod input;
-mod input_form;
-mod job_reading;
-pub mod laws;
-mod line_intake;
-mod numbers;
-mod outcome;
-mod program;
-mod readings;
-mod reason;
-mod replay;
-mod replaying;
-mod session_run;
-mod view;
-
 use mystery_io::{OpenGate, RealFiles, RealSink, send_text};
-pub use outcome::Outcome;
-pub use program::run;
-pub use reason::Reason;
+use mystery_run::{Outcome, run};
 use std::alloc::{AllocError, Global};
 use std::env;
 use std::io::ErrorKind;
 use std::process::ExitCode;
 use trace_types::Text;
-
-#[cfg(test)]
-mod tests;
 
 /// Collects the arguments after the program's name. If one is not UTF-8, the result is one empty
 /// argument, which is outside the grammar.

@@ -2,16 +2,16 @@
 use Rattle.std.proofs.Common.{◌≡◌, ◌⊎◌, ℕ, List, Option, Some, None, refl, sym, ◌∙◌, ap, subst, inl, inr}
 use Rattle.std.specs.Prelude.{IfSome, Result, Ok, Err}
 use Rattle.session_rules.specs.declared.limit.Limit.{Limit}
-use Rattle.mystery_cli.specs.declared.outcome.Outcome.{Outcome}
-use Rattle.mystery_cli.specs.declared.outcome.Outcome.TheVariants.{Done, Memory, Arguments, BadLine, File, Write, Size, Over}
-use Rattle.mystery_cli.specs.CommandLines.{Call, call_of, certificate_of, files_of}
-use Rattle.mystery_cli.specs.Endings.{CallEnds, Ends, EndsAt, IsDecided, Writes}
-use Rattle.mystery_cli.specs.Messages.{status_of}
-use Rattle.mystery_cli.specs.Readings.{told_input}
-use Rattle.mystery_cli.specs.Runs.{OfInputs}
-use Rattle.mystery_cli.specs.Texts.{IsTextOf, IsTextUpTo}
-use Rattle.mystery_cli.specs.Works.{BadInput, Work, Jobs, Steps, work_said}
-use Rattle.mystery_cli.proofs.ReadingLemmas.{size_apart}
+use Rattle.mystery_run.specs.declared.outcome.Outcome.{Outcome}
+use Rattle.mystery_run.specs.declared.outcome.Outcome.TheVariants.{Done, Memory, Arguments, BadLine, File, Write, Size, Over}
+use Rattle.mystery_run.specs.CommandLines.{Call, call_of, certificate_of, files_of}
+use Rattle.mystery_run.specs.Endings.{CallEnds, Ends, EndsAt, IsDecided, Writes}
+use Rattle.mystery_run.specs.Messages.{status_of}
+use Rattle.mystery_run.specs.Readings.{told_input}
+use Rattle.mystery_run.specs.Runs.{OfInputs}
+use Rattle.mystery_run.specs.Texts.{IsTextOf, IsTextUpTo}
+use Rattle.mystery_run.specs.Works.{BadInput, Work, Jobs, Steps, work_said}
+use Rattle.mystery_run.proofs.ReadingLemmas.{size_apart}
 use Rattle.job_runs.specs.EndingLaws.{AreAlike, JobsStopAtOneLimit, TextsToLimitAreAlike, WholeStopsAtNoLimit, WholeTextsAreAlike}
 use Rattle.job_runs.specs.WatchLaws.{AlikeTextsDifferInNumbers, DifferInWatchNumbers}
 

@@ -10,17 +10,17 @@ use Rattle.mystery_io.specs.ReadFaults.{OpensFirst}
 use Rattle.job_runs.specs.Running.{WritesWhole}
 use Rattle.session_rules.specs.Sessions.{first_state}
 use Rattle.session_rules.specs.declared.job.Job.{Job}
-use Rattle.mystery_cli.specs.declared.outcome.Outcome.{Outcome}
-use Rattle.mystery_cli.specs.declared.outcome.Outcome.TheVariants.{Done, Memory, Arguments, BadLine, File, Write, Size, Over}
-use Rattle.mystery_cli.specs.CommandLines.{Call, all_files_of, call_of, certificate_of, certificate_of_action, files_of, files_of_action, is_in_grammar}
-use Rattle.mystery_cli.specs.Endings.{CallEnds, Ends, EndsAt, Writes}
-use Rattle.mystery_cli.specs.Readings.{FailsAt, FitsSize, PassesAt, PassesSize, told_input}
-use Rattle.mystery_cli.specs.ReplayTexts.{replay_text}
-use Rattle.mystery_cli.specs.Runs.{Seen, OfInputs, ReadsAll, EndsAs, Reads, Explains}
-use Rattle.mystery_cli.specs.Works.{BadInput, Work, Jobs, Steps, work_after, work_said}
-use Rattle.mystery_cli.specs.inner.InputEnds.{InputEnds, SaidEnds}
-use Rattle.mystery_cli.proofs.ReadingLemmas.{both_told, opens_to_failed, opens_to_passed, told_twice, too_big}
-use Rattle.mystery_cli.proofs.ReplayLemmas.{unbegun}
+use Rattle.mystery_run.specs.declared.outcome.Outcome.{Outcome}
+use Rattle.mystery_run.specs.declared.outcome.Outcome.TheVariants.{Done, Memory, Arguments, BadLine, File, Write, Size, Over}
+use Rattle.mystery_run.specs.CommandLines.{Call, all_files_of, call_of, certificate_of, certificate_of_action, files_of, files_of_action, is_in_grammar}
+use Rattle.mystery_run.specs.Endings.{CallEnds, Ends, EndsAt, Writes}
+use Rattle.mystery_run.specs.Readings.{FailsAt, FitsSize, PassesAt, PassesSize, told_input}
+use Rattle.mystery_run.specs.ReplayTexts.{replay_text}
+use Rattle.mystery_run.specs.Runs.{Seen, OfInputs, ReadsAll, EndsAs, Reads, Explains}
+use Rattle.mystery_run.specs.Works.{BadInput, Work, Jobs, Steps, work_after, work_said}
+use Rattle.mystery_run.specs.inner.InputEnds.{InputEnds, SaidEnds}
+use Rattle.mystery_run.proofs.ReadingLemmas.{both_told, opens_to_failed, opens_to_passed, told_twice, too_big}
+use Rattle.mystery_run.proofs.ReplayLemmas.{unbegun}
 
 -- a run that ran out of memory before it wrote anything
 pub no_memory : (workers : ℕ) (said : Result Work BadInput) (old : Option (List ℕ)) → InputEnds workers said Memory old old

@@ -3,7 +3,7 @@ use Rattle.std.proofs.Common.{◌≡◌, ℕ, zero, suc, ◌+◌, ◌-◌, ◌*�
 use Rattle.std.specs.List.{range_with_len}
 use Rattle.std.specs.Char.{digit_char}
 use Rattle.std.proofs.lemmas.List.{map-append}
-use Rattle.mystery_cli.specs.ReplayTexts.{hex_word}
+use Rattle.mystery_run.specs.ReplayTexts.{hex_word}
 
 -- the first digits of a word, so many
 unfoldable pub first_digits : ℕ → ℕ → List ℕ

@@ -7,16 +7,16 @@ use Rattle.event_lines.specs.InputLines.{LineFault, lines_said}
 use Rattle.event_lines.specs.LinesTaken.{LinesTaken, TakesBytes, said_with}
 use Rattle.mystery_io.specs.Input.{input_limit, input_of}
 use Rattle.session_rules.specs.declared.job.Job.{Job}
-use Rattle.mystery_cli.specs.declared.input.Input.{Input}
-use Rattle.mystery_cli.specs.declared.input.Input.TheVariants.{Bytes, Lines, Bad}
-use Rattle.mystery_cli.specs.declared.input_form.InputForm.{InputForm}
-use Rattle.mystery_cli.specs.declared.input_form.InputForm.TheVariants as forms
-use Rattle.mystery_cli.specs.declared.outcome.Outcome.{Outcome}
-use Rattle.mystery_cli.specs.Readings.{told_input}
-use Rattle.mystery_cli.specs.Works.{jobs_from, jobs_said, steps_said}
-use Rattle.mystery_cli.specs.inner.InputEnds.{InputEnds}
-use Rattle.mystery_cli.specs.inner.Inputs.{HasTaken, IsInputOf, IsReadAs, IsWithin, bytes_kept, lines_said_by}
-use Rattle.mystery_cli.proofs.ReadingLemmas.{read_told}
+use Rattle.mystery_run.specs.declared.input.Input.{Input}
+use Rattle.mystery_run.specs.declared.input.Input.TheVariants.{Bytes, Lines, Bad}
+use Rattle.mystery_run.specs.declared.input_form.InputForm.{InputForm}
+use Rattle.mystery_run.specs.declared.input_form.InputForm.TheVariants as forms
+use Rattle.mystery_run.specs.declared.outcome.Outcome.{Outcome}
+use Rattle.mystery_run.specs.Readings.{told_input}
+use Rattle.mystery_run.specs.Works.{jobs_from, jobs_said, steps_said}
+use Rattle.mystery_run.specs.inner.InputEnds.{InputEnds}
+use Rattle.mystery_run.specs.inner.Inputs.{HasTaken, IsInputOf, IsReadAs, IsWithin, bytes_kept, lines_said_by}
+use Rattle.mystery_run.proofs.ReadingLemmas.{read_told}
 
 -- bytes are taken after others
 pub has_taken_more : (old new : LinesTaken) (taken bytes : List ℕ) → TakesBytes old bytes new → HasTaken old taken → HasTaken new (taken ++ bytes)

@@ -14,10 +14,10 @@ use Rattle.session.specs.Carrying.{IsReady, requests_in}
 use Rattle.session_rules.specs.Jobs.{jobs_of}
 use Rattle.session_rules.specs.declared.job.Job.{Job}
 use Rattle.session_rules.specs.declared.job.Job.TheVariants.{Control}
-use Rattle.mystery_cli.specs.declared.view.View.{View}
-use Rattle.mystery_cli.specs.declared.view.View.TheVariants.{Model, Paths, Slack, Report, Graph}
-use Rattle.mystery_cli.specs.Works.{Jobs, jobs_with, view_command}
-use Rattle.mystery_cli.specs.inner.LastJobs.{IsLastJob}
+use Rattle.mystery_run.specs.declared.view.View.{View}
+use Rattle.mystery_run.specs.declared.view.View.TheVariants.{Model, Paths, Slack, Report, Graph}
+use Rattle.mystery_run.specs.Works.{Jobs, jobs_with, view_command}
+use Rattle.mystery_run.specs.inner.LastJobs.{IsLastJob}
 
 -- a view may be the last job
 pub view_is_last : (v : View) → IsLastJob (Control (view_command v))

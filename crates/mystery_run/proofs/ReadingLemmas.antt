@@ -6,7 +6,7 @@ use Rattle.std.proofs.lemmas.Bool.{eqb-true}
 use Rattle.std.proofs.lemmas.List.{length-append, nil_from_length, take-append-le}
 use Rattle.mystery_io.specs.Input.{input_limit, input_of, ended}
 use Rattle.mystery_io.specs.ReadFaults.{FilesSeen, OpensFirst, FailedAt, PassedAt, append_names}
-use Rattle.mystery_cli.specs.Readings.{AtFile, FailsAt, FitsSize, PassesAt, PassesSize, seen_after, told_input}
+use Rattle.mystery_run.specs.Readings.{AtFile, FailsAt, FitsSize, PassesAt, PassesSize, seen_after, told_input}
 
 -- no name is appended to those that were opened
 no_names : (known : Option (List (List ℕ))) → known ≡ append_names known []

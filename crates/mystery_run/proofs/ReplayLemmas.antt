@@ -13,10 +13,10 @@ use Rattle.step_core.specs.declared.step_fault.StepFault.TheVariants as faults
 use Rattle.step_core.specs.StepFaults.{HasStepFault}
 use Rattle.text_rows.specs.declared.print_fault.PrintFault.{PrintFault}
 use Rattle.text_rows.specs.declared.print_fault.PrintFault.TheVariants as printing
-use Rattle.mystery_cli.specs.ReplayTexts.{fault_row, step_row}
+use Rattle.mystery_run.specs.ReplayTexts.{fault_row, step_row}
 use Rattle.text_rows.specs.Printing.{Prints, print_faults, PrintsText}
 use Rattle.text_rows.specs.TextsFollow.{PrintsFollow, PrefixFollows, PrefixGoesOn}
-use Rattle.mystery_cli.specs.inner.Replaying.{row_of_fault, steps_text}
+use Rattle.mystery_run.specs.inner.Replaying.{row_of_fault, steps_text}
 
 -- what holds of a value, or of an error, follows from what does
 pub on_ok : {A E : Type 0} (r : Result A E) (P Q : Type 0) → (P → Q) → OnOk r P → OnOk r Q

@@ -2,12 +2,12 @@
 use Rattle.std.proofs.Common.{◌≡◌, ◌⊎◌, ℕ, arith, inl, inr, refl, sym, ◌∙◌}
 use Rattle.std.specs.Prelude.{◌==◌, not}
 use Rattle.session_rules.specs.declared.limit.Limit.{Limit}
-use Rattle.mystery_cli.specs.declared.outcome.Outcome.{Outcome}
-use Rattle.mystery_cli.specs.declared.outcome.Outcome.TheVariants.{Done, Memory, Arguments, BadLine, File, Write, Size, Over}
-use Rattle.mystery_cli.specs.declared.reason.Reason.{Reason}
-use Rattle.mystery_cli.specs.CommandLines.{is_in_grammar}
-use Rattle.mystery_cli.specs.Messages.{status_of}
-use Rattle.mystery_cli.specs.Runs.{Seen, Reads, ReadsAll}
+use Rattle.mystery_run.specs.declared.outcome.Outcome.{Outcome}
+use Rattle.mystery_run.specs.declared.outcome.Outcome.TheVariants.{Done, Memory, Arguments, BadLine, File, Write, Size, Over}
+use Rattle.mystery_run.specs.declared.reason.Reason.{Reason}
+use Rattle.mystery_run.specs.CommandLines.{is_in_grammar}
+use Rattle.mystery_run.specs.Messages.{status_of}
+use Rattle.mystery_run.specs.Runs.{Seen, Reads, ReadsAll}
 
 module _ (P : Outcome → Type 0) where
   -- with 0 it is done

@@ -7,13 +7,13 @@ use Rattle.std.specs.Prelude.{option_and_then}
 use Rattle.std.specs.Option.{option_map_or}
 use Rattle.std.specs.List.{list_all}
 use Rattle.std.specs.Str.{bytes_eq}
-use Rattle.mystery_cli.specs.declared.command_line.CommandLine.{CommandLine}
-use Rattle.mystery_cli.specs.declared.action.Action as asked
-use Rattle.mystery_cli.specs.declared.action.Action.TheVariants as actions
-use Rattle.mystery_cli.specs.declared.change_words.ChangeWords.{ChangeWords}
-use Rattle.mystery_cli.specs.declared.view.View.{View}
-use Rattle.mystery_cli.specs.declared.view.View.TheVariants.{Model, Paths, Slack, Report, Graph}
-use Rattle.mystery_cli.specs.Numbers.{number_between}
+use Rattle.mystery_run.specs.declared.command_line.CommandLine.{CommandLine}
+use Rattle.mystery_run.specs.declared.action.Action as asked
+use Rattle.mystery_run.specs.declared.action.Action.TheVariants as actions
+use Rattle.mystery_run.specs.declared.change_words.ChangeWords.{ChangeWords}
+use Rattle.mystery_run.specs.declared.view.View.{View}
+use Rattle.mystery_run.specs.declared.view.View.TheVariants.{Model, Paths, Slack, Report, Graph}
+use Rattle.mystery_run.specs.Numbers.{number_between}
 use Rattle.session_rules.specs.declared.named_change.NamedChange.{NamedChange}
 
 -- what is asked for: the control lines of these files; these and then a view, a forecast, the

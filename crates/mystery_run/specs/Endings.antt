@@ -6,13 +6,13 @@ use Rattle.mystery_io.specs.Prefixes.{AppendsPrefix}
 use Rattle.session.specs.declared.command_fault.CommandFault.{CommandFault}
 use Rattle.session.specs.declared.command_fault.CommandFault.TheVariants as faults
 use Rattle.session_rules.specs.declared.limit.Limit.TheVariants.{Names, Tasks, Days}
-use Rattle.mystery_cli.specs.declared.outcome.Outcome.{Outcome}
-use Rattle.mystery_cli.specs.declared.outcome.Outcome.TheVariants.{Done, Memory, Arguments, BadLine}
-use Rattle.mystery_cli.specs.declared.outcome.Outcome.TheVariants.{File, Write, Size, Over}
-use Rattle.mystery_cli.specs.CommandLines.{Call, call_of}
-use Rattle.mystery_cli.specs.Readings.{FitsSize, PassesSize}
-use Rattle.mystery_cli.specs.Texts.{IsTextOf, IsTextUpTo, IsTextOfParts}
-use Rattle.mystery_cli.specs.Works.{Work, work_said}
+use Rattle.mystery_run.specs.declared.outcome.Outcome.{Outcome}
+use Rattle.mystery_run.specs.declared.outcome.Outcome.TheVariants.{Done, Memory, Arguments, BadLine}
+use Rattle.mystery_run.specs.declared.outcome.Outcome.TheVariants.{File, Write, Size, Over}
+use Rattle.mystery_run.specs.CommandLines.{Call, call_of}
+use Rattle.mystery_run.specs.Readings.{FitsSize, PassesSize}
+use Rattle.mystery_run.specs.Texts.{IsTextOf, IsTextUpTo, IsTextOfParts}
+use Rattle.mystery_run.specs.Works.{Work, work_said}
 
 -- the certificate and the input are within the limit and have no bad line, and P holds of the work
 abbrev pub OfWork : Call → List ℕ → List ℕ → (Work → Type 0) → Type 0

@@ -1,11 +1,11 @@
 -- The status of an outcome, and its message.
 use Rattle.std.specs.Prelude.{ℕ, ◌+◌, ◌++◌, List, [], codes, decimal}
 use Rattle.event_lines.specs.Reasons.{why_text}
-use Rattle.mystery_cli.specs.declared.reason.Reason.{Reason}
-use Rattle.mystery_cli.specs.declared.reason.Reason.TheVariants.{Line, Step, Certificate}
-use Rattle.mystery_cli.specs.declared.outcome.Outcome.{Outcome}
-use Rattle.mystery_cli.specs.declared.outcome.Outcome.TheVariants.{Done, Memory, Arguments, BadLine}
-use Rattle.mystery_cli.specs.declared.outcome.Outcome.TheVariants.{File, Write, Size, Over}
+use Rattle.mystery_run.specs.declared.reason.Reason.{Reason}
+use Rattle.mystery_run.specs.declared.reason.Reason.TheVariants.{Line, Step, Certificate}
+use Rattle.mystery_run.specs.declared.outcome.Outcome.{Outcome}
+use Rattle.mystery_run.specs.declared.outcome.Outcome.TheVariants.{Done, Memory, Arguments, BadLine}
+use Rattle.mystery_run.specs.declared.outcome.Outcome.TheVariants.{File, Write, Size, Over}
 use Rattle.session_rules.specs.declared.limit.Limit.{Limit}
 use Rattle.session_rules.specs.declared.limit.Limit.TheVariants.{Names, Tasks, Days}
 

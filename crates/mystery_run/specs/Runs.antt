@@ -2,12 +2,12 @@
 use Rattle.std.specs.Prelude.{ℕ, ◌≡◌, ◌<◌, List, length, true, false, Option, IfSome}
 use Rattle.std.specs.Io.KnownBytes.{IsAtEnd}
 use Rattle.mystery_io.specs.ReadFaults.{FilesSeen, OpensFirst}
-use Rattle.mystery_cli.specs.declared.outcome.Outcome.{Outcome}
-use Rattle.mystery_cli.specs.declared.outcome.Outcome.TheVariants.{Done, Memory, Arguments, BadLine}
-use Rattle.mystery_cli.specs.declared.outcome.Outcome.TheVariants.{File, Write, Size, Over}
-use Rattle.mystery_cli.specs.CommandLines.{all_files_of, certificate_of, files_of, is_in_grammar}
-use Rattle.mystery_cli.specs.Endings.{Ends, Writes}
-use Rattle.mystery_cli.specs.Readings.{FailsAt, PassesAt, told_input}
+use Rattle.mystery_run.specs.declared.outcome.Outcome.{Outcome}
+use Rattle.mystery_run.specs.declared.outcome.Outcome.TheVariants.{Done, Memory, Arguments, BadLine}
+use Rattle.mystery_run.specs.declared.outcome.Outcome.TheVariants.{File, Write, Size, Over}
+use Rattle.mystery_run.specs.CommandLines.{all_files_of, certificate_of, files_of, is_in_grammar}
+use Rattle.mystery_run.specs.Endings.{Ends, Writes}
+use Rattle.mystery_run.specs.Readings.{FailsAt, PassesAt, told_input}
 
 -- what a run saw: its arguments, the files, and what was written to the sink of texts, before and
 -- now

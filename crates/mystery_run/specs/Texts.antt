@@ -3,8 +3,8 @@ use Rattle.std.specs.Prelude.{ℕ, ◌≡◌, List}
 use Rattle.job_runs.specs.JobTexts.{IsText, IsTextToLimit, IsTextOfFirst}
 use Rattle.session_rules.specs.Sessions.{State}
 use Rattle.session_rules.specs.declared.limit.Limit.{Limit}
-use Rattle.mystery_cli.specs.ReplayTexts.{replay_text}
-use Rattle.mystery_cli.specs.Works.{Work, Jobs, Steps}
+use Rattle.mystery_run.specs.ReplayTexts.{replay_text}
+use Rattle.mystery_run.specs.Works.{Work, Jobs, Steps}
 
 -- the bytes are a text of the work
 abbrev pub IsTextOf : ℕ → Work → List ℕ → Type 0

@@ -15,12 +15,12 @@ use Rattle.session_rules.specs.declared.job.Job.TheVariants.{Control, Summary, W
 use Rattle.session_rules.specs.declared.job.Job.TheVariants.{Why, Verify}
 use Rattle.step_core.specs.declared.step_file.StepFile.{StepFile}
 use Rattle.step_core.specs.StepFiles.{file_said}
-use Rattle.mystery_cli.specs.declared.reason.Reason.{Reason}
-use Rattle.mystery_cli.specs.declared.reason.Reason.TheVariants as reasons
-use Rattle.mystery_cli.specs.declared.view.View.{View}
-use Rattle.mystery_cli.specs.declared.view.View.TheVariants.{Model, Paths, Slack, Report, Graph}
-use Rattle.mystery_cli.specs.CommandLines.{Action, session, view, what_if, tail, why, verify}
-use Rattle.mystery_cli.specs.CommandLines.{drill, replay}
+use Rattle.mystery_run.specs.declared.reason.Reason.{Reason}
+use Rattle.mystery_run.specs.declared.reason.Reason.TheVariants as reasons
+use Rattle.mystery_run.specs.declared.view.View.{View}
+use Rattle.mystery_run.specs.declared.view.View.TheVariants.{Model, Paths, Slack, Report, Graph}
+use Rattle.mystery_run.specs.CommandLines.{Action, session, view, what_if, tail, why, verify}
+use Rattle.mystery_run.specs.CommandLines.{drill, replay}
 
 -- jobs that a session carries out, or a file of steps that is replayed
 pub data Work : Type 0 where

@@ -1,10 +1,10 @@
 ghost use Rattle.std.specs.Prelude.{◌≡◌, ◌≤◌, ◌<◌, Some};
 ghost use Rattle.drill_input.specs.DrillInput.{drill_input};
 ghost use Rattle.session_rules.specs.declared.job.Job.TheVariants.{Summary};
-ghost use Rattle.mystery_cli.specs.Works.{jobs_said};
-ghost use Rattle.mystery_cli.specs.inner.InputEnds.{InputEnds};
-ghost use Rattle.mystery_cli.specs.inner.Leaving.{LeavesSink};
-ghost use Rattle.mystery_cli.specs.inner.OutcomeFaults.{outcome_faults};
+ghost use Rattle.mystery_run.specs.Works.{jobs_said};
+ghost use Rattle.mystery_run.specs.inner.InputEnds.{InputEnds};
+ghost use Rattle.mystery_run.specs.inner.Leaving.{LeavesSink};
+ghost use Rattle.mystery_run.specs.inner.OutcomeFaults.{outcome_faults};
 
 use crate::Outcome;
 use crate::input::Input;

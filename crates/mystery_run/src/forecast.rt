@@ -1,11 +1,11 @@
 ghost use Rattle.std.specs.Prelude.{◌≡◌, ◌≤◌, ◌<◌, Some};
 ghost use Rattle.session_rules.specs.declared.job.Job.TheVariants.{WhatIf};
-ghost use Rattle.mystery_cli.specs.CommandLines.{change_of};
-ghost use Rattle.mystery_cli.specs.Works.{jobs_from};
-ghost use Rattle.mystery_cli.specs.inner.InputEnds.{InputEnds};
-ghost use Rattle.mystery_cli.specs.inner.Inputs.{IsWithin, lines_said_by};
-ghost use Rattle.mystery_cli.specs.inner.Leaving.{LeavesSink};
-ghost use Rattle.mystery_cli.specs.inner.OutcomeFaults.{outcome_faults};
+ghost use Rattle.mystery_run.specs.CommandLines.{change_of};
+ghost use Rattle.mystery_run.specs.Works.{jobs_from};
+ghost use Rattle.mystery_run.specs.inner.InputEnds.{InputEnds};
+ghost use Rattle.mystery_run.specs.inner.Inputs.{IsWithin, lines_said_by};
+ghost use Rattle.mystery_run.specs.inner.Leaving.{LeavesSink};
+ghost use Rattle.mystery_run.specs.inner.OutcomeFaults.{outcome_faults};
 
 use crate::Outcome;
 use crate::change_words::ChangeWords;

@@ -1,6 +1,6 @@
 ghost use Rattle.std.specs.Prelude.{◌≡◌, ◌<◌};
 ghost use Rattle.std.specs.Char.{digit_char};
-ghost use Rattle.mystery_cli.specs.ReplayTexts.{hex_word};
+ghost use Rattle.mystery_run.specs.ReplayTexts.{hex_word};
 
 use arrayvec::ArrayString;
 

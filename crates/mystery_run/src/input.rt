@@ -13,7 +13,7 @@ pub(crate) enum Input {
 
 impl Input {
     ghost use Rattle.std.specs.Prelude.{◌≡◌};
-    ghost use Rattle.mystery_cli.specs.inner.Inputs.{bytes_kept};
+    ghost use Rattle.mystery_run.specs.inner.Inputs.{bytes_kept};
 
     /// Lends the bytes; none where lines were read.
     pub(crate) fn bytes(&self) -> &[u8]

@@ -4,9 +4,9 @@ ghost use Rattle.event_lines.specs.declared.command.Command.TheVariants.{Add};
 ghost use Rattle.event_lines.specs.declared.line.Line.TheVariants.{Control};
 ghost use Rattle.event_lines.specs.InputLines.{IsLineError};
 ghost use Rattle.job_runs.specs.Running.{AreReady};
-ghost use Rattle.mystery_cli.specs.Works.{Jobs, jobs_from, jobs_with};
-ghost use Rattle.mystery_cli.specs.inner.Inputs.{IsWithin, lines_said_by};
-ghost use Rattle.mystery_cli.specs.inner.LastJobs.{IsLastJob};
+ghost use Rattle.mystery_run.specs.Works.{Jobs, jobs_from, jobs_with};
+ghost use Rattle.mystery_run.specs.inner.Inputs.{IsWithin, lines_said_by};
+ghost use Rattle.mystery_run.specs.inner.LastJobs.{IsLastJob};
 
 use crate::input::Input;
 use event_lines::laws::lines_of_an_input_are_good;

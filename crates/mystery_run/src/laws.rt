@@ -1,8 +1,8 @@
 //! What holds of the definitions, each law a function that does nothing.
 ghost use Rattle.std.specs.Prelude.{◌≡◌, ◌⊎◌, ℕ, List};
 ghost use Rattle.job_runs.specs.WatchLaws.{DifferInWatchNumbers};
-ghost use Rattle.mystery_cli.specs.declared.outcome.Outcome.{Outcome};
-ghost use Rattle.mystery_cli.specs.Endings.{Ends, IsDecided};
+ghost use Rattle.mystery_run.specs.declared.outcome.Outcome.{Outcome};
+ghost use Rattle.mystery_run.specs.Endings.{Ends, IsDecided};
 
 use job_runs::laws::{jobs_end_in_one_way, only_watch_numbers_differ};
 

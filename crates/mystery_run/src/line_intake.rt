@@ -1,5 +1,5 @@
 ghost use Rattle.std.specs.Thread.{IsSync};
-ghost use Rattle.mystery_cli.specs.inner.Inputs.{HasTaken};
+ghost use Rattle.mystery_run.specs.inner.Inputs.{HasTaken};
 ghost use Rattle.event_lines.specs.LinesTaken.{room_after};
 
 use event_lines::LineReader;

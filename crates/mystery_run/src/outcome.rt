@@ -1,6 +1,6 @@
 ghost use Rattle.std.specs.Prelude.{◌≡◌, ◌+◌, ◌≤◌, ◌<◌, ◌++◌, length, codes, decimal};
-ghost use Rattle.mystery_cli.specs.Endings.{outcome_of};
-ghost use Rattle.mystery_cli.specs.Messages.{limit_count, limit_unit, message_of, status_of};
+ghost use Rattle.mystery_run.specs.Endings.{outcome_of};
+ghost use Rattle.mystery_run.specs.Messages.{limit_count, limit_unit, message_of, status_of};
 
 use crate::Reason;
 use arrayvec::ArrayString;

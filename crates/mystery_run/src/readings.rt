@@ -4,10 +4,10 @@ ghost use Rattle.std.specs.Io.KnownBytes.{IsAtEnd};
 ghost use Rattle.certificates.specs.Certificates.{certificate_said};
 ghost use Rattle.mystery_io.specs.Input.{input_limit};
 ghost use Rattle.mystery_io.specs.ReadFaults.{files_seen, HasReadCause, OpensFirst, read_faults};
-ghost use Rattle.mystery_cli.specs.Readings.{told_input};
-ghost use Rattle.mystery_cli.specs.declared.input_form.InputForm.TheVariants.{Lines};
-ghost use Rattle.mystery_cli.specs.inner.Inputs.{IsReadAs};
-ghost use Rattle.mystery_cli.specs.inner.ReadingTwice.{HasReadingCause, said_by};
+ghost use Rattle.mystery_run.specs.Readings.{told_input};
+ghost use Rattle.mystery_run.specs.declared.input_form.InputForm.TheVariants.{Lines};
+ghost use Rattle.mystery_run.specs.inner.Inputs.{IsReadAs};
+ghost use Rattle.mystery_run.specs.inner.ReadingTwice.{HasReadingCause, said_by};
 
 use crate::certificate::Certificate;
 use crate::input::Input;

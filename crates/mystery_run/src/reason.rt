@@ -1,5 +1,5 @@
 ghost use Rattle.std.specs.Prelude.{◌≡◌, ◌≤◌, length};
-ghost use Rattle.mystery_cli.specs.Messages.{reason_text};
+ghost use Rattle.mystery_run.specs.Messages.{reason_text};
 
 use event_lines::Why;
 

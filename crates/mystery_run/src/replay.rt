@@ -1,9 +1,9 @@
 ghost use Rattle.std.specs.Prelude.{◌≡◌, ◌≤◌, ℕ, length};
 ghost use Rattle.mystery_io.specs.Input.{input_limit};
-ghost use Rattle.mystery_cli.specs.Works.{steps_said};
-ghost use Rattle.mystery_cli.specs.inner.InputEnds.{InputEnds};
-ghost use Rattle.mystery_cli.specs.inner.Leaving.{LeavesSink};
-ghost use Rattle.mystery_cli.specs.inner.OutcomeFaults.{outcome_faults};
+ghost use Rattle.mystery_run.specs.Works.{steps_said};
+ghost use Rattle.mystery_run.specs.inner.InputEnds.{InputEnds};
+ghost use Rattle.mystery_run.specs.inner.Leaving.{LeavesSink};
+ghost use Rattle.mystery_run.specs.inner.OutcomeFaults.{outcome_faults};
 
 use crate::replaying::print_replay;
 use crate::{Outcome, Reason};

@@ -8,9 +8,9 @@ ghost use Rattle.text_rows.specs.Printing.{print_faults, PrintsText};
 ghost use Rattle.text_rows.specs.Rows.{row_of};
 ghost use Rattle.word_rows.specs.Machine.{step};
 ghost use Rattle.step_core.specs.StepLines.{is_start};
-ghost use Rattle.mystery_cli.specs.ReplayTexts.{hex_word, operand_of, replay_rows, replay_text};
-ghost use Rattle.mystery_cli.specs.ReplayTexts.{reply_row, seat_of, step_row};
-ghost use Rattle.mystery_cli.specs.inner.Replaying.{row_of_fault, steps_text};
+ghost use Rattle.mystery_run.specs.ReplayTexts.{hex_word, operand_of, replay_rows, replay_text};
+ghost use Rattle.mystery_run.specs.ReplayTexts.{reply_row, seat_of, step_row};
+ghost use Rattle.mystery_run.specs.inner.Replaying.{row_of_fault, steps_text};
 
 use crate::hex::hex_text;
 use arrayvec::ArrayString;

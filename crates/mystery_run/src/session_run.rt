@@ -1,11 +1,11 @@
 ghost use Rattle.std.specs.Prelude.{◌≡◌, ◌≤◌, ◌<◌, IfSome};
 ghost use Rattle.job_runs.specs.Running.{AreReady};
-ghost use Rattle.mystery_cli.specs.Works.{Jobs, jobs_from};
-ghost use Rattle.mystery_cli.specs.inner.InputEnds.{InputEnds};
-ghost use Rattle.mystery_cli.specs.inner.Inputs.{IsWithin, lines_said_by};
-ghost use Rattle.mystery_cli.specs.inner.LastJobs.{IsLastJob};
-ghost use Rattle.mystery_cli.specs.inner.Leaving.{LeavesSink};
-ghost use Rattle.mystery_cli.specs.inner.OutcomeFaults.{outcome_faults};
+ghost use Rattle.mystery_run.specs.Works.{Jobs, jobs_from};
+ghost use Rattle.mystery_run.specs.inner.InputEnds.{InputEnds};
+ghost use Rattle.mystery_run.specs.inner.Inputs.{IsWithin, lines_said_by};
+ghost use Rattle.mystery_run.specs.inner.LastJobs.{IsLastJob};
+ghost use Rattle.mystery_run.specs.inner.Leaving.{LeavesSink};
+ghost use Rattle.mystery_run.specs.inner.OutcomeFaults.{outcome_faults};
 
 use crate::input::Input;
 use crate::job_reading::read_jobs;

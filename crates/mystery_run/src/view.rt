@@ -1,6 +1,6 @@
 ghost use Rattle.std.specs.Prelude.{◌≡◌};
-ghost use Rattle.mystery_cli.specs.CommandLines.{named_view};
-ghost use Rattle.mystery_cli.specs.Works.{view_command};
+ghost use Rattle.mystery_run.specs.CommandLines.{named_view};
+ghost use Rattle.mystery_run.specs.Works.{view_command};
 
 use event_lines::Command;
 

@@ -1,5 +1,5 @@
-use super::rows::Row::Line;
-use super::{SETTING, Setting, expect, expect_texts};
+use crate::rows::Row::Line;
+use crate::running::{SETTING, Setting, expect, expect_texts};
 use std::alloc::Global;
 use std::process::Abort;
 use std::test::Fail;

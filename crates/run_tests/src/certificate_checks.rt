@@ -1,10 +1,12 @@
-use super::rows::{ADD, MODEL, OPPOSITE, OVERLAP, Row, TOUCHING, input_of};
-use super::sessions::LATER_OVERLAP;
-use super::views::PIPELINE;
-use super::{Printed, ROOM, SETTING, Setting, expect, expect_texts, mem_file, run_setting, texts};
-use crate::run;
+use crate::rows::{ADD, MODEL, OPPOSITE, OVERLAP, Row, TOUCHING, input_of};
+use crate::running::{
+    Printed, ROOM, SETTING, Setting, expect, expect_texts, mem_file, run_setting, texts,
+};
+use crate::sessions::LATER_OVERLAP;
+use crate::views::PIPELINE;
 use Row::Line;
 use mystery_io::{ByteList, MemFile, MemFiles, MemSink, OpenGate};
+use mystery_run::run;
 use std::alloc::Global;
 use std::process::Abort;
 use std::test::Fail;

@@ -1,8 +1,8 @@
 ghost use Rattle.std.specs.Prelude.{◌≤◌};
 
-use super::page_load::{FIRST, SECOND};
-use super::rows::input_of;
-use super::{SETTING, Setting, run_setting};
+use crate::page_load::{FIRST, SECOND};
+use crate::rows::input_of;
+use crate::running::{SETTING, Setting, run_setting};
 use drill_input::generate;
 use std::alloc::{AllocError, Global};
 use std::process::Abort;

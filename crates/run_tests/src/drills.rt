@@ -1,4 +1,4 @@
-use super::{SETTING, Setting, expect};
+use crate::running::{SETTING, Setting, expect};
 use std::test::Fail;
 
 const ONE_TRACE: &[u8] = b"model\ttraces=1\tdays=1\tsegments=6\ttasks=5\thb=12\tmx=0\tpipe=2\n\

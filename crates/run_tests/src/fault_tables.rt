@@ -1,9 +1,9 @@
-use super::limits::{put_events, put_tasks};
-use super::page_load::{FIRST, PAGE_LOAD_MODEL, SECOND};
-use super::replays::NOTE;
-use super::rows::{ADD, MODEL, OPPOSITE, Row, TOUCHING, input_of};
-use super::sessions::LATER_OVERLAP;
-use super::{SETTING, Setting, expect, run_setting};
+use crate::limits::{put_events, put_tasks};
+use crate::page_load::{FIRST, PAGE_LOAD_MODEL, SECOND};
+use crate::replays::NOTE;
+use crate::rows::{ADD, MODEL, OPPOSITE, Row, TOUCHING, input_of};
+use crate::running::{SETTING, Setting, expect, run_setting};
+use crate::sessions::LATER_OVERLAP;
 use Row::Line;
 use std::alloc::Global;
 use std::process::Abort;

@@ -1,6 +1,6 @@
-use super::{EMPTY, ROOM, SETTING, Setting, expect, texts};
-use crate::run;
+use crate::running::{EMPTY, ROOM, SETTING, Setting, expect, texts};
 use mystery_io::{ByteList, MemFile, MemFiles, MemSink, OpenGate};
+use mystery_run::run;
 use std::test::Fail;
 use trace_types::Text;
 

@@ -1,5 +1,5 @@
-use super::rows::{BRANCHES, input_of};
-use super::{SETTING, Setting, expect};
+use crate::rows::{BRANCHES, input_of};
+use crate::running::{SETTING, Setting, expect};
 use std::test::Fail;
 
 #[test]

@@ -1,184 +1,40 @@
+//! Tests of `run` over files and sinks in memory: what each command prints of worked inputs, and how
+//! a run ends that meets a bad line, a fault or a limit.
+#![tactic(auto)]
+
+#[cfg(test)]
 mod bad_lines;
+#[cfg(test)]
 mod certificate_checks;
+#[cfg(test)]
 mod certificate_runs;
+#[cfg(test)]
 mod drills;
+#[cfg(test)]
 mod fault_tables;
+#[cfg(test)]
 mod faults;
+#[cfg(test)]
 mod forecasts;
+#[cfg(test)]
 mod limits;
+#[cfg(test)]
 mod many_traces;
+#[cfg(test)]
 mod page_load;
+#[cfg(test)]
 mod real;
+#[cfg(test)]
 mod replays;
+#[cfg(test)]
 mod reports;
+#[cfg(test)]
 mod rows;
+#[cfg(test)]
+mod running;
+#[cfg(test)]
 mod sessions;
+#[cfg(test)]
 mod views;
+#[cfg(test)]
 mod watches;
-
-use crate::run;
-use mystery_io::{ByteList, MemFile, MemFiles, MemSink, OpenGate};
-use rows::{Row, input_of};
-use std::alloc::{AllocError, Global};
-use std::process::Abort;
-use std::test::Fail;
-use std::thread::Threads;
-use trace_types::Text;
-
-pub(crate) const EMPTY: &[u8] =
-    b"model\ttraces=0\tdays=0\tsegments=0\ttasks=0\thb=0\tmx=0\tpipe=0\n";
-
-pub(crate) const ROOM: usize = 65_536;
-
-/// Makes the list of these arguments.
-pub(crate) fn texts(alloc: Global, words: &[&str]) -> Result<Vec<Text>, AllocError> {
-    let mut all = Vec::new(alloc);
-    for word in words {
-        all.push(Text::new(alloc, word)?)?;
-    }
-    Ok(all)
-}
-
-/// Makes a file in memory.
-pub(crate) fn mem_file(alloc: Global, name: &str, bytes: &[u8]) -> Result<MemFile, AllocError> {
-    Ok(MemFile {
-        name: Text::new(alloc, name)?,
-        bytes: ByteList::of(bytes.to_vec(alloc)?),
-    })
-}
-
-/// What a run meets: its arguments, the files `f` and `g`, the calls on files, on `out` and on
-/// `err` that fail, how many bytes a call gives or takes, and how many `out` takes in all.
-#[derive(Clone, Copy)]
-pub(crate) struct Setting<'t> {
-    pub(crate) words: &'t [&'t str],
-    pub(crate) f: &'t [u8],
-    pub(crate) g: &'t [u8],
-    pub(crate) most: usize,
-    pub(crate) failing: u32,
-    pub(crate) out_failing: u32,
-    pub(crate) out_most: usize,
-    pub(crate) out_room: usize,
-    pub(crate) err_failing: u32,
-    pub(crate) err_most: usize,
-}
-
-pub(crate) const SETTING: Setting<'static> = Setting {
-    words: &["model", "f"],
-    f: b"",
-    g: b"",
-    most: 4096,
-    failing: 0,
-    out_failing: 0,
-    out_most: ROOM,
-    out_room: ROOM,
-    err_failing: 0,
-    err_most: ROOM,
-};
-
-/// How a run ended: its status, and the sinks with what was written.
-#[derive(Drop)]
-pub(crate) struct Ending {
-    pub(crate) status: u8,
-    pub(crate) out: MemSink,
-    pub(crate) err: MemSink,
-}
-
-/// Runs with these arguments over files and sinks in memory.
-fn run_words<R: Threads + Sync + Abort>(
-    rt: &R,
-    alloc: Global,
-    words: &[Text],
-    setting: Setting<'_>,
-) -> Result<Ending, Fail> {
-    let mut all = Vec::new(alloc);
-    all.push(mem_file(alloc, "f", setting.f)?)?;
-    all.push(mem_file(alloc, "g", setting.g)?)?;
-    assert!(rt; setting.most > 0);
-    assert!(rt; setting.out_most > 0);
-    assert!(rt; setting.err_most > 0);
-    let mut files = MemFiles::new(all, setting.most, [setting.failing].to_vec(alloc)?);
-    let mut out = MemSink::new(
-        alloc,
-        setting.out_most,
-        [setting.out_failing].to_vec(alloc)?,
-        setting.out_room,
-    )?;
-    let mut err = MemSink::new(
-        alloc,
-        setting.err_most,
-        [setting.err_failing].to_vec(alloc)?,
-        ROOM,
-    )?;
-    let status = run(rt, alloc, words, &mut files, &mut out, &mut err, &OpenGate);
-    Ok(Ending { status, out, err })
-}
-
-/// Runs with the arguments of the setting over files and sinks in memory.
-pub(crate) fn run_setting<R: Threads + Sync + Abort>(
-    rt: &R,
-    alloc: Global,
-    setting: Setting<'_>,
-) -> Result<Ending, Fail> {
-    let words = texts(alloc, setting.words)?;
-    run_words(rt, alloc, &words, setting)
-}
-
-/// Runs with the arguments of the setting and compares the status and what was written.
-pub(crate) fn expect<R: Threads + Sync + Abort>(
-    rt: &R,
-    alloc: Global,
-    setting: Setting<'_>,
-    status: u8,
-    out: &[u8],
-    err: &[u8],
-) -> Result<(), Fail> {
-    let words = texts(alloc, setting.words)?;
-    expect_run(rt, alloc, &words, setting, status, out, err)
-}
-
-/// Runs with these arguments over files and sinks in memory and compares the status and what was
-/// written.
-fn expect_run<R: Threads + Sync + Abort>(
-    rt: &R,
-    alloc: Global,
-    words: &[Text],
-    setting: Setting<'_>,
-    status: u8,
-    out: &[u8],
-    err: &[u8],
-) -> Result<(), Fail> {
-    let ending = run_words(rt, alloc, words, setting)?;
-    assert_eq!(rt; ending.err.bytes(), err);
-    assert_eq!(rt; ending.status, status);
-    assert_eq!(rt; ending.out.bytes(), out);
-    Ok(())
-}
-
-/// What is printed: the command, the pieces of the input, and the text.
-pub(crate) type Printed<'t> = (&'t str, &'t [&'t [Row<'t>]], &'t [u8]);
-
-/// Makes the arguments of a command over the file `f` with so many workers.
-fn words_of(alloc: Global, workers: &str, command: &str) -> Result<Vec<Text>, AllocError> {
-    let mut words = texts(alloc, &["--workers"])?;
-    words.push(Text::new(alloc, workers)?)?;
-    words.push(Text::new(alloc, command)?)?;
-    words.push(Text::new(alloc, "f")?)?;
-    Ok(words)
-}
-
-/// Runs each command with so many workers over its input and compares the text.
-pub(crate) fn expect_texts<R: Threads + Sync + Abort>(
-    rt: &R,
-    alloc: Global,
-    workers: &str,
-    table: &[Printed<'_>],
-) -> Result<(), Fail> {
-    for (command, pieces, out) in table {
-        let words = words_of(alloc, workers, command)?;
-        let f = input_of(alloc, pieces)?;
-        let setting = Setting { f: &f, ..SETTING };
-        expect_run(rt, alloc, &words, setting, 0, out, b"")?;
-    }
-    Ok(())
-}

@@ -1,7 +1,7 @@
-use super::rows::{ADD, MODEL, TOUCHING, input_of, put_event};
-use super::{ROOM, SETTING, Setting, expect, mem_file, texts};
-use crate::run;
+use crate::rows::{ADD, MODEL, TOUCHING, input_of, put_event};
+use crate::running::{ROOM, SETTING, Setting, expect, mem_file, texts};
 use mystery_io::{MemFiles, MemSink, OpenGate};
+use mystery_run::run;
 use std::alloc::{AllocError, Global};
 use std::test::Fail;
 

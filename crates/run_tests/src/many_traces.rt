@@ -1,6 +1,6 @@
 //! Texts of so many traces that several threads make them.
-use super::rows::put_event;
-use super::{SETTING, Setting, expect};
+use crate::rows::put_event;
+use crate::running::{SETTING, Setting, expect};
 use itoa::Buffer;
 use std::alloc::{AllocError, Global};
 use std::test::Fail;

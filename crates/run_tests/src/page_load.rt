@@ -1,5 +1,5 @@
-use super::expect_texts;
-use super::rows::Row::{self, Table};
+use crate::rows::Row::{self, Table};
+use crate::running::expect_texts;
 use std::test::Fail;
 
 /// A request for a page, over a phone, a web server and a server of advertisements.

@@ -1,6 +1,6 @@
-use super::{EMPTY, texts};
-use crate::run;
+use crate::running::{EMPTY, texts};
 use mystery_io::{OpenGate, RealFiles, RealSink};
+use mystery_run::run;
 use std::env::temp_dir;
 use std::fs;
 use std::test::Fail;

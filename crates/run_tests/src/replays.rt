@@ -1,4 +1,4 @@
-use super::{SETTING, Setting, expect};
+use crate::running::{SETTING, Setting, expect};
 use std::test::Fail;
 
 /// Two seats that clear one word: the steps.

@@ -1,5 +1,5 @@
-use super::rows::{ADD, Row, TOUCHING, put_event};
-use super::{Printed, SETTING, Setting, expect, expect_texts};
+use crate::rows::{ADD, Row, TOUCHING, put_event};
+use crate::running::{Printed, SETTING, Setting, expect, expect_texts};
 use Row::{Event, Line};
 use std::alloc::{AllocError, Global};
 use std::test::Fail;

@@ -1,5 +1,5 @@
-use super::rows::{ADD, MODEL, OPPOSITE, OVERLAP, Row, TOUCHING, input_of};
-use super::{Printed, SETTING, Setting, expect, expect_texts};
+use crate::rows::{ADD, MODEL, OPPOSITE, OVERLAP, Row, TOUCHING, input_of};
+use crate::running::{Printed, SETTING, Setting, expect, expect_texts};
 use Row::{Event, Line, Table};
 use std::test::Fail;
 

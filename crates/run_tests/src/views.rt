@@ -1,5 +1,5 @@
-use super::rows::{BRANCHES, INSIDE, OPPOSITE, OVERLAP, Row, TOUCHING};
-use super::{Printed, expect_texts};
+use crate::rows::{BRANCHES, INSIDE, OPPOSITE, OVERLAP, Row, TOUCHING};
+use crate::running::{Printed, expect_texts};
 use Row::{Event, Line};
 use std::test::Fail;
 

@@ -1,8 +1,8 @@
-use super::rows::{ADD, OPPOSITE, Row, TOUCHING, input_of};
-use super::{Printed, ROOM, expect_texts, mem_file, texts};
-use crate::run;
+use crate::rows::{ADD, OPPOSITE, Row, TOUCHING, input_of};
+use crate::running::{Printed, ROOM, expect_texts, mem_file, texts};
 use Row::{Event, Line};
 use mystery_io::{Gate, MemFiles, MemSink};
+use mystery_run::run;
 use std::alloc::{AllocError, Global};
 use std::process::Abort;
 use std::sync::atomic::{AtomicU64, Ordering};

@@ -1,7 +1,7 @@
 -- What reading the arguments tells of an action.
 use Rattle.std.specs.Prelude.{ℕ, ◌+◌, ◌<◌, ◌≤◌, length, ⊤}
-use Rattle.mystery_cli.specs.CommandLines.{Action, session, view, what_if, tail, why, verify}
-use Rattle.mystery_cli.specs.CommandLines.{drill, replay, certificate_of_action, files_of_action}
+use Rattle.mystery_run.specs.CommandLines.{Action, session, view, what_if, tail, why, verify}
+use Rattle.mystery_run.specs.CommandLines.{drill, replay, certificate_of_action, files_of_action}
 
 -- how many files are read for it
 abbrev pub file_count : Action → ℕ

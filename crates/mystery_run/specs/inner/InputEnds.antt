@@ -1,11 +1,11 @@
 -- How a run goes on from an input that was read and is within the limit.
 use Rattle.std.specs.Prelude.{ℕ, ◌≡◌, ◌⊎◌, List, [], Option, Result, Ok, Err}
-use Rattle.mystery_cli.specs.declared.outcome.Outcome.{Outcome}
-use Rattle.mystery_cli.specs.declared.outcome.Outcome.TheVariants.{Done, Memory, Arguments, BadLine}
-use Rattle.mystery_cli.specs.declared.outcome.Outcome.TheVariants.{File, Write, Size, Over}
-use Rattle.mystery_cli.specs.Endings.{Writes}
-use Rattle.mystery_cli.specs.Texts.{IsTextOf, IsTextUpTo, IsTextOfParts}
-use Rattle.mystery_cli.specs.Works.{BadInput, Work}
+use Rattle.mystery_run.specs.declared.outcome.Outcome.{Outcome}
+use Rattle.mystery_run.specs.declared.outcome.Outcome.TheVariants.{Done, Memory, Arguments, BadLine}
+use Rattle.mystery_run.specs.declared.outcome.Outcome.TheVariants.{File, Write, Size, Over}
+use Rattle.mystery_run.specs.Endings.{Writes}
+use Rattle.mystery_run.specs.Texts.{IsTextOf, IsTextUpTo, IsTextOfParts}
+use Rattle.mystery_run.specs.Works.{BadInput, Work}
 
 -- a work of so many workers may end so, with this text
 abbrev pub WorkEnds : ℕ → Work → Outcome → List ℕ → Type 0

@@ -4,12 +4,12 @@ use Rattle.event_lines.specs.declared.line.Line.{Line}
 use Rattle.event_lines.specs.InputLines.{LineFault, lines_said}
 use Rattle.event_lines.specs.LinesTaken.{LinesTaken, said_with}
 use Rattle.mystery_io.specs.Input.{input_limit}
-use Rattle.mystery_cli.specs.declared.input.Input.{Input}
-use Rattle.mystery_cli.specs.declared.input.Input.TheVariants.{Bytes, Lines, Bad}
-use Rattle.mystery_cli.specs.declared.input_form.InputForm.{InputForm}
-use Rattle.mystery_cli.specs.declared.input_form.InputForm.TheVariants as forms
-use Rattle.mystery_cli.specs.CommandLines.{Action, session, view, what_if, tail, why, verify}
-use Rattle.mystery_cli.specs.CommandLines.{drill, replay}
+use Rattle.mystery_run.specs.declared.input.Input.{Input}
+use Rattle.mystery_run.specs.declared.input.Input.TheVariants.{Bytes, Lines, Bad}
+use Rattle.mystery_run.specs.declared.input_form.InputForm.{InputForm}
+use Rattle.mystery_run.specs.declared.input_form.InputForm.TheVariants as forms
+use Rattle.mystery_run.specs.CommandLines.{Action, session, view, what_if, tail, why, verify}
+use Rattle.mystery_run.specs.CommandLines.{drill, replay}
 
 -- what an action reads its input as
 abbrev pub form_of_action : Action → InputForm

@@ -1,8 +1,8 @@
 -- Which objects a run leaves as they were.
 use Rattle.std.specs.Prelude.{◌≡◌, ⊤}
-use Rattle.mystery_cli.specs.declared.outcome.Outcome.{Outcome}
-use Rattle.mystery_cli.specs.declared.outcome.Outcome.TheVariants.{Done, Memory, Arguments, BadLine}
-use Rattle.mystery_cli.specs.declared.outcome.Outcome.TheVariants.{File, Write, Size, Over}
+use Rattle.mystery_run.specs.declared.outcome.Outcome.{Outcome}
+use Rattle.mystery_run.specs.declared.outcome.Outcome.TheVariants.{Done, Memory, Arguments, BadLine}
+use Rattle.mystery_run.specs.declared.outcome.Outcome.TheVariants.{File, Write, Size, Over}
 
 -- the sink of texts after a run that ended so: untouched where nothing is printed
 abbrev pub LeavesSink : {S : Type 0} → Outcome → S → S → Type 0

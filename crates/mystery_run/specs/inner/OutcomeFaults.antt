@@ -1,9 +1,9 @@
 -- What a run counts that ends so.
 use Rattle.std.specs.Prelude.{ℕ}
 use Rattle.mystery_io.specs.Counts.{counted_up}
-use Rattle.mystery_cli.specs.declared.outcome.Outcome.{Outcome}
-use Rattle.mystery_cli.specs.declared.outcome.Outcome.TheVariants.{Done, Memory, Arguments, BadLine}
-use Rattle.mystery_cli.specs.declared.outcome.Outcome.TheVariants.{File, Write, Size, Over}
+use Rattle.mystery_run.specs.declared.outcome.Outcome.{Outcome}
+use Rattle.mystery_run.specs.declared.outcome.Outcome.TheVariants.{Done, Memory, Arguments, BadLine}
+use Rattle.mystery_run.specs.declared.outcome.Outcome.TheVariants.{File, Write, Size, Over}
 
 -- the count of faults of the sink after a run
 abbrev pub outcome_faults : Outcome → ℕ → ℕ

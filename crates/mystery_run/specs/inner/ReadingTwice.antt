@@ -4,9 +4,9 @@ use Rattle.certificates.specs.declared.claim.Claim.{Claim}
 use Rattle.mystery_io.specs.ReadFaults.{FilesSeen, OpensFirst}
 use Rattle.mystery_io.specs.declared.reading.ReadFault.{ReadFault}
 use Rattle.mystery_io.specs.declared.reading.ReadFault.TheVariants.{Memory, File, TooBig}
-use Rattle.mystery_cli.specs.declared.certificate.Certificate.{Certificate}
-use Rattle.mystery_cli.specs.declared.certificate.Certificate.TheVariants.{Claims, Bad}
-use Rattle.mystery_cli.specs.Readings.{FailsAt, PassesAt}
+use Rattle.mystery_run.specs.declared.certificate.Certificate.{Certificate}
+use Rattle.mystery_run.specs.declared.certificate.Certificate.TheVariants.{Claims, Bad}
+use Rattle.mystery_run.specs.Readings.{FailsAt, PassesAt}
 
 -- what a certificate says: its claims, or the number of its first bad line
 abbrev pub said_by : Certificate → Result (List Claim) ℕ

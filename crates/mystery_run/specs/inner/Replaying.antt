@@ -7,7 +7,7 @@ use Rattle.word_rows.specs.Machine.{steps}
 use Rattle.step_core.specs.declared.step_fault.StepFault.{StepFault}
 use Rattle.step_core.specs.declared.step_fault.StepFault.TheVariants.{Memory, NoSeat, BadShare}
 use Rattle.step_core.specs.declared.step_fault.StepFault.TheVariants.{BadWord, SharesOut, RowOpen}
-use Rattle.mystery_cli.specs.ReplayTexts.{fault_row, step_row}
+use Rattle.mystery_run.specs.ReplayTexts.{fault_row, step_row}
 
 -- the row of a fault of the machine; an allocation failure has none
 abbrev pub row_of_fault : StepFault → List ℕ

@@ -2,8 +2,8 @@ use Rattle.std.proofs.Common.{◌≡◌, ℕ, List, codes, false, ◌∙◌}
 use Rattle.std.specs.Str.{bytes_eq}
 use Rattle.std.proofs.lemmas.Bool.{false_from_ne_true}
 use Rattle.std.proofs.lemmas.Slice.Eq.{bytes_eq-Decides}
-use Rattle.mystery_cli.specs.CommandLines.{action_over, named_action}
-use Rattle.mystery_cli.proofs.command_line.find_named.Goals as goal
+use Rattle.mystery_run.specs.CommandLines.{action_over, named_action}
+use Rattle.mystery_run.proofs.command_line.find_named.Goals as goal
 
 -- a name that is not this text
 apart : (name text : List ℕ) → (name ≡ text → ⊥) → bytes_eq name text ≡ false

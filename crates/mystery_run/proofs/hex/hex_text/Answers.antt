@@ -1,7 +1,7 @@
 use Rattle.std.proofs.Common.{◌≡◌, ◌<◌, ap, arith, length, length-append, ◌∙◌, ◌∷◌, []}
 use Rattle.std.proofs.lemmas.Str.{encode_ascii}
-use Rattle.mystery_cli.proofs.HexLemmas.{all_digits, digit_more, first_digits, no_digits}
-use Rattle.mystery_cli.proofs.hex.hex_text.Goals as goal
+use Rattle.mystery_run.proofs.HexLemmas.{all_digits, digit_more, first_digits, no_digits}
+use Rattle.mystery_run.proofs.hex.hex_text.Goals as goal
 
 pub push-requires : goal.push-requires
 push-requires c =

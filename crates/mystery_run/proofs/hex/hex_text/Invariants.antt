@@ -1,6 +1,6 @@
 use Rattle.std.proofs.Common.{◌≡◌, length}
-use Rattle.mystery_cli.proofs.HexLemmas.{first_digits}
-use Rattle.mystery_cli.proofs.hex.hex_text.Given as goal
+use Rattle.mystery_run.proofs.HexLemmas.{first_digits}
+use Rattle.mystery_run.proofs.hex.hex_text.Given as goal
 
 -- the digits so far
 abbrev pub invariant-loop-place : goal.invariant-loop-place

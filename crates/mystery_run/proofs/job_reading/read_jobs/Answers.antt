@@ -1,7 +1,7 @@
 use Rattle.std.proofs.Common.{arith}
-use Rattle.mystery_cli.proofs.InputLemmas.{good_bytes}
-use Rattle.mystery_cli.proofs.LastJobLemmas.{jobs_ready}
-use Rattle.mystery_cli.proofs.job_reading.read_jobs.Goals as goal
+use Rattle.mystery_run.proofs.InputLemmas.{good_bytes}
+use Rattle.mystery_run.proofs.LastJobLemmas.{jobs_ready}
+use Rattle.mystery_run.proofs.job_reading.read_jobs.Goals as goal
 
 pub returns-clause-ready : goal.returns-clause-ready
 returns-clause-ready g c =

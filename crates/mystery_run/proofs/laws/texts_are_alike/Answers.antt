@@ -1,5 +1,5 @@
-use Rattle.mystery_cli.proofs.DecidedLemmas.{differ_alone}
-use Rattle.mystery_cli.proofs.laws.texts_are_alike.Goals as goal
+use Rattle.mystery_run.proofs.DecidedLemmas.{differ_alone}
+use Rattle.mystery_run.proofs.laws.texts_are_alike.Goals as goal
 
 pub returns : goal.returns
 returns c = differ_alone c.jobs_end_in_one_way.ensures.whole c.jobs_end_in_one_way.ensures.to_limit c.only_watch_numbers_differ.ensures.alike

@@ -1,10 +1,10 @@
 use Rattle.std.proofs.Common.{refl}
 use Rattle.mystery_io.specs.ReadFaults.{files_seen}
-use Rattle.mystery_cli.specs.CommandLines.{Call, call_of_line}
-use Rattle.mystery_cli.specs.Runs.{Seen, run_seen}
-use Rattle.mystery_cli.specs.inner.ReadingTwice.{said_by}
-use Rattle.mystery_cli.proofs.EndingLemmas.{explains_file, explains_memory, explains_read, explains_size, reads_all}
-use Rattle.mystery_cli.proofs.program.perform.Goals as goal
+use Rattle.mystery_run.specs.CommandLines.{Call, call_of_line}
+use Rattle.mystery_run.specs.Runs.{Seen, run_seen}
+use Rattle.mystery_run.specs.inner.ReadingTwice.{said_by}
+use Rattle.mystery_run.proofs.EndingLemmas.{explains_file, explains_memory, explains_read, explains_size, reads_all}
+use Rattle.mystery_run.proofs.program.perform.Goals as goal
 
 pub returns-in-Err-Memory-clause-explains : goal.returns-in-Err-Memory-clause-explains
 returns-in-Err-Memory-clause-explains g c =

@@ -1,5 +1,5 @@
-use Rattle.mystery_cli.proofs.InputLemmas.{kept_within, replay_of_bytes}
-use Rattle.mystery_cli.proofs.program.perform_with.Goals as goal
+use Rattle.mystery_run.proofs.InputLemmas.{kept_within, replay_of_bytes}
+use Rattle.mystery_run.proofs.program.perform_with.Goals as goal
 
 pub replay_input-requires : goal.replay_input-requires
 replay_input-requires g c = rw c.bytes.ensures (kept_within c.args.input c.requires.within)

@@ -1,13 +1,13 @@
 use Rattle.std.proofs.Common.{◌∙◌, inl, inr}
 use Rattle.mystery_io.specs.Prefixes.{Sends}
 use Rattle.mystery_io.specs.ReadFaults.{files_seen}
-use Rattle.mystery_cli.specs.Messages.{message_of}
-use Rattle.mystery_cli.specs.Runs.{EndsAs, Reads, Seen, run_seen}
-use Rattle.mystery_cli.specs.inner.Leaving.{LeavesSink}
-use Rattle.mystery_cli.proofs.DecidedLemmas.{decided_by}
-use Rattle.mystery_cli.proofs.EndingLemmas.{opens_of, size_passed}
-use Rattle.mystery_cli.proofs.StatusLemmas.{arguments_of, of_bad_line, of_done, of_file, of_limit, of_memory, of_write, reads_of}
-use Rattle.mystery_cli.proofs.program.run.Goals as goal
+use Rattle.mystery_run.specs.Messages.{message_of}
+use Rattle.mystery_run.specs.Runs.{EndsAs, Reads, Seen, run_seen}
+use Rattle.mystery_run.specs.inner.Leaving.{LeavesSink}
+use Rattle.mystery_run.proofs.DecidedLemmas.{decided_by}
+use Rattle.mystery_run.proofs.EndingLemmas.{opens_of, size_passed}
+use Rattle.mystery_run.proofs.StatusLemmas.{arguments_of, of_bad_line, of_done, of_file, of_limit, of_memory, of_write, reads_of}
+use Rattle.mystery_run.proofs.program.run.Goals as goal
 
 pub returns-clause-arguments : goal.returns-clause-arguments
 returns-clause-arguments g c =

@@ -1,7 +1,7 @@
 use Rattle.std.proofs.Common.{◌+◌, length, refl}
 use Rattle.mystery_io.specs.ReadFaults.{FilesSeen, files_seen}
-use Rattle.mystery_cli.proofs.ReadingLemmas.{opens_both, passes_later}
-use Rattle.mystery_cli.proofs.readings.read_both.Goals as goal
+use Rattle.mystery_run.proofs.ReadingLemmas.{opens_both, passes_later}
+use Rattle.mystery_run.proofs.readings.read_both.Goals as goal
 
 pub returns-in-Err-Memory-clause-cause : goal.returns-in-Err-Memory-clause-cause
 returns-in-Err-Memory-clause-cause g c =

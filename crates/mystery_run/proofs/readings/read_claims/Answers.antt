@@ -1,8 +1,8 @@
 use Rattle.std.proofs.Common.{◌≡◌, Ok}
 use Rattle.certificates.specs.Certificates.{certificate_said}
-use Rattle.mystery_cli.specs.Readings.{told_input}
-use Rattle.mystery_cli.proofs.ReadingLemmas.{told_has}
-use Rattle.mystery_cli.proofs.readings.read_claims.Goals as goal
+use Rattle.mystery_run.specs.Readings.{told_input}
+use Rattle.mystery_run.proofs.ReadingLemmas.{told_has}
+use Rattle.mystery_run.proofs.readings.read_claims.Goals as goal
 
 pub returns-in-Ok-clause-said : goal.returns-in-Ok-clause-said
 returns-in-Ok-clause-said g c =

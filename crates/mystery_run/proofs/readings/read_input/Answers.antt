@@ -1,6 +1,6 @@
-use Rattle.mystery_cli.specs.Readings.{told_input}
-use Rattle.mystery_cli.proofs.InputLemmas.{bytes_read}
-use Rattle.mystery_cli.proofs.readings.read_input.Goals as goal
+use Rattle.mystery_run.specs.Readings.{told_input}
+use Rattle.mystery_run.proofs.InputLemmas.{bytes_read}
+use Rattle.mystery_run.proofs.readings.read_input.Goals as goal
 
 pub returns-in_ok-bytes-in_default-clause-input : goal.returns-in_ok-bytes-in_default-clause-input
 returns-in_ok-bytes-in_default-clause-input g c =

@@ -1,6 +1,6 @@
-use Rattle.mystery_cli.specs.declared.input.Input.TheVariants.{Bad, Lines}
-use Rattle.mystery_cli.proofs.InputLemmas.{lines_are_read}
-use Rattle.mystery_cli.proofs.readings.read_input_lines.Goals as goal
+use Rattle.mystery_run.specs.declared.input.Input.TheVariants.{Bad, Lines}
+use Rattle.mystery_run.proofs.InputLemmas.{lines_are_read}
+use Rattle.mystery_run.proofs.readings.read_input_lines.Goals as goal
 
 pub returns-in-Ok-clause-input : goal.returns-in-Ok-clause-input
 returns-in-Ok-clause-input g c =

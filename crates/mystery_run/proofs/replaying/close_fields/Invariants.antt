@@ -1,7 +1,7 @@
 use Rattle.std.proofs.Common.{◌≡◌, ◌∷◌, map, take}
 use Rattle.std.specs.Prelude.{codes, decimal}
 use Rattle.text_rows.specs.Fields.{field_text}
-use Rattle.mystery_cli.proofs.replaying.close_fields.Given as goal
+use Rattle.mystery_run.proofs.replaying.close_fields.Given as goal
 
 -- the fields so far
 abbrev pub invariant-loop-word : goal.invariant-loop-word

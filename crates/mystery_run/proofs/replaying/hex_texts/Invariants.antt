@@ -1,6 +1,6 @@
 use Rattle.std.proofs.Common.{◌≡◌, map, take}
-use Rattle.mystery_cli.specs.ReplayTexts.{hex_word}
-use Rattle.mystery_cli.proofs.replaying.hex_texts.Given as goal
+use Rattle.mystery_run.specs.ReplayTexts.{hex_word}
+use Rattle.mystery_run.proofs.replaying.hex_texts.Given as goal
 
 -- the texts so far
 abbrev pub invariant-loop-word : goal.invariant-loop-word

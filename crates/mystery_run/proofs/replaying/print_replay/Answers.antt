@@ -1,5 +1,5 @@
-use Rattle.mystery_cli.proofs.ReplayLemmas.{on_err, on_ok}
-use Rattle.mystery_cli.proofs.replaying.print_replay.Goals as goal
+use Rattle.mystery_run.proofs.ReplayLemmas.{on_err, on_ok}
+use Rattle.mystery_run.proofs.replaying.print_replay.Goals as goal
 
 pub returns-clause-all : goal.returns-clause-all
 returns-clause-all g c = on_ok c.flush.result _ _ (c.flush_ends_a_text.ensures.whole _ _ _ _ _ (rw c.new-buffer.ensures at c.in_ok-print_rows.ensures.all)) c.flush.ensures.all

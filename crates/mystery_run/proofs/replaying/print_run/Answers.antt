@@ -1,8 +1,8 @@
 use Rattle.std.proofs.lemmas.Result.{err_from_is_err_and}
 use Rattle.word_rows.specs.Machine.{opening_state}
-use Rattle.mystery_cli.specs.ReplayTexts.{opened_row}
-use Rattle.mystery_cli.specs.inner.Replaying.{steps_text}
-use Rattle.mystery_cli.proofs.replaying.print_run.Goals as goal
+use Rattle.mystery_run.specs.ReplayTexts.{opened_row}
+use Rattle.mystery_run.specs.inner.Replaying.{steps_text}
+use Rattle.mystery_run.proofs.replaying.print_run.Goals as goal
 
 pub returns-in_err-print_numbers : goal.returns-in_err-print_numbers
 returns-in_err-print_numbers g c =

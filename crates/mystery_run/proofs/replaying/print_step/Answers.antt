@@ -1,5 +1,5 @@
-use Rattle.mystery_cli.proofs.ReplayLemmas.{fault_printed}
-use Rattle.mystery_cli.proofs.replaying.print_step.Goals as goal
+use Rattle.mystery_run.proofs.ReplayLemmas.{fault_printed}
+use Rattle.mystery_run.proofs.replaying.print_step.Goals as goal
 
 pub returns-in-Err-clause-prints : goal.returns-in-Err-clause-prints
 returns-in-Err-clause-prints g c =

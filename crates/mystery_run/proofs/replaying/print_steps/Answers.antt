@@ -1,7 +1,7 @@
 use Rattle.std.proofs.Common.{arith, ◌∙◌}
 use Rattle.std.proofs.lemmas.Result.{err_from_is_err_and}
-use Rattle.mystery_cli.proofs.ReplayLemmas.{prints_part, state_more, step_printed, step_cut}
-use Rattle.mystery_cli.proofs.replaying.print_steps.Goals as goal
+use Rattle.mystery_run.proofs.ReplayLemmas.{prints_part, state_more, step_printed, step_cut}
+use Rattle.mystery_run.proofs.replaying.print_steps.Goals as goal
 
 pub loop-event-preserved : goal.loop-event-preserved
 loop-event-preserved g c = record {

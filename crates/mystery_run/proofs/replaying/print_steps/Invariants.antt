@@ -1,8 +1,8 @@
 use Rattle.std.proofs.Common.{◌≡◌, ◌+◌, ◌≤◌, length, take}
 use Rattle.word_rows.specs.Machine.{steps}
 use Rattle.text_rows.specs.Printing.{Prints}
-use Rattle.mystery_cli.specs.inner.Replaying.{steps_text}
-use Rattle.mystery_cli.proofs.replaying.print_steps.Given as goal
+use Rattle.mystery_run.specs.inner.Replaying.{steps_text}
+use Rattle.mystery_run.proofs.replaying.print_steps.Given as goal
 
 -- the first steps were made, and their rows printed
 abbrev pub invariant-loop-event : goal.invariant-loop-event

@@ -1,0 +1,29 @@
+//! The program `mystery` as one call: `run` reads arguments and files, carries out what they ask for,
+//! and writes the text, over any files, sinks and gate.
+#![tactic(auto)]
+
+mod action;
+mod certificate;
+mod change_words;
+mod command_line;
+mod drill;
+mod forecast;
+mod hex;
+mod input;
+mod input_form;
+mod job_reading;
+pub mod laws;
+mod line_intake;
+mod numbers;
+mod outcome;
+mod program;
+mod readings;
+mod reason;
+mod replay;
+mod replaying;
+mod session_run;
+mod view;
+
+pub use outcome::Outcome;
+pub use program::run;
+pub use reason::Reason;
