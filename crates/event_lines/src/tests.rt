@@ -187,11 +187,13 @@ fn lines_rise_where_each_is_greater_than_the_one_before(rt: HostRuntime) -> Resu
     Ok(())
 }
 
-/// Makes a table of events that have these times.
-fn table_of(alloc: Global, times: &[u64]) -> Result<EventTable, AllocError> {
-    let mut table = EventTable::new(alloc);
+/// Appends events that have these times.
+fn push_events(alloc: Global, table: &mut EventTable, times: &[u64]) -> Result<(), AllocError> {
     let mut hints = TextHints::new(alloc)?;
     for time in times {
+        if table.len() > 1000 {
+            return Err(AllocError);
+        }
         let fields = EventFields {
             request: "r",
             machine: "m",
@@ -201,27 +203,42 @@ fn table_of(alloc: Global, times: &[u64]) -> Result<EventTable, AllocError> {
             send: None,
             recv: None,
         };
-        if table.len() > 1000 {
-            return Err(AllocError);
-        }
         table.push(alloc, &mut hints, 1, &fields)?;
     }
+    Ok(())
+}
+
+/// Makes a table of events that have these times.
+fn table_of(alloc: Global, times: &[u64]) -> Result<EventTable, AllocError> {
+    let mut table = EventTable::new(alloc);
+    push_events(alloc, &mut table, times)?;
     Ok(table)
 }
 
-#[test]
-fn parts_of_events_stand_one_after_another(rt: HostRuntime) -> Result<(), Fail> {
-    let mut parts = EventParts::new(rt.alloc());
-    let rows: [&[u64]; 4] = [&[4, 2], &[], &[9], &[2, 2, 1]];
+/// Makes the parts of these times.
+fn parts_of(alloc: Global, rows: &[&[u64]]) -> Result<EventParts, AllocError> {
+    let mut parts = EventParts::new(alloc);
     for times in rows {
-        parts.push_part(table_of(rt.alloc(), times)?)?;
+        parts.push_part(table_of(alloc, times)?)?;
     }
-    let mut times = Vec::new(rt.alloc());
-    for part in parts.into_parts() {
+    Ok(parts)
+}
+
+/// Gives the times of the events of tables.
+fn event_times(alloc: Global, parts: &[EventTable]) -> Result<Vec<u64>, AllocError> {
+    let mut times = Vec::new(alloc);
+    for part in parts {
         for index in 0..part.len() {
             times.push(part.event(index).time)?;
         }
     }
+    Ok(times)
+}
+
+#[test]
+fn parts_of_events_stand_one_after_another(rt: HostRuntime) -> Result<(), Fail> {
+    let parts = parts_of(rt.alloc(), &[&[4, 2], &[], &[9], &[2, 2, 1]])?.into_parts();
+    let times = event_times(rt.alloc(), &parts)?;
     assert_eq!(rt; times.as_slice(), [4, 2, 9, 2, 2, 1].as_slice());
     Ok(())
 }

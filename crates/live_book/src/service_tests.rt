@@ -150,18 +150,15 @@ fn a_service_accounts_for_each_trace(rt: HostRuntime) -> Result<(), Fail> {
     let watcher = book.split(&mut caller, 16);
     let (others, rolled, watched) = serve(&rt, alloc, &book, even, odd, watcher);
     book.join(&mut caller, others);
-    let Some(Ok(left)) = keep(&rt, &book, &mut caller, 0) else {
-        return Err(Fail::from("not kept"));
-    };
+    let left = keep(&rt, &book, &mut caller, 0)
+        .expect(&rt, "turn")
+        .ok()
+        .expect(&rt, "left");
     assert!(rt; watched.sound);
     assert_eq!(rt; (rolled, watched.dropped.wrapping_add(left)), (8, 8));
-    let Some(words) = ask(&rt, alloc, &book, &mut caller) else {
-        return Err(Fail::from("not asked"));
-    };
+    let words = ask(&rt, alloc, &book, &mut caller).expect(&rt, "words");
     assert!(rt; words.iter().all(|word| *word == FULL));
-    let Some(entries) = read(&rt, &book, &mut caller, 0) else {
-        return Err(Fail::from("not read"));
-    };
+    let entries = read(&rt, &book, &mut caller, 0).expect(&rt, "entries");
     let kinds = |kind: char| -> usize {
         entries
             .iter()

@@ -194,6 +194,48 @@ fn segments_of(alloc: Global, entry: &Entry) -> Result<Vec<(u32, i64, i64)>, All
     Ok(rows)
 }
 
+/// Tells whether a roll stands at this position.
+fn stands_at(rolled: Option<Result<u32, RollFault>>, position: u32) -> bool {
+    match rolled {
+        Some(Ok(at)) => at == position,
+        _ => false,
+    }
+}
+
+/// The entries of the full journal that refused a roll, and how many traces came back.
+fn refused_by_journal(rolled: Option<Result<u32, RollFault>>) -> Option<(u32, usize)> {
+    match rolled {
+        Some(Err(RollFault::JournalFull { sheet, entries })) => {
+            Some((entries, sheet.traces().len()))
+        }
+        _ => None,
+    }
+}
+
+/// The days that there would be after a refused roll, and how many traces came back.
+fn refused_by_days(rolled: Option<Result<u32, RollFault>>) -> Option<(u32, usize)> {
+    match rolled {
+        Some(Err(RollFault::TooManyDays { sheet, days })) => Some((days, sheet.traces().len())),
+        _ => None,
+    }
+}
+
+/// Tells whether a call dropped so many traces.
+fn has_dropped(dropped: Option<Result<u32, DeedFault>>, traces: u32) -> bool {
+    match dropped {
+        Some(Ok(count)) => count == traces,
+        _ => false,
+    }
+}
+
+/// The entries of the full journal that refused a call.
+fn full_entries(dropped: Option<Result<u32, DeedFault>>) -> Option<u32> {
+    match dropped {
+        Some(Err(DeedFault::JournalFull { entries })) => Some(entries),
+        _ => None,
+    }
+}
+
 /// Rolls a sheet of each of 64 days. Answers whether each was rolled and stands at its position.
 fn roll_days<R: Wait>(rt: &R, alloc: Global, book: &LiveBook, caller: &mut Caller) -> bool
     requires names { book.now.names ≡ 2 }
@@ -228,30 +270,20 @@ fn keep_often<R: Wait>(rt: &R, book: &LiveBook, caller: &mut Caller) -> bool
 fn a_rolled_day_is_dropped_by_another_caller(rt: HostRuntime) -> Result<(), Fail> {
     let alloc = rt.alloc();
     let (book, mut first) = LiveBook::open(alloc, 2, 20)?;
-    let Some(Ok(0)) = roll(&rt, alloc, &book, &mut first, 0, true) else {
-        return Err(Fail::from("not rolled"));
-    };
-    if first.turns() < 5 {
-        return Err(Fail::from("too few turns"));
-    }
+    assert!(rt; stands_at(roll(&rt, alloc, &book, &mut first, 0, true), 0));
+    assert!(rt; first.turns() >= 5);
     let mut second = book.split(&mut first, 5);
     assert_eq!(rt; (first.turns(), second.turns()), (14, 5));
-    let Some(Ok(1)) = drop_day(&rt, &book, &mut second, 0) else {
-        return Err(Fail::from("not dropped"));
-    };
-    let Some(words) = ask(&rt, alloc, &book, &mut first) else {
-        return Err(Fail::from("not asked"));
-    };
+    assert!(rt; has_dropped(drop_day(&rt, &book, &mut second, 0), 1));
+    let words = ask(&rt, alloc, &book, &mut first).expect(&rt, "words");
     assert_eq!(rt; words.len(), 127);
     assert!(rt; words.iter().all(|word| *word == FULL));
     book.join(&mut first, second);
-    let Some(entries) = read(&rt, &book, &mut first, 0) else {
-        return Err(Fail::from("not read"));
-    };
+    let entries = read(&rt, &book, &mut first, 0).expect(&rt, "entries");
     assert_eq!(rt; entries.len(), 2);
     assert_eq!(rt; row_of(&entries[0]), ('r', 0, 1));
     assert_eq!(rt; row_of(&entries[1]), ('d', 0, 0));
-    let segments = segments_of(alloc, &entries[0])?;
+    let segments = segments_of(alloc, &entries[0]).expect(&rt, "segments");
     assert_eq!(rt; segments.len(), 2);
     assert_eq!(rt; (segments[0], segments[1]), ((0, 0, 10), (1, 10, 30)));
     assert_eq!(rt; first.turns(), 16);
@@ -262,22 +294,12 @@ fn a_rolled_day_is_dropped_by_another_caller(rt: HostRuntime) -> Result<(), Fail
 fn only_the_newest_day_is_kept(rt: HostRuntime) -> Result<(), Fail> {
     let alloc = rt.alloc();
     let (book, mut caller) = LiveBook::open(alloc, 2, 5)?;
-    let Some(Ok(0)) = roll(&rt, alloc, &book, &mut caller, 3, true) else {
-        return Err(Fail::from("day 3 was not rolled"));
-    };
-    let Some(Ok(1)) = roll(&rt, alloc, &book, &mut caller, 5, false) else {
-        return Err(Fail::from("day 5 was not rolled"));
-    };
-    let Some(Ok(1)) = keep(&rt, &book, &mut caller, 1) else {
-        return Err(Fail::from("not one trace was dropped"));
-    };
-    let Some(words) = ask(&rt, alloc, &book, &mut caller) else {
-        return Err(Fail::from("not asked"));
-    };
+    assert!(rt; stands_at(roll(&rt, alloc, &book, &mut caller, 3, true), 0));
+    assert!(rt; stands_at(roll(&rt, alloc, &book, &mut caller, 5, false), 1));
+    assert!(rt; has_dropped(keep(&rt, &book, &mut caller, 1), 1));
+    let words = ask(&rt, alloc, &book, &mut caller).expect(&rt, "words");
     assert_eq!(rt; words.get(126).copied(), Some(SWAPPED));
-    let Some(entries) = read(&rt, &book, &mut caller, 1) else {
-        return Err(Fail::from("not read"));
-    };
+    let entries = read(&rt, &book, &mut caller, 1).expect(&rt, "entries");
     assert_eq!(rt; entries.len(), 2);
     assert_eq!(rt; row_of(&entries[0]), ('r', 5, 1));
     assert_eq!(rt; row_of(&entries[1]), ('k', 1, 0));
@@ -290,20 +312,9 @@ fn a_65th_day_is_told_and_its_sheet_comes_back(rt: HostRuntime) -> Result<(), Fa
     let alloc = rt.alloc();
     let (book, mut caller) = LiveBook::open(alloc, 2, 100)?;
     assert!(rt; roll_days(&rt, alloc, &book, &mut caller));
-    let Some(Err(RollFault::TooManyDays { sheet, days })) = roll(
-        &rt,
-        alloc,
-        &book,
-        &mut caller,
-        64,
-        true,
-    ) else {
-        return Err(Fail::from("rolled"));
-    };
-    assert_eq!(rt; (days, sheet.traces().len()), (65, 1));
-    let Some(Ok(64)) = roll(&rt, alloc, &book, &mut caller, 3, false) else {
-        return Err(Fail::from("not rolled"));
-    };
+    let refused = refused_by_days(roll(&rt, alloc, &book, &mut caller, 64, true));
+    assert_eq!(rt; refused, Some((65, 1)));
+    assert!(rt; stands_at(roll(&rt, alloc, &book, &mut caller, 3, false), 64));
     assert_eq!(rt; caller.turns(), 34);
     Ok(())
 }
@@ -312,29 +323,18 @@ fn a_65th_day_is_told_and_its_sheet_comes_back(rt: HostRuntime) -> Result<(), Fa
 fn an_entry_past_the_last_is_told(rt: HostRuntime) -> Result<(), Fail> {
     let alloc = rt.alloc();
     let (book, mut caller) = LiveBook::open(alloc, 2, 10_010)?;
-    let Some(Ok(0)) = roll(&rt, alloc, &book, &mut caller, 7, true) else {
-        return Err(Fail::from("not rolled"));
-    };
+    assert!(rt; stands_at(roll(&rt, alloc, &book, &mut caller, 7, true), 0));
     assert!(rt; keep_often(&rt, &book, &mut caller));
-    let Some(Err(DeedFault::JournalFull { entries })) = drop_day(&rt, &book, &mut caller, 7) else {
-        return Err(Fail::from("dropped"));
-    };
-    assert_eq!(rt; entries, 10_000);
-    let Some(Err(DeedFault::JournalFull { entries })) = keep(&rt, &book, &mut caller, 0) else {
-        return Err(Fail::from("kept"));
-    };
-    assert_eq!(rt; entries, 10_000);
-    let Some(Err(RollFault::JournalFull { sheet, entries })) = roll(
-        &rt,
-        alloc,
-        &book,
-        &mut caller,
-        8,
-        true,
-    ) else {
-        return Err(Fail::from("rolled"));
-    };
-    assert_eq!(rt; (entries, sheet.traces().len()), (10_000, 1));
+    assert_eq!(rt;
+        full_entries(drop_day(&rt, &book, &mut caller, 7)),
+        Some(10_000)
+    );
+    assert_eq!(rt;
+        full_entries(keep(&rt, &book, &mut caller, 0)),
+        Some(10_000)
+    );
+    let refused = refused_by_journal(roll(&rt, alloc, &book, &mut caller, 8, true));
+    assert_eq!(rt; refused, Some((10_000, 1)));
     assert_eq!(rt;
         read(&rt, &book, &mut caller, 9_999).map(|entries| entries.len()),
         Some(1)
@@ -343,9 +343,7 @@ fn an_entry_past_the_last_is_told(rt: HostRuntime) -> Result<(), Fail> {
         read(&rt, &book, &mut caller, 10_001).map(|entries| entries.len()),
         Some(0)
     );
-    let Some(words) = ask(&rt, alloc, &book, &mut caller) else {
-        return Err(Fail::from("not asked"));
-    };
+    let words = ask(&rt, alloc, &book, &mut caller).expect(&rt, "words");
     assert_eq!(rt; words.get(126).copied(), Some(TOUCHED));
     Ok(())
 }

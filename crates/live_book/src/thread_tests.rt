@@ -76,9 +76,7 @@ fn two_threads_see_what_both_rolled(rt: HostRuntime) -> Result<(), Fail> {
     );
     assert_eq!(rt; (left, right), (BOTH, BOTH));
     book.join(&mut first, second);
-    let Some(entries) = read(&rt, &book, &mut first, 0) else {
-        return Err(Fail::from("not read"));
-    };
+    let entries = read(&rt, &book, &mut first, 0).expect(&rt, "entries");
     assert_eq!(rt; entries.len(), 2);
     let (one, other) = (row_of(&entries[0]), row_of(&entries[1]));
     assert!(rt; (one.1 == 0 && other.1 == 1) || (one.1 == 1 && other.1 == 0));
@@ -254,12 +252,8 @@ fn eight_threads_leave_one_journal(rt: HostRuntime) -> Result<(), Fail> {
     let mut caller = work_beside(&rt, alloc, &book, caller, 3, 1);
     assert_eq!(rt; caller.turns(), 0);
     book.join(&mut caller, last);
-    let Some(words) = ask(&rt, alloc, &book, &mut caller) else {
-        return Err(Fail::from("not asked"));
-    };
-    let Some(entries) = read(&rt, &book, &mut caller, 0) else {
-        return Err(Fail::from("not read"));
-    };
+    let words = ask(&rt, alloc, &book, &mut caller).expect(&rt, "words");
+    let entries = read(&rt, &book, &mut caller, 0).expect(&rt, "entries");
     let mut fresh = JournaledBook::new(alloc, 2)?;
     let mut counts = [(0u64, 0u64); 6];
     'entries: for entry in &entries {

@@ -9,20 +9,11 @@ use std::rt::HostRuntime;
 use std::test::Fail;
 use std::thread::Threads;
 use trace_graph::{OrderedGraph, graph};
+use trace_types::{NamedTrace, Trace};
 use weighted_dag::reduce;
 
-/// Makes the graph of the only trace of these events, which has this grace, in nanoseconds.
-fn graph_of<R: Threads + Sync>(
-    rt: &R,
-    alloc: Global,
-    events: &[(&str, &str, u64)],
-    grace: u64,
-) -> Option<OrderedGraph> {
-    let mut all = Vec::new(alloc);
-    push_request(&mut all, alloc, "r1", events).ok()?;
-    let traces = cut_traces(rt, alloc, all)?;
-    let (catalogue, named) = name_traces(alloc, traces, grace)?;
-    let count = catalogue.names();
+/// Makes the graph of the first of these traces, whose names are below this number.
+fn graph_of_named(alloc: Global, named: Vec<NamedTrace>, count: u32) -> Option<OrderedGraph> {
     if count > 512 || !are_below(&named, count) {
         return None;
     }
@@ -33,6 +24,29 @@ fn graph_of<R: Threads + Sync>(
         return None;
     }
     graph(alloc, trace, &model).ok()
+}
+
+/// Cuts the only trace of these events.
+fn cut_request<R: Threads + Sync>(
+    rt: &R,
+    alloc: Global,
+    events: &[(&str, &str, u64)],
+) -> Option<Vec<Trace>> {
+    let mut all = Vec::new(alloc);
+    push_request(&mut all, alloc, "r1", events).ok()?;
+    cut_traces(rt, alloc, all)
+}
+
+/// Makes the graph of the only trace of these events, which has this grace, in nanoseconds.
+fn graph_of<R: Threads + Sync>(
+    rt: &R,
+    alloc: Global,
+    events: &[(&str, &str, u64)],
+    grace: u64,
+) -> Option<OrderedGraph> {
+    let traces = cut_request(rt, alloc, events)?;
+    let (catalogue, named) = name_traces(alloc, traces, grace)?;
+    graph_of_named(alloc, named, catalogue.names())
 }
 
 /// A segment, two that start at its end, and one that starts when the longer of these ends.

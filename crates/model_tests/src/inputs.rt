@@ -1,6 +1,7 @@
-ghost use Rattle.std.specs.Prelude.{◌^◌, ◌<◌, ◌≤◌, ◌↔◌, All, IsTrue, length};
+ghost use Rattle.std.specs.Prelude.{◌^◌, ◌<◌, ◌≤◌, ◌↔◌, All, IfSome, IsTrue, List, length};
 ghost use Rattle.refute_tests.specs.Clearing.{HaveNamesBelow};
 ghost use Rattle.trace_types.specs.Parts.{by_text, segments_of};
+ghost use Rattle.trace_types.specs.declared.event.Event.{Event};
 ghost use Rattle.trace_types.specs.declared.named_segment.NamedSegment.{NamedSegment};
 
 use event_table::{EventTable, GatheredEvents, RawEvents, gather};
@@ -44,21 +45,66 @@ fn cut_all(alloc: Global, gathered: &GatheredEvents) -> Option<Vec<Trace>> {
     Some(traces)
 }
 
+/// Makes the table of events; none where there are too many.
+fn table_of(alloc: Global, events: &[Event]) -> Option<EventTable>
+    ensures { IfSome result (λ (t : List Event). length t ≤ 100000) }
+{
+    if events.len() > 100_000 {
+        return None;
+    }
+    let table = EventTable::of_events(alloc, events).ok()?;
+    if table.len() > 100_000 {
+        return None;
+    }
+    Some(table)
+}
+
 /// Gathers and cuts the traces of events; none where a trace is refused.
 pub(crate) fn cut_traces<R: Threads + Sync>(
     rt: &R,
     alloc: Global,
     events: Vec<Event>,
 ) -> Option<Vec<Trace>> {
-    if events.len() > 100_000 {
-        return None;
-    }
-    let table = EventTable::of_events(alloc, &events).ok()?;
-    if table.len() > 100_000 {
-        return None;
-    }
+    let table = table_of(alloc, &events)?;
     let gathered = gather_one(rt, alloc, table).ok()?;
     cut_all(alloc, &gathered)
+}
+
+/// Adds the names and tasks of traces to a catalogue; none where a limit is passed.
+fn add_all(alloc: Global, catalogue: &mut Catalogue, traces: &[Trace]) -> Option<()> {
+    for trace in traces {
+        if trace.segments.items().len() > 4096 {
+            return None;
+        }
+        catalogue.add(alloc, trace).ok()?;
+    }
+    Some(())
+}
+
+/// Names a trace by the numbers of a catalogue, with this grace.
+fn name_one(alloc: Global, catalogue: &Catalogue, trace: Trace, grace: u64) -> Option<NamedTrace>
+    requires { grace ≤ 1000000000 }
+{
+    if trace.segments.items().len() > 4096 {
+        return None;
+    }
+    Some(catalogue.name(alloc, trace).ok()?.with_grace(grace))
+}
+
+/// Names traces by the numbers of a catalogue, each with this grace.
+fn name_all(
+    alloc: Global,
+    catalogue: &Catalogue,
+    traces: Vec<Trace>,
+    grace: u64,
+) -> Option<Vec<NamedTrace>>
+    requires { grace ≤ 1000000000 }
+{
+    let mut named = Vec::with_capacity(alloc, traces.len()).ok()?;
+    for trace in traces {
+        named.push(name_one(alloc, catalogue, trace, grace)?).ok()?;
+    }
+    Some(named)
 }
 
 /// Numbers the names of traces, and names the traces by them, each with this grace.
@@ -67,25 +113,12 @@ pub(crate) fn name_traces(
     traces: Vec<Trace>,
     grace: u64,
 ) -> Option<(Catalogue, Vec<NamedTrace>)> {
-    let mut catalogue = Catalogue::new(alloc);
-    let mut named = Vec::with_capacity(alloc, traces.len()).ok()?;
     if grace > 1_000_000_000 {
         return None;
     }
-    for trace in &traces {
-        if trace.segments.items().len() > 4096 {
-            return None;
-        }
-        catalogue.add(alloc, trace).ok()?;
-    }
-    for trace in traces {
-        if trace.segments.items().len() > 4096 {
-            return None;
-        }
-        named
-            .push(catalogue.name(alloc, trace).ok()?.with_grace(grace))
-            .ok()?;
-    }
+    let mut catalogue = Catalogue::new(alloc);
+    add_all(alloc, &mut catalogue, &traces)?;
+    let named = name_all(alloc, &catalogue, traces, grace)?;
     Some((catalogue, named))
 }
 

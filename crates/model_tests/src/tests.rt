@@ -2,11 +2,12 @@ use crate::inputs::{are_below, cut_traces, name_traces};
 use crate::model_texts::relations_text;
 use crate::worked_inputs::{IN_ORDER, TURNED, page_load, push_request};
 use pipeline_tests::DaySheet;
+use segment_names::Catalogue;
 use std::alloc::Global;
 use std::rt::HostRuntime;
 use std::test::Fail;
 use std::thread::Threads;
-use trace_types::Event;
+use trace_types::{Event, NamedTrace};
 
 /// The names of the page load's segments by their codes, each with tabs between its fields.
 const NAMES: [(&str, &str); 9] = [
@@ -54,6 +55,20 @@ const ORDERS: [(&str, &str); 29] = [
     ("WA", "UQ"),
 ];
 
+/// Tells the relations that named traces leave.
+fn relations_of_named(
+    alloc: Global,
+    catalogue: &Catalogue,
+    named: Vec<NamedTrace>,
+) -> Option<String> {
+    let count = catalogue.names();
+    if count > 512 || !are_below(&named, count) {
+        return None;
+    }
+    let sheet = DaySheet::plain(alloc, named, count).ok()?;
+    relations_text(alloc, catalogue, sheet.words().words()).ok()
+}
+
 /// Tells the relations that the traces of events leave, each trace with this grace.
 fn relations_of<R: Threads + Sync>(
     rt: &R,
@@ -63,12 +78,7 @@ fn relations_of<R: Threads + Sync>(
 ) -> Option<String> {
     let traces = cut_traces(rt, alloc, events)?;
     let (catalogue, named) = name_traces(alloc, traces, grace)?;
-    let count = catalogue.names();
-    if count > 512 || !are_below(&named, count) {
-        return None;
-    }
-    let sheet = DaySheet::plain(alloc, named, count).ok()?;
-    relations_text(alloc, &catalogue, sheet.words().words()).ok()
+    relations_of_named(alloc, &catalogue, named)
 }
 
 /// The name with this code.

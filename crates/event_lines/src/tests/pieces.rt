@@ -68,24 +68,25 @@ fn print_run(alloc: Global, run: &LineRun, printed: &mut Vec<String>) -> Result<
     Ok(())
 }
 
+/// Prints what lines say.
+fn print_lines(alloc: Global, lines: LineParts) -> Result<String, AllocError> {
+    let mut printed = Vec::new(alloc);
+    for run in lines.into_runs() {
+        print_run(alloc, &run, &mut printed)?;
+    }
+    printed.join(alloc, ",")
+}
+
 /// Prints what lines say, or the first bad one.
 fn print_reading(
     alloc: Global,
     reading: Result<LineParts, LineError>,
 ) -> Result<String, AllocError> {
-    let mut printed = Vec::new(alloc);
     match reading {
-        Err(LineError::Memory) => return Err(AllocError),
-        Err(LineError::Bad { line, why }) => {
-            printed.push(format!(in alloc; "{line} {}", why.as_str())?)?;
-        }
-        Ok(lines) => {
-            for run in lines.into_runs() {
-                print_run(alloc, &run, &mut printed)?;
-            }
-        }
+        Err(LineError::Memory) => Err(AllocError),
+        Err(LineError::Bad { line, why }) => format!(in alloc; "{line} {}", why.as_str()),
+        Ok(lines) => print_lines(alloc, lines),
     }
-    printed.join(alloc, ",")
 }
 
 /// Prints what a short input says that so many workers share in pieces of about this length or
