@@ -9,7 +9,7 @@ use crate::{LineError, LineParts};
 use std::alloc::Global;
 use std::thread::Threads;
 
-/// How many bytes for each thread are worth starting it.
+/// Bytes of input for each thread; for fewer, starting one does not pay.
 pub(crate) const LEAST_PIECE: usize = 65_536;
 
 /// Reads the lines of bytes, numbered from this one on, by up to so many workers, one for each
@@ -31,8 +31,7 @@ pub(crate) fn read_shared<R: Threads + Sync>(
 }
 
 /// Reads the lines of an input: one entry for each line that is not blank, in order. Up to so many
-/// workers read in parallel, each a piece, which all end at about the same time; a short input is
-/// read by the caller alone.
+/// workers read in parallel, each a piece; a short input is read by the caller alone.
 ///
 /// An input has fewer than 2^32 - 1 bytes, so that the number of each line fits 32 bits.
 ///

@@ -110,7 +110,7 @@ fn number_part(
 }
 
 /// Numbers the texts of parts in the whole tables, part after part, and appends their messages and
-/// the parts.
+/// the parts. The only error is out of memory.
 fn add_parts(
     alloc: Global,
     whole: &mut NumberedParts,

@@ -202,8 +202,8 @@ fn stands_at(rolled: Option<Result<u32, RollFault>>, position: u32) -> bool {
     }
 }
 
-/// The entries of the full journal that refused a roll, and how many traces came back.
-fn refused_by_journal(rolled: Option<Result<u32, RollFault>>) -> Option<(u32, usize)> {
+/// Tells the entries of the full journal that refused a roll, and how many traces came back.
+fn journal_refusal(rolled: Option<Result<u32, RollFault>>) -> Option<(u32, usize)> {
     match rolled {
         Some(Err(RollFault::JournalFull { sheet, entries })) => {
             Some((entries, sheet.traces().len()))
@@ -212,8 +212,8 @@ fn refused_by_journal(rolled: Option<Result<u32, RollFault>>) -> Option<(u32, us
     }
 }
 
-/// The days that there would be after a refused roll, and how many traces came back.
-fn refused_by_days(rolled: Option<Result<u32, RollFault>>) -> Option<(u32, usize)> {
+/// Tells the days that there would be after a refused roll, and how many traces came back.
+fn days_refusal(rolled: Option<Result<u32, RollFault>>) -> Option<(u32, usize)> {
     match rolled {
         Some(Err(RollFault::TooManyDays { sheet, days })) => Some((days, sheet.traces().len())),
         _ => None,
@@ -228,7 +228,7 @@ fn has_dropped(dropped: Option<Result<u32, DeedFault>>, traces: u32) -> bool {
     }
 }
 
-/// The entries of the full journal that refused a call.
+/// Tells the entries of the full journal that refused a call.
 fn full_entries(dropped: Option<Result<u32, DeedFault>>) -> Option<u32> {
     match dropped {
         Some(Err(DeedFault::JournalFull { entries })) => Some(entries),
@@ -312,7 +312,7 @@ fn a_65th_day_is_told_and_its_sheet_comes_back(rt: HostRuntime) -> Result<(), Fa
     let alloc = rt.alloc();
     let (book, mut caller) = LiveBook::open(alloc, 2, 100)?;
     assert!(rt; roll_days(&rt, alloc, &book, &mut caller));
-    let refused = refused_by_days(roll(&rt, alloc, &book, &mut caller, 64, true));
+    let refused = days_refusal(roll(&rt, alloc, &book, &mut caller, 64, true));
     assert_eq!(rt; refused, Some((65, 1)));
     assert!(rt; stands_at(roll(&rt, alloc, &book, &mut caller, 3, false), 64));
     assert_eq!(rt; caller.turns(), 34);
@@ -333,7 +333,7 @@ fn an_entry_past_the_last_is_told(rt: HostRuntime) -> Result<(), Fail> {
         full_entries(keep(&rt, &book, &mut caller, 0)),
         Some(10_000)
     );
-    let refused = refused_by_journal(roll(&rt, alloc, &book, &mut caller, 8, true));
+    let refused = journal_refusal(roll(&rt, alloc, &book, &mut caller, 8, true));
     assert_eq!(rt; refused, Some((10_000, 1)));
     assert_eq!(rt;
         read(&rt, &book, &mut caller, 9_999).map(|entries| entries.len()),

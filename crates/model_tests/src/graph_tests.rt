@@ -12,7 +12,7 @@ use trace_graph::{OrderedGraph, graph};
 use trace_types::{NamedTrace, Trace};
 use weighted_dag::reduce;
 
-/// Makes the graph of the first of these traces, whose names are below this number.
+/// Makes the graph of the first of these traces; none where a name is not below this number.
 fn graph_of_named(alloc: Global, named: Vec<NamedTrace>, count: u32) -> Option<OrderedGraph> {
     if count > 512 || !are_below(&named, count) {
         return None;

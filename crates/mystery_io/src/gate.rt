@@ -7,7 +7,8 @@ pub trait Gate {
     fn turn(&self, worker: u32, trace: u32);
 
     /// Tells whether `turn` never waits. Then workers with little to do may run one after another
-    /// in one thread. The default is false.
+    /// in one thread. A gate whose `turn` may wait for another worker must answer false: that worker
+    /// might not run until this one is done. The default is false.
     fn never_waits(&self) -> bool {
         false
     }

@@ -1,5 +1,5 @@
-//! The program `mystery` as one call: `run` reads arguments and files, carries out what they ask for,
-//! and writes the text, over any files, sinks and gate.
+//! The program `mystery` as one call: `run` reads arguments and files, carries out what they ask
+//! for, and writes the text, over any files, sinks and gate.
 #![tactic(auto)]
 
 mod action;

@@ -156,9 +156,9 @@ fn perform<R: Threads + Sync, F: Files, S: Sink, G: Gate + Sync>(
     }
 }
 
-/// Runs the program: reads the files that the arguments `words` name, if any, the certificate before
-/// the input, writes the text to `out`, and if it ends in another way a message to `err`. The result
-/// is the exit status. Workers of an add may wait for the gate.
+/// Runs the program: reads the files that the arguments `words` name, if any, the certificate
+/// before the input, writes the text to `out`, and if it ends in another way a message to `err`.
+/// The result is the exit status. Workers of an add may wait for the gate.
 ///
 /// 0: done. 1: out of memory. 2: the arguments are outside the grammar. 3: a line is bad. 4: a file
 /// could not be read. 5: `out` could not be written. 6: the certificate or the input is too big, or

@@ -1,5 +1,5 @@
-//! Tests of `run` over files and sinks in memory: what each command prints of worked inputs, and how
-//! a run ends that meets a bad line, a fault or a limit.
+//! Tests of `run` over files and sinks in memory, and once over real files: what each command
+//! prints of worked inputs, and how a run ends that meets a bad line, a fault or a limit.
 #![tactic(auto)]
 
 #[cfg(test)]

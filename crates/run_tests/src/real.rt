@@ -9,7 +9,7 @@ use std::test::Fail;
 fn real_files_are_read_and_each_stream_gets_its_bytes(rt: HostRuntime) -> Result<(), Fail> {
     let alloc = rt.alloc();
     let mut path = temp_dir(&rt)?;
-    path.push("mystery_cli_with_a_space ")?;
+    path.push("mystery_run_with_a_space ")?;
     fs::write(&rt, path.as_str(), "\n")?;
     let table: [(&str, u8, &[u8], &[u8]); 3] = [
         (path.as_str(), 0, EMPTY, b""),

@@ -28,7 +28,7 @@ fn put_member(bytes: &mut Vec<u8>, name: &str, text: &str) -> Result<(), AllocEr
     bytes.extend_from_slice(b"\"")
 }
 
-/// Appends the time and the place of an event.
+/// Appends an event's object but for its closing brace.
 pub(crate) fn put_event(
     bytes: &mut Vec<u8>,
     request: &str,

@@ -59,7 +59,7 @@ struct NamedBatch {
 
 /// Adds the names and tasks of traces to a catalogue, widens a book to the names, and names the
 /// traces with this grace, in nanoseconds, by up to so many workers. The texts are those that the
-/// numbers of the traces stand for. After an error the catalogue may have some of the names.
+/// numbers of the traces stand for. After an error nothing is said of the catalogue or the book.
 fn name_and_widen<R: Threads + Sync>(
     rt: &R,
     alloc: Global,
@@ -89,6 +89,7 @@ fn name_and_widen<R: Threads + Sync>(
         (HasNamesCause catalogue.old (map cut_trace traces.entry.items)) }
 {
     names_grow();
+    // Its contract tells that the catalogue is within its limits.
     let _names = catalogue.names();
     let named = name_batch(rt, alloc, catalogue, texts, traces, grace, workers)?;
     book.widen(catalogue.names())?;

@@ -1,6 +1,7 @@
 //! Texts of rows that may be cut short: rows of tab-separated fields, a buffer that is flushed when
-//! full, rows of a list of items, and parts that are made one after another. What was printed is a
-//! text whole, or whole parts in order and then a prefix of one.
+//! full, rows of a list of items, texts that were made before, parts that are made one after another,
+//! and a sink that keeps a text in memory. What was printed is a text whole, or whole parts in order
+//! and then a prefix of one.
 #![tactic(auto)]
 
 mod field;

@@ -116,7 +116,7 @@ fn offer_in_turn<G: Gate>(
 
 /// Offers the part's traces by a block of workers, of whom this one is the first, as many as the
 /// part has shares: one half of them beside the other. With a gate that never waits, workers
-/// with little to do take turns in one thread. The only fault is that memory ran out.
+/// with little to do run one after another in one thread. The only fault is that memory ran out.
 pub(crate) fn offer_block<R: Threads + Sync, G: Gate + Sync>(
     rt: &R,
     recorder: &Recorder,

@@ -40,11 +40,11 @@ fn append_all(
 }
 
 /// Offers the traces by as many workers as the recording has shares. The workers stand beside one
-/// another; with a gate that never waits, those with little to do take turns in one thread. The
-/// workers share the traces by halving, and each calls the gate before it offers one. The recording
-/// then has all shares again, and the traces follow in the order given. Just after each multiple of
-/// `every` of its traces a worker takes a watch number; where `every` is 0 there is none. The only
-/// fault is that memory ran out.
+/// another; with a gate that never waits, those with little to do run one after another in one
+/// thread. The workers share the traces by halving, and each calls the gate before it offers one.
+/// The recording then has all shares again, and the traces follow in the order given. Just after
+/// each multiple of `every` of its traces a worker takes a watch number; where `every` is 0 there
+/// is none. The only fault is that memory ran out.
 pub fn offer_all<R: Threads + Sync, G: Gate + Sync>(
     rt: &R,
     recorder: &Recorder,

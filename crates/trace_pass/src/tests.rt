@@ -303,8 +303,8 @@ fn every_number_of_workers_gives_the_plain_sheet(rt: HostRuntime) -> Result<(), 
     Ok(())
 }
 
-/// Tells whether these are as many watch lines, of the same traces; where the traces are alike, with
-/// the same numbers.
+/// Tells whether both lists have the same workers and counts, line by line, and, if `alike`, the
+/// same watch numbers.
 fn are_same_lines(lines: &[WatchLine], others: &[WatchLine], alike: bool) -> bool {
     if lines.len() != others.len() {
         return false;
@@ -344,7 +344,7 @@ fn an_open_gate_changes_neither_words_nor_lines(rt: HostRuntime) -> Result<(), F
 }
 
 #[test]
-fn workers_with_little_to_do_take_turns(rt: HostRuntime) -> Result<(), Fail> {
+fn workers_with_little_to_do_run_one_after_another(rt: HostRuntime) -> Result<(), Fail> {
     let alloc = rt.alloc();
     let Some((_sheet, lines)) = sheet_by(&rt, alloc, 2, day_of(alloc, 2, 4)?, 1, &OpenGate) else {
         return Err(Fail::from("memory"));

@@ -9,10 +9,10 @@ use trace_types::NamedTrace;
 /// How much the traces of a chunk cost together, at most, unless one alone costs more.
 const CHUNK_COST: u64 = 16_000_000;
 
-/// How much a piece of a chunk may cost in any case; less is not worth a thread.
+/// A piece may always cost this much; less is not worth a thread.
 const PIECE_COST: u64 = 250_000;
 
-/// Which part of its chunk a piece may cost.
+/// A piece may cost one part in so many of its chunk.
 const CHUNK_PARTS: u64 = 16;
 
 /// How much each trace costs besides its pairs of segments.
@@ -64,8 +64,8 @@ pub(crate) struct Piece<'a> {
     pub(crate) traces: &'a [&'a NamedTrace],
 }
 
-/// Cuts traces into pieces, each with as many as may be in it by their cost. The only error is that
-/// memory ran out.
+/// Cuts traces into pieces, each as long as its cost allows and of at least one trace. The only
+/// error is that memory ran out.
 pub(crate) fn cut_pieces<'a>(
     alloc: Global,
     traces: &'a [&'a NamedTrace],

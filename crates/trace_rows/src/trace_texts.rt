@@ -25,8 +25,8 @@ use trace_types::NamedTrace;
 
 /// A kind of texts of traces. What a text tells of a trace is computed before any of it is printed.
 pub(crate) trait TraceTexts: Sync {
-    /// What is computed of a trace. Threads share the kind of texts, and so what it can compute has
-    /// to be fit for threads.
+    /// What is computed of a trace. It is `Send` since a closure that threads share asks that of
+    /// the associated types of what it borrows; no value is sent.
     type Computed: Send + Drop;
 
     /// The part of a kept trace.
@@ -145,7 +145,8 @@ fn make_texts<R: Threads + Sync, K: TraceTexts>(
     made
 }
 
-/// Prints the parts of these traces, in order. Many are made into texts by all processors first.
+/// Prints the parts of these traces, in order. Where they make several pieces, all processors make
+/// the texts first.
 fn print_chunk<R: Threads + Sync, S: Sink, K: TraceTexts>(
     rt: &R,
     alloc: Global,

@@ -25,8 +25,7 @@ pub record IsGraphUnderBook (b : NumberedBook) (t : NamedTrace) (order : List �
     weights = g.weights;
   })
 
--- of the longest chains of a trace's graph, whose vertices have this order, the first, with its
--- length
+-- the first longest chain of a trace's graph, whose vertices have this order, and its length
 pub record IsPathUnderBook (b : NumberedBook) (t : NamedTrace) (order : List ℕ) (graph : Graph)
     (total : ℕ) (chain : List ℕ) : Type 0 where
   pub of_trace : IsGraphUnderBook b t order graph
