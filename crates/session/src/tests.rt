@@ -216,9 +216,10 @@ fn keep_nothing<R: Threads + Sync, S: Sink>(
 #[test]
 fn a_session_adds_drops_keeps_and_prints(rt: HostRuntime) -> Result<(), Fail> {
     let alloc = rt.alloc();
+    let events = batch(alloc)?;
     let mut out = MemSink::new(alloc, 100, Vec::new(alloc), 1000)?;
     let session = Session::new(alloc, 1)?;
-    let session = watch_and_add(&rt, session, batch(alloc)?, &mut out).expect(&rt, "session");
+    let session = watch_and_add(&rt, session, events, &mut out).expect(&rt, "session");
     let session = control(&rt, session, Command::Drop { day: 1 }, &mut out).expect(&rt, "session");
     let session = print_views(&rt, session, &mut out).expect(&rt, "session");
     let _session = keep_nothing(&rt, session, &mut out).expect(&rt, "session");
@@ -248,14 +249,15 @@ fn a_session_adds_drops_keeps_and_prints(rt: HostRuntime) -> Result<(), Fail> {
 #[test]
 fn a_session_reports_and_forecasts(rt: HostRuntime) -> Result<(), Fail> {
     let alloc = rt.alloc();
-    let mut out = MemSink::new(alloc, 100, Vec::new(alloc), 1000)?;
-    let session = Session::new(alloc, 1)?;
-    let session = add(&rt, session, batch(alloc)?, &mut out).expect(&rt, "session");
+    let events = batch(alloc)?;
     let change = NamedChange {
         name: name(alloc, "a")?,
         num: 1,
         den: 4,
     };
+    let mut out = MemSink::new(alloc, 100, Vec::new(alloc), 1000)?;
+    let session = Session::new(alloc, 1)?;
+    let session = add(&rt, session, events, &mut out).expect(&rt, "session");
     let session = control(&rt, session, Command::Report, &mut out).expect(&rt, "session");
     let session = carry_out(&rt, session, Job::Summary, &mut out).expect(&rt, "session");
     let session = carry_out(&rt, session, Job::Tail, &mut out).expect(&rt, "session");
@@ -279,20 +281,33 @@ fn a_session_reports_and_forecasts(rt: HostRuntime) -> Result<(), Fail> {
     Ok(())
 }
 
-#[test]
-fn a_session_certifies_and_verifies(rt: HostRuntime) -> Result<(), Fail> {
-    let alloc = rt.alloc();
-    let mut out = MemSink::new(alloc, 100, Vec::new(alloc), 1000)?;
-    let session = Session::new(alloc, 1)?;
-    let session = add(&rt, session, turned_batch(alloc)?, &mut out).expect(&rt, "session");
-    let session = carry_out(&rt, session, Job::Why, &mut out).expect(&rt, "session");
+/// Makes two claims that the traces of the turned batch show.
+fn shown_claims(alloc: Global) -> Result<Vec<Claim>, AllocError> {
     let mut claims = Vec::new(alloc);
     claims.push(claim(alloc, 2, "a", "b", 1, "r2")?)?;
     claims.push(claim(alloc, 3, "b", "a", 0, "r1")?)?;
-    let session = verify(&rt, session, claims, &mut out).expect(&rt, "session");
+    Ok(claims)
+}
+
+/// Makes a claim that no trace of the turned batch shows.
+fn refused_claims(alloc: Global) -> Result<Vec<Claim>, AllocError> {
     let mut claims = Vec::new(alloc);
     claims.push(claim(alloc, 7, "a", "b", 0, "r1")?)?;
-    let _session = verify(&rt, session, claims, &mut out).expect(&rt, "session");
+    Ok(claims)
+}
+
+#[test]
+fn a_session_certifies_and_verifies(rt: HostRuntime) -> Result<(), Fail> {
+    let alloc = rt.alloc();
+    let events = turned_batch(alloc)?;
+    let claims = shown_claims(alloc)?;
+    let others = refused_claims(alloc)?;
+    let mut out = MemSink::new(alloc, 100, Vec::new(alloc), 1000)?;
+    let session = Session::new(alloc, 1)?;
+    let session = add(&rt, session, events, &mut out).expect(&rt, "session");
+    let session = carry_out(&rt, session, Job::Why, &mut out).expect(&rt, "session");
+    let session = verify(&rt, session, claims, &mut out).expect(&rt, "session");
+    let _session = verify(&rt, session, others, &mut out).expect(&rt, "session");
     assert_eq!(rt;
         out.bytes(),
         b"why\ttraces=2\trefuted=2\n\
