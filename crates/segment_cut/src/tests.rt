@@ -86,16 +86,24 @@ fn copy_cut(rt: &(impl Abort + AllocGlobal), cut: &CutTrace<'_>) -> Result<Trace
     Ok(trace)
 }
 
+/// Copies what a cut gave.
+fn copy_answer(
+    rt: &(impl Abort + AllocGlobal),
+    cut: Result<CutTrace<'_>, TraceFault>,
+) -> Result<Result<Trace, TraceFault>, Fail> {
+    match cut {
+        Ok(cut) => Ok(Ok(copy_cut(rt, &cut)?)),
+        Err(fault) => Ok(Err(fault)),
+    }
+}
+
 /// Cuts the trace of these lines.
 fn answer<R: Abort + AllocGlobal + Threads + Sync>(
     rt: &R,
     rows: &[Row],
 ) -> Result<Result<Trace, TraceFault>, Fail> {
     let gathered = gather_rows(rt, rows)?;
-    match cut_only(rt, &gathered)? {
-        Ok(cut) => Ok(Ok(copy_cut(rt, &cut)?)),
-        Err(fault) => Ok(Err(fault)),
-    }
+    copy_answer(rt, cut_only(rt, &gathered)?)
 }
 
 /// Compares a text.
