@@ -1,5 +1,5 @@
 -- The steps of an add: its names, its days, and why one is not taken.
-use Rattle.std.proofs.Common.{◌≡◌, ℕ, ◌*◌, ◌<◌, ◌≤◌, All, arith, List, ◌∷◌, length, map, sym, ap, ◌∙◌, subst}
+use Rattle.std.proofs.Common.{◌≡◌, ℕ, ◌*◌, List, ◌∷◌, length, map, sym, ap, ◌∙◌, subst}
 use Rattle.std.specs.List.{AllZip}
 use Rattle.batch_sheets.specs.declared.recording.DayLines.{DayLines}
 use Rattle.day_partitions.specs.Batches.{IsBatchFault, with_all}
@@ -101,5 +101,5 @@ module _ (old : SessionState) (valid : List Trace) (wide : SessionState) (named 
   )
 
 -- what is judged of the traces that were gathered of a batch is judged of its traces
-pub judged_of : (gathered : List PlainTrace) (events parts : List Event) (valid : List Trace) (refused : List Refused) → gathered ≡ traces_of parts → parts ≡ events → AreJudged gathered valid refused → AreJudged (traces_of events) valid refused
-judged_of gathered events parts valid refused all same judged = subst (λ ts. AreJudged ts valid refused) (all ∙ ap traces_of same) judged
+pub judged_as : (gathered : List PlainTrace) (events : List Event) (valid : List Trace) (refused : List Refused) → gathered ≡ traces_of events → AreJudged gathered valid refused → AreJudged (traces_of events) valid refused
+judged_as gathered events valid refused same judged = subst (λ ts. AreJudged ts valid refused) same judged

@@ -15,9 +15,10 @@ ghost use Rattle.session.specs.SessionStates.{Shows};
 ghost use Rattle.session.specs.Sheets.{graced_by};
 ghost use Rattle.session.specs.inner.AddFaults.{HasAddCause, HasNamesCause};
 ghost use Rattle.session.specs.inner.AddSteps.{AreBooked, AreNamed, HasDaysCause, IsAddOf};
-ghost use Rattle.trace_types.specs.Batch.{requests_of};
+ghost use Rattle.trace_types.specs.Batch.{PlainTrace, requests_of, traces_of};
 ghost use Rattle.trace_types.specs.Limits.{most_grace};
 ghost use Rattle.trace_types.specs.Times.{AreTimely};
+ghost use Rattle.trace_types.specs.declared.event.Event.{Event};
 ghost use Rattle.trace_types.specs.declared.trace.Trace.{Trace};
 
 use crate::Session;
@@ -30,7 +31,7 @@ use batch_sheets::{DayLines, judge_batch, name_batch};
 use day_partitions::DayBook;
 use event_lines::EventParts;
 use event_table::laws::traces_keep_facts;
-use event_table::{Texts, gather};
+use event_table::{GatheredEvents, Texts, gather};
 use mystery_io::Gate;
 use segment_cut::CutTrace;
 use segment_names::Catalogue;
@@ -183,6 +184,43 @@ impl Session {
         Ok(recorded.watched)
     }
 
+    /// Adds the traces of a gathered batch and prints nothing yet. Workers may wait for the gate.
+    /// After an error the session is gone.
+    fn add_gathered<R: Threads + Sync, G: Gate + Sync>(
+        self,
+        rt: &R,
+        gathered: &GatheredEvents,
+        gate: &G,
+    ) -> Result<AddedBatch, AddFault>
+        requires timely { All (λ (t : PlainTrace). AreTimely t.events) gathered.now.traces }
+        requires short { All (λ (t : PlainTrace). length t.events < 2 ^ 32) gathered.now.traces }
+        requires few { (events : List Event) × (gathered.now.traces ≡ traces_of events)
+            × (kept_count self + length (requests_of events) < 2 ^ 32) }
+        ensures added { IfOk result (λ a. (events : List Event)
+            → gathered.now.traces ≡ traces_of events → (s : State) → Shows self s
+            → IsAddOf self.workers events s a.session a.refused.items a.watched.items) }
+        ensures workers { IfOk result (λ a. a.session.workers ≡ self.workers) }
+        ensures kept { IfOk result (λ a. (events : List Event)
+            → gathered.now.traces ≡ traces_of events
+            → kept_count a.session ≤ kept_count self + length (requests_of events)) }
+        ensures cause { IfErr result (λ fault. (events : List Event)
+            → gathered.now.traces ≡ traces_of events → (s : State) → Shows self s
+            → HasAddCause events s fault) }
+    {
+        no_more_are_valid();
+        add_leads_on();
+        add_passes_days();
+        add_is_told();
+        let judged = judge_batch(rt, self.alloc, gathered, self.workers)?;
+        let NamedBatch { mut session, named } = self.add_names(rt, gathered.texts(), judged.valid)?;
+        let watched = session.add_days(rt, named, gate)?;
+        Ok(AddedBatch {
+            session,
+            refused: judged.refused,
+            watched,
+        })
+    }
+
     /// Adds the traces of a batch of events and prints nothing yet. Workers may wait for the gate.
     /// After an error the session is gone.
     pub(crate) fn add_batch<R: Threads + Sync, G: Gate + Sync>(
@@ -202,19 +240,8 @@ impl Session {
         ensures cause { IfErr result (λ fault. (s : State) → Shows self s
             → HasAddCause events s fault) }
     {
-        no_more_are_valid();
-        add_leads_on();
-        add_passes_days();
-        add_is_told();
         traces_keep_facts();
         let gathered = gather(rt, self.alloc, events.into_parts(), self.workers)?;
-        let judged = judge_batch(rt, self.alloc, &gathered, self.workers)?;
-        let NamedBatch { mut session, named } = self.add_names(rt, gathered.texts(), judged.valid)?;
-        let watched = session.add_days(rt, named, gate)?;
-        Ok(AddedBatch {
-            session,
-            refused: judged.refused,
-            watched,
-        })
+        self.add_gathered(rt, &gathered, gate)
     }
 }
