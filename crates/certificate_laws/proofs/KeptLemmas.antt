@@ -7,7 +7,7 @@ use Rattle.event_lines.specs.declared.command.Command.{Command}
 use Rattle.event_lines.specs.declared.command.Command.TheVariants as commands
 use Rattle.event_lines.specs.declared.line.Line.{Line}
 use Rattle.event_lines.specs.declared.line.Line.TheVariants as lines
-use Rattle.session_rules.specs.Jobs.{batch_after, job_of, jobs_from, jobs_of}
+use Rattle.session_rules.specs.Jobs.{IsNoAdd, batch_after, job_of, jobs_from, jobs_of}
 use Rattle.session_rules.specs.KeptTraces.{Kept, day_of, greater_days, is_of_day, kept_with}
 use Rattle.session_rules.specs.Parts.{Part}
 use Rattle.session_rules.specs.Sessions.{Adds, Commands, Does, Leads, State, first_state, graced}
@@ -16,7 +16,7 @@ use Rattle.session_rules.specs.declared.job.Job.TheVariants as jobs
 use Rattle.trace_types.specs.declared.event.Event.{Event}
 use Rattle.trace_types.specs.declared.trace.Trace.{Trace}
 use Rattle.certificate_laws.specs.Printable.{IsPrintable}
-use Rattle.certificate_laws.specs.PrintableLaws.{IsControl, IsLastState, IsNoAdd}
+use Rattle.certificate_laws.specs.PrintableLaws.{IsControl, IsLastState}
 use Rattle.certificate_laws.proofs.EventLemmas.{IsGoodEvent, IsGoodLine, lines_good}
 use Rattle.certificate_laws.proofs.TakenLemmas.{all_taken, length-with_taken}
 use Rattle.certificate_laws.proofs.TraceLemmas.{IsPrintableTrace, no_more, valid_few, valid_printable}

@@ -11,8 +11,8 @@ use Rattle.segment_cut.specs.Neighbours.{AreNeighbours}
 use Rattle.segment_cut.specs.declared.trace_fault.TraceFault.{TraceFault}
 use Rattle.session_rules.specs.Batches.{IsJudged, valid_of}
 use Rattle.session_rules.specs.KeptTraces.{kept_with}
-use Rattle.trace_types.specs.Batch.{PlainTrace, is_of, requests_of, trace_of, traces_of}
-use Rattle.trace_types.specs.Events.{name_at, task_at, time_at}
+use Rattle.trace_types.specs.Batch.{PlainTrace, is_of_request, requests_of, trace_of, traces_of}
+use Rattle.trace_types.specs.Events.{event_name_at, task_at, time_at}
 use Rattle.trace_types.specs.Firsts.{firsts_of}
 use Rattle.trace_types.specs.Times.{latest_time}
 use Rattle.trace_types.specs.declared.event.Event.{Event}
@@ -41,7 +41,7 @@ mapped_all P Q f (x ∷ xs) each h = All-cons Q (f x) (map f xs) (each x (All-he
 traces_good : (batch : List Event) → All IsGoodEvent batch → All IsGoodTrace (traces_of batch)
 traces_good batch h =
     let requests = mapped_all IsGoodEvent IsPrintableText (λ (e : Event). e.request) batch (λ e g. g.request) h in
-    mapped_all IsPrintableText IsGoodTrace (trace_of batch) (requests_of batch) (λ request p. record { request = p; events = All-filter (is_of request) IsGoodEvent batch h })
+    mapped_all IsPrintableText IsGoodTrace (trace_of batch) (requests_of batch) (λ request p. record { request = p; events = All-filter (is_of_request request) IsGoodEvent batch h })
     (firsts_all IsPrintableText bytes_eq (map (λ (e : Event). e.request) batch) requests)
 
 -- ---- a trace that is cut
@@ -49,7 +49,7 @@ traces_good batch h =
 task_good : (events : List Event) (i : ℕ) → All IsGoodEvent events → i < length events → IsPrintableText (task_at events i)
 task_good events i h within = All-get_or IsPrintableText (map (λ (e : Event). e.task) events) i [] (omega (arith, length-map events (λ (e : Event). e.task))) (mapped_all IsGoodEvent IsPrintableText (λ (e : Event). e.task) events (λ e g. g.task) h)
 
-name_good : (events : List Event) (i : ℕ) → All IsGoodEvent events → i < length events → IsPrintableText (name_at events i)
+name_good : (events : List Event) (i : ℕ) → All IsGoodEvent events → i < length events → IsPrintableText (event_name_at events i)
 name_good events i h within = All-get_or IsPrintableText (map (λ (e : Event). e.event) events) i [] (omega (arith, length-map events (λ (e : Event). e.event))) (mapped_all IsGoodEvent IsPrintableText (λ (e : Event). e.event) events (λ e g. g.event) h)
 
 time_good : (events : List Event) → All IsGoodEvent events → time_at events 0 ≤ latest_time

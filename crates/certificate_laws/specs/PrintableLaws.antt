@@ -4,28 +4,17 @@ use Rattle.std.specs.Prelude.{◌≡◌, ℕ, ◌<◌, ◌≤◌, ◌^◌, List,
 use Rattle.event_lines.specs.InputLines.{lines_said}
 use Rattle.event_lines.specs.declared.line.Line.{Line}
 use Rattle.event_lines.specs.declared.line.Line.TheVariants.{Control, Event}
-use Rattle.session_rules.specs.Jobs.{jobs_of}
+use Rattle.session_rules.specs.Jobs.{IsNoAdd, jobs_of}
 use Rattle.session_rules.specs.Parts.{Part}
 use Rattle.session_rules.specs.Refutations.{AreRefutations, Refutations, matters_of}
 use Rattle.session_rules.specs.Sessions.{Leads, State, first_state}
 use Rattle.session_rules.specs.declared.job.Job.{Job}
-use Rattle.session_rules.specs.declared.job.Job.TheVariants as jobs
 use Rattle.certificate_laws.specs.Printable.{IsPrintable}
 
 -- a control line
 abbrev pub IsControl : Line → Type 0
 IsControl (Event event) = ⊥
 IsControl (Control line command) = ⊤
-
--- a job that adds nothing
-abbrev pub IsNoAdd : Job → Type 0
-IsNoAdd (jobs.Add events) = ⊥
-IsNoAdd (jobs.Control command) = ⊤
-IsNoAdd jobs.Summary = ⊤
-IsNoAdd (jobs.WhatIf change) = ⊤
-IsNoAdd jobs.Tail = ⊤
-IsNoAdd jobs.Why = ⊤
-IsNoAdd (jobs.Verify claims) = ⊤
 
 -- a session carries out the lines of an input, further control lines and then jobs that add
 -- nothing, and this is its last state

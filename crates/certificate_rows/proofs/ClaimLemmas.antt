@@ -12,7 +12,7 @@ use Rattle.certificates.specs.declared.claim.Claim.{Claim}
 use Rattle.certificates.specs.declared.matter.Matter.{Matter}
 use Rattle.certificates.specs.declared.matter.Matter.TheVariants.{Before, Exclusive, Pipe}
 use Rattle.counterexamples.specs.ShownClaims.{IsShownClaim, matter_numbers, relation_between, relation_of}
-use Rattle.day_partitions.specs.Books.{BookState, IsBook, all_traces, traces_of}
+use Rattle.day_partitions.specs.Books.{BookState, IsBook, all_traces, traces_kept_on}
 use Rattle.hypothesis_index.specs.Refuting.{Refutes}
 use Rattle.hypothesis_index.specs.declared.relation.Relation.{Relation}
 use Rattle.kept_books.specs.Shown as books
@@ -121,14 +121,14 @@ module _ (known : Known) (laws : AreLaws known) where
       ∙ cond-false (m == n) None (Some (relation_between matter m n)) (ne_eqb m n differ)
 
   -- the named traces of a day are the kept ones of that day
-  day_shown : (b : BookState) (kept : List Kept) → IsBook b → AreShown known (all_traces b.days) kept → (day : ℕ) → AreShown known (traces_of b.days day) (traces_on day kept)
+  day_shown : (b : BookState) (kept : List Kept) → IsBook b → AreShown known (all_traces b.days) kept → (day : ℕ) → AreShown known (traces_kept_on b.days day) (traces_on day kept)
   day_shown b kept is shown day = subst (λ ts. AreShown known ts (traces_on day kept)) (all_of_day day b.days (book_days b is))
       (zip_filter (books.IsShown known) (is_of day) (is_of_day day) (λ t k s. ap (λ (d : ℕ). d == day) s.day) (all_traces b.days) kept shown)
 
   pub claim_shown : (b : BookState) (kept : List Kept) (claim : Claim) → IsBook b → AreShown known (all_traces b.days) kept → IsShownClaim known b.days claim ↔ IsClaimShown kept claim
   claim_shown b kept claim is shown = (
     (λ s.
-        let k = zip_get_left (books.IsShown known) (traces_of b.days claim.day) (traces_on claim.day kept) claim.index s.trace (day_shown b kept is shown claim.day) s.stands in
+        let k = zip_get_left (books.IsShown known) (traces_kept_on b.days claim.day) (traces_on claim.day kept) claim.index s.trace (day_shown b kept is shown claim.day) s.stands in
         let r = relation_told claim.matter s.relation s.numbered in
         record {
           trace = k.0;
@@ -137,7 +137,7 @@ module _ (known : Known) (laws : AreLaws known) where
           refutes = (refutes_alike known laws claim.matter r.m r.n r.numbers r.differ s.trace k.0 k.2).0 (subst (λ (x : Relation). Refutes x s.trace) (sym r.is) s.refutes);
         }),
     (λ s.
-        let t = zip_get_right (books.IsShown known) (traces_of b.days claim.day) (traces_on claim.day kept) claim.index s.trace (day_shown b kept is shown claim.day) s.stands in
+        let t = zip_get_right (books.IsShown known) (traces_kept_on b.days claim.day) (traces_on claim.day kept) claim.index s.trace (day_shown b kept is shown claim.day) s.stands in
         let r = refuted_numbers known laws t.0 s.trace t.2 claim.matter s.refutes in
         record {
           relation = relation_between claim.matter r.0 r.1;

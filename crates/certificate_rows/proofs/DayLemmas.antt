@@ -7,7 +7,7 @@ use Rattle.std.proofs.lemmas.List.Elements.{All-nil, All-head, All-tail, All-wea
 use Rattle.std.proofs.lemmas.Option.{same_Some, slice_get_within}
 use Rattle.counterexamples.specs.Findings.{StandsAt, StandsBefore}
 use Rattle.counterexamples.specs.declared.finding.Finding.{Finding}
-use Rattle.day_partitions.specs.Books.{AreOfDay, AreRising, BookState, IsBook, KeptDay, all_traces, traces_of}
+use Rattle.day_partitions.specs.Books.{AreOfDay, AreRising, BookState, IsBook, KeptDay, all_traces, traces_kept_on}
 use Rattle.trace_types.specs.declared.named_trace.NamedTrace.{NamedTrace}
 use Rattle.certificate_rows.proofs.ElementLemmas.{Contains-from_get, before_place, filter_all, filter_none, from_flat_map, get_from_Contains, get_from_take}
 
@@ -51,7 +51,7 @@ above_all d (k ∷ ks) h g =
     (above_all d ks (All-tail (λ (j : KeptDay). d < j.day) k ks h) (All-tail IsDated k ks g))
 
 -- the traces of a day
-pub all_of_day : (d : ℕ) (ks : List KeptDay) → AreDays ks → filter (is_of d) (all_traces ks) ≡ traces_of ks d
+pub all_of_day : (d : ℕ) (ks : List KeptDay) → AreDays ks → filter (is_of d) (all_traces ks) ≡ traces_kept_on ks d
 all_of_day d [] h = refl
 all_of_day d (k ∷ ks) h =
     let rest = all_of_day d ks (days_tail k ks h) in
@@ -59,10 +59,10 @@ all_of_day d (k ∷ ks) h =
     filter-append (is_of d) k.traces (all_traces ks) ∙ elim (cases_eq k.day d) [
       | inl is ↦
           let none : filter (is_of d) (all_traces ks) ≡ [] = not_of_day d (all_traces ks) (All-weaker (λ (t : NamedTrace). k.day < t.day) (λ (t : NamedTrace). t.day ≡ d → ⊥) (λ t l e. omega (arith, l, e, is)) (all_traces ks) later) in
-          ap (λ l. l ++ filter (is_of d) (all_traces ks)) (of_day d k.day k.traces (own_day k ks h) is) ∙ (ap (λ l. k.traces ++ l) none ∙ (append-nil k.traces ∙ sym (cond-true (k.day == d) k.traces (traces_of ks d) (eq-eqb k.day d is))))
+          ap (λ l. l ++ filter (is_of d) (all_traces ks)) (of_day d k.day k.traces (own_day k ks h) is) ∙ (ap (λ l. k.traces ++ l) none ∙ (append-nil k.traces ∙ sym (cond-true (k.day == d) k.traces (traces_kept_on ks d) (eq-eqb k.day d is))))
       | inr other ↦
           let none : filter (is_of d) k.traces ≡ [] = not_of_day d k.traces (All-weaker (λ (t : NamedTrace). t.day ≡ k.day) (λ (t : NamedTrace). t.day ≡ d → ⊥) (λ t s e. other (sym s ∙ e)) k.traces (own_day k ks h)) in
-          ap (λ l. l ++ filter (is_of d) (all_traces ks)) none ∙ (rest ∙ sym (cond-false (k.day == d) k.traces (traces_of ks d) (ne_eqb k.day d other)))
+          ap (λ l. l ++ filter (is_of d) (all_traces ks)) none ∙ (rest ∙ sym (cond-false (k.day == d) k.traces (traces_kept_on ks d) (ne_eqb k.day d other)))
     ]
 
 -- ---- the traces before one

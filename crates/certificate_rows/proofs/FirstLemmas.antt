@@ -25,7 +25,7 @@ use Rattle.text_rows.specs.TextsOfParts.{AreTexts}
 use Rattle.trace_types.specs.Surviving.{IsRefuted}
 use Rattle.trace_types.specs.declared.named_trace.NamedTrace.{NamedTrace}
 use Rattle.certificate_rows.specs.declared.kind.Kind.{Kind}
-use Rattle.certificate_rows.specs.inner.Numbered.{matter_between, pair_row, row_at, row_of_finding, trace_at, trace_row}
+use Rattle.certificate_rows.specs.inner.Numbered.{matter_between, row_of_pair, refuter_row, row_of_finding, trace_at, refuted_by_row}
 use Rattle.certificate_rows.specs.inner.Pairs.{refuted_pairs, refuter_between, relation_of_kind}
 use Rattle.certificate_rows.specs.inner.Sources.{HasRefuters, count_of}
 use Rattle.certificate_rows.proofs.BridgeLemmas.{AreLaws, AreNumbers, refuted_numbers, refutes_alike}
@@ -78,7 +78,7 @@ refuted_there kept matter k index first =
     (c.0, k, c.1, c.2, first.refutes)
 
 -- the row of a trace by number is that of the kept trace
-row_shown : (known : Known) (matter : Matter) (t : NamedTrace) (k : Kept) (index : ℕ) → IsShown known t k → trace_row matter t index ≡ refuted_row matter k index
+row_shown : (known : Known) (matter : Matter) (t : NamedTrace) (k : Kept) (index : ℕ) → IsShown known t k → refuted_by_row matter t index ≡ refuted_row matter k index
 row_shown known matter t k index shown =
     ap (λ (d : ℕ). row_of (codes "refuted" ∷ (matter_fields matter ++ decimal d ∷ decimal index ∷ t.request ∷ []))) shown.day
     ∙ ap (λ (r : List ℕ). row_of (codes "refuted" ∷ (matter_fields matter ++ decimal (day_of k) ∷ decimal index ∷ r ∷ []))) shown.request
@@ -129,7 +129,7 @@ module _ {X : Type 0} (known : Known) (laws : AreLaws known) (b : BookState) (ta
           trace = s.k;
           index = f.index;
           first = s.first;
-          text = ap (row_at (matter_of (text m) (text n)) f.index) (stands_there b.days f (found f e).trace (found f e).stands) ∙ row_shown known (matter_of (text m) (text n)) (found f e).trace s.k f.index s.shown;
+          text = ap (refuter_row (matter_of (text m) (text n)) f.index) (stands_there b.days f (found f e).trace (found f e).stands) ∙ row_shown known (matter_of (text m) (text n)) (found f e).trace s.k f.index s.shown;
         }
 
   -- ---- what is refuted has a refuter
@@ -150,7 +150,7 @@ module _ {X : Type 0} (known : Known) (laws : AreLaws known) (b : BookState) (ta
 
   -- ---- the rows of pairs
   pub rows_told : (pairs : List (ℕ × ℕ)) → All (λ (p : ℕ × ℕ). (p.0 < length texts) × (p.1 < length texts)) pairs
-      → AreTexts IsPart (map (RefutedOf kept) (map (λ (p : ℕ × ℕ). matter_of (text p.0) (text p.1)) (refuted_pairs table kind pairs))) (flat_map (pair_row known b.days table kind) pairs)
+      → AreTexts IsPart (map (RefutedOf kept) (map (λ (p : ℕ × ℕ). matter_of (text p.0) (text p.1)) (refuted_pairs table kind pairs))) (flat_map (row_of_pair known b.days table kind) pairs)
   rows_told [] below = refl
   rows_told (p ∷ pairs) below =
       let here = All-head (λ (q : ℕ × ℕ). (q.0 < length texts) × (q.1 < length texts)) p pairs below in
@@ -158,8 +158,8 @@ module _ {X : Type 0} (known : Known) (laws : AreLaws known) (b : BookState) (ta
       by (refuter_between table kind p.0 p.1) refl here rest
     where
       by : (o : Option Finding) → refuter_between table kind p.0 p.1 ≡ o → (p.0 < length texts) × (p.1 < length texts)
-          → AreTexts IsPart (map (RefutedOf kept) (map (λ (q : ℕ × ℕ). matter_of (text q.0) (text q.1)) (refuted_pairs table kind pairs))) (flat_map (pair_row known b.days table kind) pairs)
-          → AreTexts IsPart (map (RefutedOf kept) (map (λ (q : ℕ × ℕ). matter_of (text q.0) (text q.1)) (refuted_pairs table kind (p ∷ pairs)))) (flat_map (pair_row known b.days table kind) (p ∷ pairs))
+          → AreTexts IsPart (map (RefutedOf kept) (map (λ (q : ℕ × ℕ). matter_of (text q.0) (text q.1)) (refuted_pairs table kind pairs))) (flat_map (row_of_pair known b.days table kind) pairs)
+          → AreTexts IsPart (map (RefutedOf kept) (map (λ (q : ℕ × ℕ). matter_of (text q.0) (text q.1)) (refuted_pairs table kind (p ∷ pairs)))) (flat_map (row_of_pair known b.days table kind) (p ∷ pairs))
       by None e here rest = rw e rest
       by (Some f) e here rest = rw e
-          (row_of_finding b.days (matter_of (text p.0) (text p.1)) (Some f), flat_map (pair_row known b.days table kind) pairs, row_told p.0 p.1 here.0 here.1 f e, rest, ap (λ (mt : Matter). row_of_finding b.days mt (Some f) ++ flat_map (pair_row known b.days table kind) pairs) (between p.0 p.1))
+          (row_of_finding b.days (matter_of (text p.0) (text p.1)) (Some f), flat_map (row_of_pair known b.days table kind) pairs, row_told p.0 p.1 here.0 here.1 f e, rest, ap (λ (mt : Matter). row_of_finding b.days mt (Some f) ++ flat_map (row_of_pair known b.days table kind) pairs) (between p.0 p.1))

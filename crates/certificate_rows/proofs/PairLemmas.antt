@@ -11,7 +11,7 @@ use Rattle.trace_types.specs.Listing.{ListsExactly}
 use Rattle.trace_types.specs.NameOrder.{pair_cmp}
 use Rattle.certificate_rows.specs.declared.kind.Kind.{Kind}
 use Rattle.certificate_rows.specs.declared.kind.Kind.TheVariants.{Before, Exclusive, Pipe}
-use Rattle.certificate_rows.specs.inner.Pairs.{pairs_from, pairs_of, seconds_of}
+use Rattle.certificate_rows.specs.inner.Pairs.{pairs_with, pairs_of, seconds_of}
 use Rattle.certificate_rows.proofs.ElementLemmas.{Contains-cons, Contains-here, Contains-kept, Contains-map, Contains-nil, cons_cases, from_map, head_before, kept_Contains, pairs_append, pairs_map, pairs_nil, pairs_tail}
 
 module _ {X : Type 0} (cmp : X → X → Ordering) (total : IsTotalOrder cmp) (text : ℕ → X) where
@@ -39,7 +39,7 @@ module _ {X : Type 0} (cmp : X → X → Ordering) (total : IsTotalOrder cmp) (t
   second_less : (m i j : ℕ) → Less_texts i j → Less_pairs (m, i) (m, j)
   second_less m i j l = ap (λ (o : Ordering). ordering_then o (cmp (text i) (text j))) (tied_itself total (text m)) ∙ l
 
-  row_rises : (m : ℕ) (others : List ℕ) → AllPairs Less_texts others → AllPairs Less_pairs (pairs_from m others)
+  row_rises : (m : ℕ) (others : List ℕ) → AllPairs Less_texts others → AllPairs Less_pairs (pairs_with m others)
   row_rises m others rising = pairs_map (λ (n : ℕ). (m, n)) Less_pairs others (λ i j d lt inside. second_less m _ _ (rising i j d lt inside))
 
   seconds_rise : (kind : Kind) (all later : List ℕ) → AllPairs Less_texts all → AllPairs Less_texts later → AllPairs Less_texts (seconds_of kind all later)
@@ -50,16 +50,16 @@ module _ {X : Type 0} (cmp : X → X → Ordering) (total : IsTotalOrder cmp) (t
   firsts_in : (kind : Kind) (all rest : List ℕ) (p : ℕ × ℕ) → Contains (pairs_of kind all rest) p → Contains rest p.0
   firsts_in kind all [] p c = absurd (Contains-nil p c)
   firsts_in kind all (one ∷ later) p c = ⊎_elim
-      (λ (d : Contains (pairs_from one (seconds_of kind all later)) p). let r = from_map (λ (n : ℕ). (one, n)) (seconds_of kind all later) p d in Contains-here one later p.0 (ap (λ (q : ℕ × ℕ). q.0) r.2))
+      (λ (d : Contains (pairs_with one (seconds_of kind all later)) p). let r = from_map (λ (n : ℕ). (one, n)) (seconds_of kind all later) p d in Contains-here one later p.0 (ap (λ (q : ℕ × ℕ). q.0) r.2))
       (λ (d : Contains (pairs_of kind all later) p). Contains-cons one later p.0 (firsts_in kind all later p d))
-      (Contains-append_cases (pairs_from one (seconds_of kind all later)) (pairs_of kind all later) p c)
+      (Contains-append_cases (pairs_with one (seconds_of kind all later)) (pairs_of kind all later) p c)
 
   pairs_rise : (kind : Kind) (all rest : List ℕ) → AllPairs Less_texts all → AllPairs Less_texts rest → AllPairs Less_pairs (pairs_of kind all rest)
   pairs_rise kind all [] ra rr = pairs_nil Less_pairs
   pairs_rise kind all (one ∷ later) ra rr =
       let rl = pairs_tail Less_texts one later rr in
       let seconds = seconds_of kind all later in
-      pairs_append Less_pairs (pairs_from one seconds) (pairs_of kind all later) (row_rises one seconds (seconds_rise kind all later ra rl)) (pairs_rise kind all later ra rl)
+      pairs_append Less_pairs (pairs_with one seconds) (pairs_of kind all later) (row_rises one seconds (seconds_rise kind all later ra rl)) (pairs_rise kind all later ra rl)
       (λ p q c d.
       let r = from_map (λ (n : ℕ). (one, n)) seconds p c in
       let l = head_before Less_texts one later q.0 rr (firsts_in kind all later q d) in
@@ -77,17 +77,17 @@ module _ {X : Type 0} (cmp : X → X → Ordering) (total : IsTotalOrder cmp) (t
     every_to : (rest : List ℕ) (m n : ℕ) → Contains (pairs_of kind all rest) (m, n) → Contains rest m × Contains all n
     every_to [] m n c = absurd (Contains-nil (m, n) c)
     every_to (one ∷ later) m n c = ⊎_elim
-        (λ (d : Contains (pairs_from one (seconds_of kind all later)) (m, n)).
+        (λ (d : Contains (pairs_with one (seconds_of kind all later)) (m, n)).
         let r = from_map (λ (k : ℕ). (one, k)) (seconds_of kind all later) (m, n) d in
         (Contains-here one later m (ap (λ (q : ℕ × ℕ). q.0) r.2), subst (λ l. Contains l n) (every later) (subst (Contains (seconds_of kind all later)) (ap (λ (q : ℕ × ℕ). q.1) r.2) r.1)))
         (λ (d : Contains (pairs_of kind all later) (m, n)). let h = every_to later m n d in (Contains-cons one later m h.0, h.1))
-        (Contains-append_cases (pairs_from one (seconds_of kind all later)) (pairs_of kind all later) (m, n) c)
+        (Contains-append_cases (pairs_with one (seconds_of kind all later)) (pairs_of kind all later) (m, n) c)
 
     every_from : (rest : List ℕ) (m n : ℕ) → Contains rest m → Contains all n → Contains (pairs_of kind all rest) (m, n)
     every_from [] m n cm cn = absurd (Contains-nil m cm)
     every_from (one ∷ later) m n cm cn = ⊎_elim
-        (λ (e : one ≡ m). Contains-append_left (pairs_from one (seconds_of kind all later)) (pairs_of kind all later) (m, n) (Contains-map (λ (k : ℕ). (one, k)) (seconds_of kind all later) n (m, n) (subst (λ l. Contains l n) (sym (every later)) cn) (ap (λ (k : ℕ). (k, n)) e)))
-        (λ (d : Contains later m). Contains-append_right (pairs_from one (seconds_of kind all later)) (pairs_of kind all later) (m, n) (every_from later m n d cn))
+        (λ (e : one ≡ m). Contains-append_left (pairs_with one (seconds_of kind all later)) (pairs_of kind all later) (m, n) (Contains-map (λ (k : ℕ). (one, k)) (seconds_of kind all later) n (m, n) (subst (λ l. Contains l n) (sym (every later)) cn) (ap (λ (k : ℕ). (k, n)) e)))
+        (λ (d : Contains later m). Contains-append_right (pairs_with one (seconds_of kind all later)) (pairs_of kind all later) (m, n) (every_from later m n d cn))
         (cons_cases one later m cm)
 
   -- each pair of the rest once
@@ -95,24 +95,24 @@ module _ {X : Type 0} (cmp : X → X → Ordering) (total : IsTotalOrder cmp) (t
     once_to : (rest : List ℕ) → AllPairs Less_texts rest → (m n : ℕ) → Contains (pairs_of Exclusive all rest) (m, n) → Contains rest m × Contains rest n × Less_texts m n
     once_to [] rr m n c = absurd (Contains-nil (m, n) c)
     once_to (one ∷ later) rr m n c = ⊎_elim
-        (λ (d : Contains (pairs_from one later) (m, n)).
+        (λ (d : Contains (pairs_with one later) (m, n)).
         let r = from_map (λ (k : ℕ). (one, k)) later (m, n) d in
         let first : one ≡ m = ap (λ (q : ℕ × ℕ). q.0) r.2 in
         let second : Contains later n = subst (Contains later) (ap (λ (q : ℕ × ℕ). q.1) r.2) r.1 in
         (Contains-here one later m first, Contains-cons one later n second, subst (λ (k : ℕ). Less_texts k n) first (head_before Less_texts one later n rr second)))
         (λ (d : Contains (pairs_of Exclusive all later) (m, n)). let h = once_to later (pairs_tail Less_texts one later rr) m n d in (Contains-cons one later m h.0, Contains-cons one later n h.1, h.2))
-        (Contains-append_cases (pairs_from one later) (pairs_of Exclusive all later) (m, n) c)
+        (Contains-append_cases (pairs_with one later) (pairs_of Exclusive all later) (m, n) c)
 
     once_from : (rest : List ℕ) → AllPairs Less_texts rest → (m n : ℕ) → Contains rest m → Contains rest n → Less_texts m n → Contains (pairs_of Exclusive all rest) (m, n)
     once_from [] rr m n cm cn l = absurd (Contains-nil m cm)
     once_from (one ∷ later) rr m n cm cn l = ⊎_elim
         (λ (em : one ≡ m). ⊎_elim
         (λ (en : one ≡ n). absurd (not_itself m (subst (λ (k : ℕ). Less_texts m k) (sym en ∙ em) l)))
-        (λ (dn : Contains later n). Contains-append_left (pairs_from one later) (pairs_of Exclusive all later) (m, n) (Contains-map (λ (k : ℕ). (one, k)) later n (m, n) dn (ap (λ (k : ℕ). (k, n)) em)))
+        (λ (dn : Contains later n). Contains-append_left (pairs_with one later) (pairs_of Exclusive all later) (m, n) (Contains-map (λ (k : ℕ). (one, k)) later n (m, n) dn (ap (λ (k : ℕ). (k, n)) em)))
         (cons_cases one later n cn))
         (λ (dm : Contains later m). ⊎_elim
         (λ (en : one ≡ n). absurd (not_both m n l (subst (λ (k : ℕ). Less_texts k m) en (head_before Less_texts one later m rr dm))))
-        (λ (dn : Contains later n). Contains-append_right (pairs_from one later) (pairs_of Exclusive all later) (m, n) (once_from later (pairs_tail Less_texts one later rr) m n dm dn l))
+        (λ (dn : Contains later n). Contains-append_right (pairs_with one later) (pairs_of Exclusive all later) (m, n) (once_from later (pairs_tail Less_texts one later rr) m n dm dn l))
         (cons_cases one later n cn))
         (cons_cases one later m cm)
 

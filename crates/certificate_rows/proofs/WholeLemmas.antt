@@ -28,7 +28,7 @@ use Rattle.trace_types.specs.Segments.{SegmentName}
 use Rattle.trace_types.specs.Surviving.{IsRefuted}
 use Rattle.certificate_rows.specs.declared.kind.Kind.{Kind}
 use Rattle.certificate_rows.specs.declared.kind.Kind.TheVariants.{Before, Exclusive, Pipe}
-use Rattle.certificate_rows.specs.inner.Numbered.{kind_count, kind_rows, name_at, task_at}
+use Rattle.certificate_rows.specs.inner.Numbered.{kind_count, kind_rows, numbered_name, numbered_task}
 use Rattle.certificate_rows.specs.inner.Orders.{name_number_cmp, task_number_cmp}
 use Rattle.certificate_rows.specs.inner.Pairs.{pairs_of, refuted_pairs, refuter_between}
 use Rattle.certificate_rows.specs.inner.Sources.{HasRefuters}
@@ -67,15 +67,15 @@ module _ (known : Known) (laws : AreLaws known) (b : BookState) (table : Finding
     (names tasks : List ℕ) (ns : ListsExactly (name_number_cmp known) (λ n. n < length known.names) names) (ts : ListsExactly (task_number_cmp known) (λ n. n < length known.tasks) tasks)
     (refuted : Refutations) (are : AreRefutations kept refuted) (one_name : AreListedInOneWay (SegmentName × SegmentName)) (one_task : AreListedInOneWay (List ℕ × List ℕ)) where
   -- ---- names
-  name_within : (n : ℕ) (x : SegmentName) → slice_get known.names n ≡ Some x → Contains names n × (name_at known n ≡ x)
+  name_within : (n : ℕ) (x : SegmentName) → slice_get known.names n ≡ Some x → Contains names n × (numbered_name known n ≡ x)
   name_within n x at = ((ns.exactly n).1 (slice_get_within known.names n x at), get_or_from_slice_get known.names n x ([], [], []) at)
 
-  before_listed : map (texts_of name_cmp name_total (name_at known)) (refuted_pairs table Before (pairs_of Before names names)) ≡ refuted.before
+  before_listed : map (texts_of name_cmp name_total (numbered_name known)) (refuted_pairs table Before (pairs_of Before names names)) ≡ refuted.before
   before_listed =
       let told = refuted_told known laws b table has kept shown Before known.names ([], [], []) matter.Before refl (λ m n. refl) (λ x y m n. ((λ h. h), (λ h. h))) (λ x y m n. refl) in
       let found = refuted_found known laws b table has kept shown Before known.names ([], [], []) matter.Before refl (λ m n. refl) (λ x y m n. ((λ h. h), (λ h. h))) (λ x y m n. refl) in
       one_way (pair_cmp name_cmp) (λ pair. IsRefuted (RefutesMatter (matter.Before pair.0 pair.1)) kept) one_name (pair_total name_cmp name_total) _ refuted.before
-      (pairs_listed name_cmp name_total (name_at known) Before names (λ p. is_some (refuter_between table Before p.0 p.1)) (λ pair. IsRefuted (RefutesMatter (matter.Before pair.0 pair.1)) kept) ns.rising
+      (pairs_listed name_cmp name_total (numbered_name known) Before names (λ p. is_some (refuter_between table Before p.0 p.1)) (λ pair. IsRefuted (RefutesMatter (matter.Before pair.0 pair.1)) kept) ns.rising
       (λ m n asked test. told m n ((ns.exactly m).0 asked.0) ((ns.exactly n).0 asked.1) test)
       (λ x r.
       let f = found x.0 x.1 r in
@@ -84,32 +84,32 @@ module _ (known : Known) (laws : AreLaws known) (b : BookState) (table : Finding
       (f.0, f.1, (one.0, other.0), f.4, one.1, other.1)))
       are.before
 
-  exclusive_listed : map (texts_of name_cmp name_total (name_at known)) (refuted_pairs table Exclusive (pairs_of Exclusive names names)) ≡ refuted.exclusive
+  exclusive_listed : map (texts_of name_cmp name_total (numbered_name known)) (refuted_pairs table Exclusive (pairs_of Exclusive names names)) ≡ refuted.exclusive
   exclusive_listed =
       let told = refuted_told known laws b table has kept shown Exclusive known.names ([], [], []) matter.Exclusive refl (λ m n. refl) (λ x y m n. ((λ h. h), (λ h. h))) (λ x y m n. refl) in
       let found = refuted_found known laws b table has kept shown Exclusive known.names ([], [], []) matter.Exclusive refl (λ m n. refl) (λ x y m n. ((λ h. h), (λ h. h))) (λ x y m n. refl) in
       let P : SegmentName × SegmentName → Type 0 = λ pair. (name_cmp pair.0 pair.1 ≡ Less) × IsRefuted (RefutesMatter (matter.Exclusive pair.0 pair.1)) kept in
       one_way (pair_cmp name_cmp) P one_name (pair_total name_cmp name_total) _ refuted.exclusive
-      (pairs_listed name_cmp name_total (name_at known) Exclusive names (λ p. is_some (refuter_between table Exclusive p.0 p.1)) P ns.rising
+      (pairs_listed name_cmp name_total (numbered_name known) Exclusive names (λ p. is_some (refuter_between table Exclusive p.0 p.1)) P ns.rising
       (λ m n asked test. (asked.2, told m n ((ns.exactly m).0 asked.0) ((ns.exactly n).0 asked.1) test))
       (λ x r.
       let f = found x.0 x.1 r.1 in
       let one = name_within f.0 x.0 f.2 in
       let other = name_within f.1 x.1 f.3 in
-      let rises : name_cmp (name_at known f.0) (name_at known f.1) ≡ Less = rw (one.1, other.1) r.0 in
+      let rises : name_cmp (numbered_name known f.0) (numbered_name known f.1) ≡ Less = rw (one.1, other.1) r.0 in
       (f.0, f.1, (one.0, other.0, rises), f.4, one.1, other.1)))
       are.exclusive
 
   -- ---- tasks
-  task_within : (n : ℕ) (x : List ℕ) → slice_get known.tasks n ≡ Some x → Contains tasks n × (task_at known n ≡ x)
+  task_within : (n : ℕ) (x : List ℕ) → slice_get known.tasks n ≡ Some x → Contains tasks n × (numbered_task known n ≡ x)
   task_within n x at = ((ts.exactly n).1 (slice_get_within known.tasks n x at), get_or_from_slice_get known.tasks n x [] at)
 
-  pipe_listed : map (texts_of (slice_cmp nat_cmp) text_total (task_at known)) (refuted_pairs table Pipe (pairs_of Pipe tasks tasks)) ≡ refuted.pipe
+  pipe_listed : map (texts_of (slice_cmp nat_cmp) text_total (numbered_task known)) (refuted_pairs table Pipe (pairs_of Pipe tasks tasks)) ≡ refuted.pipe
   pipe_listed =
       let told = refuted_told known laws b table has kept shown Pipe known.tasks [] matter.Pipe refl (λ m n. refl) (λ x y m n. ((λ h. h), (λ h. h))) (λ x y m n. refl) in
       let found = refuted_found known laws b table has kept shown Pipe known.tasks [] matter.Pipe refl (λ m n. refl) (λ x y m n. ((λ h. h), (λ h. h))) (λ x y m n. refl) in
       one_way (pair_cmp (slice_cmp nat_cmp)) (λ pair. IsRefuted (RefutesMatter (matter.Pipe pair.0 pair.1)) kept) one_task (pair_total (slice_cmp nat_cmp) text_total) _ refuted.pipe
-      (pairs_listed (slice_cmp nat_cmp) text_total (task_at known) Pipe tasks (λ p. is_some (refuter_between table Pipe p.0 p.1)) (λ pair. IsRefuted (RefutesMatter (matter.Pipe pair.0 pair.1)) kept) ts.rising
+      (pairs_listed (slice_cmp nat_cmp) text_total (numbered_task known) Pipe tasks (λ p. is_some (refuter_between table Pipe p.0 p.1)) (λ pair. IsRefuted (RefutesMatter (matter.Pipe pair.0 pair.1)) kept) ts.rising
       (λ m n asked test. told m n ((ts.exactly m).0 asked.0) ((ts.exactly n).0 asked.1) test)
       (λ x r.
       let f = found x.0 x.1 r in
@@ -121,9 +121,9 @@ module _ (known : Known) (laws : AreLaws known) (b : BookState) (table : Finding
   -- ---- how many there are
   counted : refuted_count table names tasks ≡ length (matters_of refuted)
   counted =
-      let before : kind_count table Before names ≡ length refuted.before = sym (length-map (refuted_pairs table Before (pairs_of Before names names)) (texts_of name_cmp name_total (name_at known))) ∙ ap length before_listed in
-      let exclusive : kind_count table Exclusive names ≡ length refuted.exclusive = sym (length-map (refuted_pairs table Exclusive (pairs_of Exclusive names names)) (texts_of name_cmp name_total (name_at known))) ∙ ap length exclusive_listed in
-      let pipe : kind_count table Pipe tasks ≡ length refuted.pipe = sym (length-map (refuted_pairs table Pipe (pairs_of Pipe tasks tasks)) (texts_of (slice_cmp nat_cmp) text_total (task_at known))) ∙ ap length pipe_listed in
+      let before : kind_count table Before names ≡ length refuted.before = sym (length-map (refuted_pairs table Before (pairs_of Before names names)) (texts_of name_cmp name_total (numbered_name known))) ∙ ap length before_listed in
+      let exclusive : kind_count table Exclusive names ≡ length refuted.exclusive = sym (length-map (refuted_pairs table Exclusive (pairs_of Exclusive names names)) (texts_of name_cmp name_total (numbered_name known))) ∙ ap length exclusive_listed in
+      let pipe : kind_count table Pipe tasks ≡ length refuted.pipe = sym (length-map (refuted_pairs table Pipe (pairs_of Pipe tasks tasks)) (texts_of (slice_cmp nat_cmp) text_total (numbered_task known))) ∙ ap length pipe_listed in
       let first : List Matter = map (λ pair. matter.Before pair.0 pair.1) refuted.before in
       let second : List Matter = map (λ pair. matter.Exclusive pair.0 pair.1) refuted.exclusive in
       let third : List Matter = map (λ pair. matter.Pipe pair.0 pair.1) refuted.pipe in
@@ -137,30 +137,30 @@ module _ (known : Known) (laws : AreLaws known) (b : BookState) (table : Finding
   -- ---- the rows
   before_told : AreTexts IsPart (map (RefutedOf kept) (map (λ pair. matter.Before pair.0 pair.1) refuted.before)) (kind_rows known b.days table Before names)
   before_told =
-      let texts = texts_of name_cmp name_total (name_at known) in
+      let texts = texts_of name_cmp name_total (numbered_name known) in
       let pairs = refuted_pairs table Before (pairs_of Before names names) in
-      let same : map (λ (p : ℕ × ℕ). matter.Before (name_at known p.0) (name_at known p.1)) pairs ≡ map (λ pair. matter.Before pair.0 pair.1) refuted.before = sym (map_twice (λ (pair : SegmentName × SegmentName). matter.Before pair.0 pair.1) texts pairs) ∙ ap (map (λ (pair : SegmentName × SegmentName). matter.Before pair.0 pair.1)) before_listed in
+      let same : map (λ (p : ℕ × ℕ). matter.Before (numbered_name known p.0) (numbered_name known p.1)) pairs ≡ map (λ pair. matter.Before pair.0 pair.1) refuted.before = sym (map_twice (λ (pair : SegmentName × SegmentName). matter.Before pair.0 pair.1) texts pairs) ∙ ap (map (λ (pair : SegmentName × SegmentName). matter.Before pair.0 pair.1)) before_listed in
       subst (λ ms. AreTexts IsPart (map (RefutedOf kept) ms) (kind_rows known b.days table Before names)) same
       (rows_told known laws b table has kept shown Before known.names ([], [], []) matter.Before refl (λ m n. refl) (λ x y m n. ((λ h. h), (λ h. h))) (λ x y m n. refl) (pairs_of Before names names)
-      (asked_all name_cmp name_total (name_at known) Before names (λ n. n < length known.names) ns.rising (λ n c. (ns.exactly n).0 c) (λ m n h. h)))
+      (asked_all name_cmp name_total (numbered_name known) Before names (λ n. n < length known.names) ns.rising (λ n c. (ns.exactly n).0 c) (λ m n h. h)))
 
   exclusive_told : AreTexts IsPart (map (RefutedOf kept) (map (λ pair. matter.Exclusive pair.0 pair.1) refuted.exclusive)) (kind_rows known b.days table Exclusive names)
   exclusive_told =
-      let texts = texts_of name_cmp name_total (name_at known) in
+      let texts = texts_of name_cmp name_total (numbered_name known) in
       let pairs = refuted_pairs table Exclusive (pairs_of Exclusive names names) in
-      let same : map (λ (p : ℕ × ℕ). matter.Exclusive (name_at known p.0) (name_at known p.1)) pairs ≡ map (λ pair. matter.Exclusive pair.0 pair.1) refuted.exclusive = sym (map_twice (λ (pair : SegmentName × SegmentName). matter.Exclusive pair.0 pair.1) texts pairs) ∙ ap (map (λ (pair : SegmentName × SegmentName). matter.Exclusive pair.0 pair.1)) exclusive_listed in
+      let same : map (λ (p : ℕ × ℕ). matter.Exclusive (numbered_name known p.0) (numbered_name known p.1)) pairs ≡ map (λ pair. matter.Exclusive pair.0 pair.1) refuted.exclusive = sym (map_twice (λ (pair : SegmentName × SegmentName). matter.Exclusive pair.0 pair.1) texts pairs) ∙ ap (map (λ (pair : SegmentName × SegmentName). matter.Exclusive pair.0 pair.1)) exclusive_listed in
       subst (λ ms. AreTexts IsPart (map (RefutedOf kept) ms) (kind_rows known b.days table Exclusive names)) same
       (rows_told known laws b table has kept shown Exclusive known.names ([], [], []) matter.Exclusive refl (λ m n. refl) (λ x y m n. ((λ h. h), (λ h. h))) (λ x y m n. refl) (pairs_of Exclusive names names)
-      (asked_all name_cmp name_total (name_at known) Exclusive names (λ n. n < length known.names) ns.rising (λ n c. (ns.exactly n).0 c) (λ m n h. (h.0, h.1))))
+      (asked_all name_cmp name_total (numbered_name known) Exclusive names (λ n. n < length known.names) ns.rising (λ n c. (ns.exactly n).0 c) (λ m n h. (h.0, h.1))))
 
   pipe_told : AreTexts IsPart (map (RefutedOf kept) (map (λ pair. matter.Pipe pair.0 pair.1) refuted.pipe)) (kind_rows known b.days table Pipe tasks)
   pipe_told =
-      let texts = texts_of (slice_cmp nat_cmp) text_total (task_at known) in
+      let texts = texts_of (slice_cmp nat_cmp) text_total (numbered_task known) in
       let pairs = refuted_pairs table Pipe (pairs_of Pipe tasks tasks) in
-      let same : map (λ (p : ℕ × ℕ). matter.Pipe (task_at known p.0) (task_at known p.1)) pairs ≡ map (λ pair. matter.Pipe pair.0 pair.1) refuted.pipe = sym (map_twice (λ (pair : List ℕ × List ℕ). matter.Pipe pair.0 pair.1) texts pairs) ∙ ap (map (λ (pair : List ℕ × List ℕ). matter.Pipe pair.0 pair.1)) pipe_listed in
+      let same : map (λ (p : ℕ × ℕ). matter.Pipe (numbered_task known p.0) (numbered_task known p.1)) pairs ≡ map (λ pair. matter.Pipe pair.0 pair.1) refuted.pipe = sym (map_twice (λ (pair : List ℕ × List ℕ). matter.Pipe pair.0 pair.1) texts pairs) ∙ ap (map (λ (pair : List ℕ × List ℕ). matter.Pipe pair.0 pair.1)) pipe_listed in
       subst (λ ms. AreTexts IsPart (map (RefutedOf kept) ms) (kind_rows known b.days table Pipe tasks)) same
       (rows_told known laws b table has kept shown Pipe known.tasks [] matter.Pipe refl (λ m n. refl) (λ x y m n. ((λ h. h), (λ h. h))) (λ x y m n. refl) (pairs_of Pipe tasks tasks)
-      (asked_all (slice_cmp nat_cmp) text_total (task_at known) Pipe tasks (λ n. n < length known.tasks) ts.rising (λ n c. (ts.exactly n).0 c) (λ m n h. h)))
+      (asked_all (slice_cmp nat_cmp) text_total (numbered_task known) Pipe tasks (λ n. n < length known.tasks) ts.rising (λ n c. (ts.exactly n).0 c) (λ m n h. h)))
 
   -- ---- the whole
   pub whole_told : AreTexts IsPart (why_parts kept refuted) (certificate_text known b.days table names tasks)

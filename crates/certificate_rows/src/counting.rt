@@ -1,6 +1,6 @@
 ghost use Rattle.std.specs.Prelude.{◌≡◌, ◌<◌, ◌≤◌, All, length};
 ghost use Rattle.certificate_rows.specs.inner.Numbered.{kind_count};
-ghost use Rattle.certificate_rows.specs.inner.Pairs.{pairs_from, refuted_pairs};
+ghost use Rattle.certificate_rows.specs.inner.Pairs.{pairs_with, refuted_pairs};
 ghost use Rattle.certificate_rows.specs.inner.Sources.{IsSource, count_of};
 
 use crate::kind::Kind;
@@ -13,7 +13,7 @@ fn count_from(source: &Source<'_>, kind: Kind, one: u32, others: &[u32]) -> u64
     requires others { All (λ n. n < count_of source.now.catalogue.now kind) others.now }
     requires few { length others.now ≤ 512 }
     ensures counted { result ≡ length (refuted_pairs source.now.refuters.now kind
-        (pairs_from one others.now)) }
+        (pairs_with one others.now)) }
     ensures few { result ≤ 512 }
 {
     let mut count = 0;

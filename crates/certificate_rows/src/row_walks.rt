@@ -1,7 +1,7 @@
 ghost use Rattle.std.specs.Prelude.{◌<◌, All};
 ghost use Rattle.std.specs.List.{flat_map};
-ghost use Rattle.certificate_rows.specs.inner.Numbered.{kind_rows, pair_row};
-ghost use Rattle.certificate_rows.specs.inner.Pairs.{pairs_from};
+ghost use Rattle.certificate_rows.specs.inner.Numbered.{kind_rows, row_of_pair};
+ghost use Rattle.certificate_rows.specs.inner.Pairs.{pairs_with};
 ghost use Rattle.certificate_rows.specs.inner.Sources.{IsSource, count_of};
 ghost use Rattle.text_rows.specs.Printing.{PrintsText};
 
@@ -25,7 +25,7 @@ fn print_pair<S: Sink>(
     requires one { one < count_of source.now.catalogue.now kind }
     requires other { other < count_of source.now.catalogue.now kind }
     ensures { PrintsText S.written S.faults result sink.old sink.new buffer.old buffer.new
-        (pair_row source.now.catalogue.now source.now.book.now.days source.now.refuters.now kind
+        (row_of_pair source.now.catalogue.now source.now.book.now.days source.now.refuters.now kind
         (one, other)) }
 {
     texts_follow();
@@ -52,8 +52,8 @@ fn print_from<S: Sink>(
     requires one { one < count_of source.now.catalogue.now kind }
     requires others { All (λ n. n < count_of source.now.catalogue.now kind) others.now }
     ensures { PrintsText S.written S.faults result sink.old sink.new buffer.old buffer.new
-        (flat_map (pair_row source.now.catalogue.now source.now.book.now.days
-        source.now.refuters.now kind) (pairs_from one others.now)) }
+        (flat_map (row_of_pair source.now.catalogue.now source.now.book.now.days
+        source.now.refuters.now kind) (pairs_with one others.now)) }
 {
     texts_follow();
     calls_follow::<S>();

@@ -1,4 +1,3 @@
 pub mod ClaimLemmas
-pub mod CuttingLemmas
 pub mod FieldLemmas
 pub mod TextLemmas

@@ -5,8 +5,8 @@ use Rattle.event_lines.specs.Cut.{input_lines}
 use Rattle.event_lines.specs.InputLines.{numbered_lines, all_or_first_error}
 use Rattle.certificates.specs.Claims.{claim_said, is_header}
 use Rattle.certificates.specs.declared.claim.Claim.{Claim}
-use Rattle.certificates.specs.declared.certificate_error.CertificateError.{CertificateError}
-use Rattle.certificates.specs.declared.certificate_error.CertificateError.TheVariants.{Memory, Bad}
+use Rattle.certificates.specs.declared.cert_fault.CertFault.{CertFault}
+use Rattle.certificates.specs.declared.cert_fault.CertFault.TheVariants.{Memory, Bad}
 
 -- the claim of a numbered line, or the number of the line
 abbrev pub numbered_claim : ℕ × List ℕ → Result Claim ℕ
@@ -29,10 +29,10 @@ abbrev pub certificate_said : List ℕ → Result (List Claim) ℕ
 certificate_said bytes = certificate_of_lines (numbered_lines 1 (input_lines bytes))
 
 -- the error is that of a call that is out of memory
-abbrev pub IsOutOfMemory : CertificateError → Type 0
+abbrev pub IsOutOfMemory : CertFault → Type 0
 IsOutOfMemory e = e ≡ Memory
 
 -- why a certificate was not read: out of memory, or its first line outside the form
-abbrev pub IsCertificateError : Result (List Claim) ℕ → CertificateError → Type 0
-IsCertificateError said Memory = ⊤
-IsCertificateError said (Bad line) = said ≡ Err line
+abbrev pub IsCertFault : Result (List Claim) ℕ → CertFault → Type 0
+IsCertFault said Memory = ⊤
+IsCertFault said (Bad line) = said ≡ Err line

@@ -32,4 +32,11 @@ impl ClaimList {
     {
         &self.items
     }
+
+    /// Gives the claims, in order. Takes no memory.
+    pub fn into_items(self) -> Vec<Claim>
+        ensures { result.items ≡ self }
+    {
+        self.items
+    }
 }

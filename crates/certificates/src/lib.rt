@@ -2,21 +2,20 @@
 //! that they make.
 #![tactic(auto)]
 
-mod certificate_error;
+mod cert_fault;
 mod claim;
 mod claim_lines;
 mod claim_list;
 mod fields;
 mod headers;
 mod matter;
-mod numbered_lines;
 mod reading;
 #[cfg(test)]
 mod tests;
 mod texts;
 mod trace_place;
 
-pub use certificate_error::CertificateError;
+pub use cert_fault::CertFault;
 pub use claim::Claim;
 pub use claim_list::ClaimList;
 pub use matter::Matter;

@@ -1,4 +1,4 @@
-use crate::{CertificateError, Claim, Matter, read_certificate};
+use crate::{CertFault, Claim, Matter, read_certificate};
 use std::alloc::Global;
 use std::test::Fail;
 use trace_types::{NameText, Text};
@@ -17,8 +17,8 @@ fn bad_line_of(alloc: Global, bytes: &[u8]) -> Option<u32> {
         return None;
     }
     match read_certificate(alloc, bytes).err()? {
-        CertificateError::Memory => None,
-        CertificateError::Bad { line } => Some(line),
+        CertFault::Memory => None,
+        CertFault::Bad { line } => Some(line),
     }
 }
 

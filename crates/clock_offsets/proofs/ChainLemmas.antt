@@ -5,12 +5,13 @@ use Rattle.std.proofs.lemmas.Bool.{cases_lt, cases_eq, false≢true}
 use Rattle.std.proofs.lemmas.List.{get_or-map, get_or_default, get_or_append_left, get_or_push, length_push, length-set, get_or-set_same, get_or-set_other, map-append, reverse-append}
 use Rattle.std.proofs.lemmas.Slice.Eq.{bytes_eq-Decides}
 use Rattle.clock_offsets.specs.declared.message_entry.MessageEntry.{MessageEntry}
-use Rattle.clock_offsets.specs.inner.MessagePlaces.{is_of, place_in, places_with}
-use Rattle.clock_offsets.specs.inner.Digests.{digest_of, chain_of}
+use Rattle.clock_offsets.specs.inner.MessagePlaces.{is_of_message, message_place_in, message_places_with}
+use Rattle.event_table.specs.Digests.{digest_of}
+use Rattle.clock_offsets.specs.inner.Digests.{chain_of}
 use Rattle.clock_offsets.specs.inner.Chains.{message_place, newest_first, chain_at, older_at, IsTop, IsChained, AreDigested}
 
 -- an entry whose digest is another's is not of the message
-pub other_digest : (d : ℕ) (t : List ℕ) (x : MessageEntry) → d ≡ digest_of t → x.digest ≡ digest_of x.message.now → (x.digest ≡ d → ⊥) → (b : Bool) → is_of t (message_place x) ≡ b → is_of t (message_place x) ≡ false
+pub other_digest : (d : ℕ) (t : List ℕ) (x : MessageEntry) → d ≡ digest_of t → x.digest ≡ digest_of x.message.now → (x.digest ≡ d → ⊥) → (b : Bool) → is_of_message t (message_place x) ≡ b → is_of_message t (message_place x) ≡ false
 other_digest d t x is own other true e =
     let same : digest_of x.message.now ≡ digest_of t = ap digest_of ((bytes_eq-Decides x.message.now t).0 e) in
     absurd (other (own ∙ (same ∙ sym is)))
@@ -22,17 +23,17 @@ newest_more es x = ap reverse (map-append message_place es (x ∷ [])) ∙ rever
 
 -- what the oldest n entries have for a message
 abbrev pub place_to : List MessageEntry → ℕ → List ℕ → Option ℕ
-place_to es n t = place_in (newest_first (take n es)) t
+place_to es n t = message_place_in (newest_first (take n es)) t
 
 -- one entry more
-pub place_more : (es : List MessageEntry) (n : ℕ) (x : MessageEntry) (t : List ℕ) → n < length es → x ≡ get_or es n x → place_to es (suc n) t ≡ cond (is_of t (message_place x)) (Some x.place) (place_to es n t)
+pub place_more : (es : List MessageEntry) (n : ℕ) (x : MessageEntry) (t : List ℕ) → n < length es → x ≡ get_or es n x → place_to es (suc n) t ≡ cond (is_of_message t (message_place x)) (Some x.place) (place_to es n t)
 place_more es n x t lt is =
-    ap (λ l. place_in (newest_first l) t) (take-suc es n x lt)
-    ∙ (ap (λ y. place_in (newest_first (take n es ++ y ∷ [])) t) (sym is)
-    ∙ ap (λ l. place_in l t) (newest_more (take n es) x))
+    ap (λ l. message_place_in (newest_first l) t) (take-suc es n x lt)
+    ∙ (ap (λ y. message_place_in (newest_first (take n es ++ y ∷ [])) t) (sym is)
+    ∙ ap (λ l. message_place_in l t) (newest_more (take n es) x))
 
 -- entries of other messages add nothing
-skipped : (d : MessageEntry) (es : List MessageEntry) (n m : ℕ) (t : List ℕ) → m ≤ n → n ≤ length es → ((i : ℕ) (x : MessageEntry) → m ≤ i → i < n → x ≡ get_or es i x → is_of t (message_place x) ≡ false) → place_to es n t ≡ place_to es m t
+skipped : (d : MessageEntry) (es : List MessageEntry) (n m : ℕ) (t : List ℕ) → m ≤ n → n ≤ length es → ((i : ℕ) (x : MessageEntry) → m ≤ i → i < n → x ≡ get_or es i x → is_of_message t (message_place x) ≡ false) → place_to es n t ≡ place_to es m t
 skipped d es zero m t le within none = let same : 0 ≡ m = omega arith in ap (λ k. place_to es k t) same
 skipped d es (suc n) m t le within none = ⊎_elim
     (λ (below : n < m). let same : suc n ≡ m = omega arith in ap (λ k. place_to es k t) same)
@@ -45,7 +46,7 @@ skipped d es (suc n) m t le within none = ⊎_elim
     ∙ skipped d es n m t above (omega arith) (λ i y l h e. none i y l (omega arith) e)))
     (cases_lt n m)
 
-pub skip : (es : List MessageEntry) (n m : ℕ) (t : List ℕ) → m ≤ n → n ≤ length es → ((i : ℕ) (x : MessageEntry) → m ≤ i → i < n → x ≡ get_or es i x → is_of t (message_place x) ≡ false) → place_to es n t ≡ place_to es m t
+pub skip : (es : List MessageEntry) (n m : ℕ) (t : List ℕ) → m ≤ n → n ≤ length es → ((i : ℕ) (x : MessageEntry) → m ≤ i → i < n → x ≡ get_or es i x → is_of_message t (message_place x) ≡ false) → place_to es n t ≡ place_to es m t
 skip [] n m t le within none = let same : n ≡ m = omega arith in ap (λ k. place_to [] k t) same
 skip (e ∷ es) n m t le within none = skipped e (e ∷ es) n m t le within none
 
@@ -57,14 +58,14 @@ older_is : (es : List MessageEntry) (i : ℕ) (x : MessageEntry) → i < length 
 older_is es i x lt is = get_or-map (λ (e : MessageEntry). e.older) es i x 0 lt ∙ ap (λ (e : MessageEntry). e.older) (sym is)
 
 -- an entry of another chain is not of the message
-off_chain : (chains : List ℕ) (es : List MessageEntry) (d : ℕ) (t : List ℕ) (i : ℕ) (x : MessageEntry) → AreDigested es → IsChained chains es → d ≡ digest_of t → i < length es → x ≡ get_or es i x → chain_at (length chains) es i ≢ chain_of (length chains) d → is_of t (message_place x) ≡ false
-off_chain chains es d t i x own table is lt at other = other_digest d t x is (own i x lt at) (λ same. other (chain_is (length chains) es i x lt at ∙ ap (chain_of (length chains)) same)) (is_of t (message_place x)) refl
+off_chain : (chains : List ℕ) (es : List MessageEntry) (d : ℕ) (t : List ℕ) (i : ℕ) (x : MessageEntry) → AreDigested es → IsChained chains es → d ≡ digest_of t → i < length es → x ≡ get_or es i x → chain_at (length chains) es i ≢ chain_of (length chains) d → is_of_message t (message_place x) ≡ false
+off_chain chains es d t i x own table is lt at other = other_digest d t x is (own i x lt at) (λ same. other (chain_is (length chains) es i x lt at ∙ ap (chain_of (length chains)) same)) (is_of_message t (message_place x)) refl
 
 -- the way along the chain of a digest: the entries from next on are not of the message
 pub record IsOnWay (chains : List ℕ) (es : List MessageEntry) (d : ℕ) (t : List ℕ) (next : ℕ) : Type 0 where
   pub within : next ≤ length es
   pub here : (i : ℕ) → i + 1 ≡ next → chain_at (length chains) es i ≡ chain_of (length chains) d
-  pub rest : place_to es next t ≡ place_in (newest_first es) t
+  pub rest : place_to es next t ≡ message_place_in (newest_first es) t
 
 -- it starts at the newest entry
 pub way_start : (chains : List ℕ) (es : List MessageEntry) (d : ℕ) (t : List ℕ) (c : ℕ) → AreDigested es → IsChained chains es → d ≡ digest_of t → c ≡ chain_of (length chains) d → c < length chains → IsOnWay chains es d t (get_or chains c 0)
@@ -74,7 +75,7 @@ way_start chains es d t c own table is e lt =
       within = top.within;
       here = λ i j. top.here i j ∙ e;
       rest = sym (skip es (length es) (get_or chains c 0) t top.within (omega arith) (λ i x le below at. off_chain chains es d t i x own table is below at (λ same. top.newest i le below (same ∙ sym e))))
-          ∙ ap (λ l. place_in (newest_first l) t) (take-length es);
+          ∙ ap (λ l. message_place_in (newest_first l) t) (take-length es);
     }
 
 -- the entry that stands for none
@@ -94,7 +95,7 @@ way_falls chains es n next table e le =
     omega arith
 
 -- it goes on at the next older entry
-pub way_on : (chains : List ℕ) (es : List MessageEntry) (d : ℕ) (t : List ℕ) (next n : ℕ) (x : MessageEntry) → AreDigested es → IsChained chains es → d ≡ digest_of t → n + 1 ≡ next → x ≡ get_or es n x → IsOnWay chains es d t next → is_of t (message_place x) ≡ false → IsOnWay chains es d t x.older
+pub way_on : (chains : List ℕ) (es : List MessageEntry) (d : ℕ) (t : List ℕ) (next n : ℕ) (x : MessageEntry) → AreDigested es → IsChained chains es → d ≡ digest_of t → n + 1 ≡ next → x ≡ get_or es n x → IsOnWay chains es d t next → is_of_message t (message_place x) ≡ false → IsOnWay chains es d t x.older
 way_on chains es d t next n x own table is e at way other =
     let within : next ≤ length es = way.within in
     let lt : n < length es = omega arith in
@@ -111,7 +112,7 @@ way_on chains es d t next n x own table is e at way other =
     }
 
 -- an entry of the message has its place
-pub way_found : (chains : List ℕ) (es : List MessageEntry) (d : ℕ) (t : List ℕ) (next n : ℕ) (x : MessageEntry) → n + 1 ≡ next → x ≡ get_or es n x → IsOnWay chains es d t next → is_of t (message_place x) ≡ true → Some x.place ≡ place_in (newest_first es) t
+pub way_found : (chains : List ℕ) (es : List MessageEntry) (d : ℕ) (t : List ℕ) (next n : ℕ) (x : MessageEntry) → n + 1 ≡ next → x ≡ get_or es n x → IsOnWay chains es d t next → is_of_message t (message_place x) ≡ true → Some x.place ≡ message_place_in (newest_first es) t
 way_found chains es d t next n x e at way here =
     let within : next ≤ length es = way.within in
     let step : place_to es (suc n) t ≡ Some x.place = place_more es n x t (omega arith) at ∙ ap (λ b. cond b (Some x.place) (place_to es n t)) here in
@@ -121,15 +122,15 @@ way_found chains es d t next n x e at way here =
 -- the way through few entries: those from next on are not of the message
 pub record IsOnFewWay (es : List MessageEntry) (t : List ℕ) (next : ℕ) : Type 0 where
   pub within : next ≤ length es
-  pub rest : place_to es next t ≡ place_in (newest_first es) t
+  pub rest : place_to es next t ≡ message_place_in (newest_first es) t
 
 pub few_start : (es : List MessageEntry) (t : List ℕ) (n : ℕ) → n ≡ length es → IsOnFewWay es t n
 few_start es t n all = record {
   within = omega arith;
-  rest = ap (λ k. place_to es k t) all ∙ ap (λ l. place_in (newest_first l) t) (take-length es);
+  rest = ap (λ k. place_to es k t) all ∙ ap (λ l. message_place_in (newest_first l) t) (take-length es);
 }
 
-pub few_on : (es : List MessageEntry) (t : List ℕ) (next n : ℕ) (x : MessageEntry) → n + 1 ≡ next → x ≡ get_or es n x → IsOnFewWay es t next → is_of t (message_place x) ≡ false → IsOnFewWay es t n
+pub few_on : (es : List MessageEntry) (t : List ℕ) (next n : ℕ) (x : MessageEntry) → n + 1 ≡ next → x ≡ get_or es n x → IsOnFewWay es t next → is_of_message t (message_place x) ≡ false → IsOnFewWay es t n
 few_on es t next n x e at way other =
     let within : next ≤ length es = way.within in
     let now : suc n ≡ next = omega arith in
@@ -139,7 +140,7 @@ few_on es t next n x e at way other =
       rest = sym step ∙ (ap (λ k. place_to es k t) now ∙ way.rest);
     }
 
-pub few_found : (es : List MessageEntry) (t : List ℕ) (next n : ℕ) (x : MessageEntry) → n + 1 ≡ next → x ≡ get_or es n x → IsOnFewWay es t next → is_of t (message_place x) ≡ true → Some x.place ≡ place_in (newest_first es) t
+pub few_found : (es : List MessageEntry) (t : List ℕ) (next n : ℕ) (x : MessageEntry) → n + 1 ≡ next → x ≡ get_or es n x → IsOnFewWay es t next → is_of_message t (message_place x) ≡ true → Some x.place ≡ message_place_in (newest_first es) t
 few_found es t next n x e at way here =
     let within : next ≤ length es = way.within in
     let now : suc n ≡ next = omega arith in
@@ -147,14 +148,14 @@ few_found es t next n x e at way here =
     sym step ∙ (ap (λ k. place_to es k t) now ∙ way.rest)
 
 -- a message that has no place gets one
-pub places_added : (es : List MessageEntry) (x : MessageEntry) → place_in (newest_first es) x.message.now ≡ None → newest_first (es ++ x ∷ []) ≡ places_with (newest_first es) x.message.now x.place
+pub places_added : (es : List MessageEntry) (x : MessageEntry) → message_place_in (newest_first es) x.message.now ≡ None → newest_first (es ++ x ∷ []) ≡ message_places_with (newest_first es) x.message.now x.place
 places_added es x none = newest_more es x ∙ sym (ap (λ o. cond (is_some o) (newest_first es) (message_place x ∷ newest_first es)) none)
 
 -- an entry that is added has its place
-pub place_added : (es : List MessageEntry) (x : MessageEntry) → place_in (newest_first (es ++ x ∷ [])) x.message.now ≡ Some x.place
+pub place_added : (es : List MessageEntry) (x : MessageEntry) → message_place_in (newest_first (es ++ x ∷ [])) x.message.now ≡ Some x.place
 place_added es x =
-    ap (λ l. place_in l x.message.now) (newest_more es x)
-    ∙ ap (λ b. cond b (Some x.place) (place_in (newest_first es) x.message.now)) ((bytes_eq-Decides x.message.now x.message.now).1 refl)
+    ap (λ l. message_place_in l x.message.now) (newest_more es x)
+    ∙ ap (λ b. cond b (Some x.place) (message_place_in (newest_first es) x.message.now)) ((bytes_eq-Decides x.message.now x.message.now).1 refl)
 
 -- what is not empty has some
 pub some_unless_empty : (n : ℕ) → eqb n 0 ≡ false → 0 < n

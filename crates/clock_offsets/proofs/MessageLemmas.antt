@@ -1,6 +1,6 @@
 -- The messages that events receive, event by event, and their delays.
 use Rattle.std.proofs.Common.{◌≡◌, ℕ, ◌+◌, ◌<◌, ◌≤◌, ℤ, pos, ◌-ℤ◌, Some, None, List, [], ◌∷◌, length, get_or, arith, sym, subst, ap, ◌∙◌, ⊎_elim, inl, inr, ◌⊎◌}
-use Rattle.clock_offsets.specs.inner.MessagePlaces.{MessagePlace, place_in}
+use Rattle.clock_offsets.specs.inner.MessagePlaces.{MessagePlace, message_place_in}
 use Rattle.std.proofs.lemmas.Bool.{cases_lt}
 use Rattle.std.proofs.lemmas.List.{get_or-map, get_or_default}
 use Rattle.trace_types.specs.declared.event.Event.{Event}
@@ -113,7 +113,7 @@ pub time_is_at : (events : List Event) (k : ℕ) (e : Event) → IsEventAt event
 time_is_at events k e (l, is) = get_or-map (λ (x : Event). x.time) events k e 0 l ∙ ap (λ (x : Event). x.time) is
 
 -- the table has the index of a message's sender
-pub message_found : (events : List Event) (senders : List MessagePlace) (text : List ℕ) (k : ℕ) (s r : Event) → AreIndices (sends_of events) (length events) senders → r.recv ≡ Some text → IsEventAt events k s → IsMessage s r → place_in senders text ≡ Some k
+pub message_found : (events : List Event) (senders : List MessagePlace) (text : List ℕ) (k : ℕ) (s r : Event) → AreIndices (sends_of events) (length events) senders → r.recv ≡ Some text → IsEventAt events k s → IsMessage s r → message_place_in senders text ≡ Some k
 message_found events senders text k s r a receives (l, is) (t, sends, received, apart) =
     let same : Some t ≡ Some text = sym received ∙ receives in
     a.all text k l (get_or-map (λ (x : Event). x.send) events k s None l ∙ (ap (λ (x : Event). x.send) is ∙ (sends ∙ same)))
@@ -123,23 +123,23 @@ pub none_received : (events : List Event) (at : ℕ) (r : Event) → IsEventAt e
 none_received events at r here none k s at_s m = let is : r.recv ≡ None = sym (received_at events at r here) ∙ none in let some : r.recv ≡ Some m.0 = m.2 in cc
 
 -- nor has what the table does not know
-pub none_known : (events : List Event) (senders : List MessagePlace) (text : List ℕ) (at : ℕ) (r : Event) → AreIndices (sends_of events) (length events) senders → IsEventAt events at r → receipt_at events at ≡ Some text → place_in senders text ≡ None → HasNoSender events r
+pub none_known : (events : List Event) (senders : List MessagePlace) (text : List ℕ) (at : ℕ) (r : Event) → AreIndices (sends_of events) (length events) senders → IsEventAt events at r → receipt_at events at ≡ Some text → message_place_in senders text ≡ None → HasNoSender events r
 none_known events senders text at r a here receives none k s at_s m =
-    let found : place_in senders text ≡ Some k = message_found events senders text k s r a (sym (received_at events at r here) ∙ receives) at_s m in
+    let found : message_place_in senders text ≡ Some k = message_found events senders text k s r a (sym (received_at events at r here) ∙ receives) at_s m in
     cc
 
 -- nor has what its own machine sends
 pub none_other : (events : List Event) (numbers : List ℕ) (senders : List MessagePlace) (text : List ℕ) (place at : ℕ) (r : Event) → AreNumbers events numbers → AreIndices (sends_of events) (length events) senders → IsEventAt events at r → receipt_at events at ≡ Some text
-    → place_in senders text ≡ Some place → get_or numbers place 0 ≡ get_or numbers at 0 → HasNoSender events r
+    → message_place_in senders text ≡ Some place → get_or numbers place 0 ≡ get_or numbers at 0 → HasNoSender events r
 none_other events numbers senders text place at r n a here receives found same k s at_s m =
-    let again : place_in senders text ≡ Some k = message_found events senders text k s r a (sym (received_at events at r here) ∙ receives) at_s m in
+    let again : message_place_in senders text ≡ Some k = message_found events senders text k s r a (sym (received_at events at r here) ∙ receives) at_s m in
     let place_is : k ≡ place = cc in
     let numbers_are : get_or numbers k 0 ≡ get_or numbers at 0 = ap (λ i. get_or numbers i 0) place_is ∙ same in
     m.3 (sym (machine_of_at events k s at_s) ∙ (sym (n.same k at_s.0) ∙ (ap (machine_at events) numbers_are ∙ (n.same at here.0 ∙ machine_of_at events at r here))))
 
 -- what another machine sends is received
 pub received_from : (events : List Event) (numbers : List ℕ) (senders : List MessagePlace) (text : List ℕ) (place at : ℕ) (r : Event) (x : Message) → AreNumbers events numbers → AreIndices (sends_of events) (length events) senders → IsEventAt events at r → receipt_at events at ≡ Some text
-    → place_in senders text ≡ Some place → (get_or numbers place 0 ≡ get_or numbers at 0 → ⊥) → x.from ≡ get_or numbers place 0 → x.to ≡ get_or numbers at 0 → x.delay ≡ pos (time_at events at) -ℤ pos (time_at events place) → IsReceived events numbers at r x
+    → message_place_in senders text ≡ Some place → (get_or numbers place 0 ≡ get_or numbers at 0 → ⊥) → x.from ≡ get_or numbers place 0 → x.to ≡ get_or numbers at 0 → x.delay ≡ pos (time_at events at) -ℤ pos (time_at events place) → IsReceived events numbers at r x
 received_from events numbers senders text place at r x n a here receives found other from to delay = record {
   place = place;
   sender = s;
@@ -148,7 +148,7 @@ received_from events numbers senders text place at r x n a here receives found o
   from = from;
   to = to;
   delay = delay ∙ (ap (λ t. pos t -ℤ pos (time_at events place)) (time_is_at events at r here) ∙ ap (λ t. pos r.time -ℤ pos t) (time_is_at events place s at_s));
-  only = λ j e at_e m. let again : place_in senders text ≡ Some j = message_found events senders text j e r a received at_e m in cc;
+  only = λ j e at_e m. let again : message_place_in senders text ≡ Some j = message_found events senders text j e r a received at_e m in cc;
 }
   where
     sent : (place < length events) × (get_or (sends_of events) place None ≡ Some text)

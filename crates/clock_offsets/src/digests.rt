@@ -1,17 +1,5 @@
 ghost use Rattle.std.specs.Prelude.{◌≡◌, ◌<◌};
-ghost use Rattle.clock_offsets.specs.inner.Digests.{digest_of, chain_of};
-
-use std::hash::{FoldHasher, Hasher};
-
-/// Digests a message to 64 bits.
-#[inline]
-pub(crate) fn digest(message: &[u8]) -> u64
-    ensures { result ≡ digest_of message.now }
-{
-    let mut hasher = FoldHasher::default();
-    hasher.write(message);
-    hasher.finish()
-}
+ghost use Rattle.clock_offsets.specs.inner.Digests.{chain_of};
 
 /// Picks one of so many chains for a digest.
 pub(crate) fn pick_chain(count: usize, digest: u64) -> usize

@@ -1,11 +1,12 @@
 ghost use Rattle.std.specs.Prelude.{◌≡◌, ◌<◌, length};
-ghost use Rattle.clock_offsets.specs.inner.MessagePlaces.{is_of, place_in};
-ghost use Rattle.clock_offsets.specs.inner.Digests.{digest_of};
+ghost use Rattle.clock_offsets.specs.inner.MessagePlaces.{is_of_message, message_place_in};
+ghost use Rattle.event_table.specs.Digests.{digest_of};
 ghost use Rattle.clock_offsets.specs.inner.Chains.{message_place, newest_first, AreDigested};
 ghost use Rattle.clock_offsets.specs.inner.Chains.{IsChained, IsTable};
 
-use crate::digests::{digest, pick_chain};
+use crate::digests::pick_chain;
 use crate::message_entry::MessageEntry;
+use event_table::digest;
 use std::alloc::{AllocError, Global};
 use std::marker::Model;
 
@@ -36,7 +37,7 @@ impl<'a> Model for MessagePlaces<'a> {
 fn is_entry_of(entry: &MessageEntry, digest: u64, message: &[u8]) -> bool
     requires own { entry.now.digest ≡ digest_of entry.now.message.now }
     requires digest { digest ≡ digest_of message.now }
-    ensures { result ≡ is_of message.now (message_place entry.now) }
+    ensures { result ≡ is_of_message message.now (message_place entry.now) }
 {
     entry.digest == digest && entry.message == message
 }
@@ -46,7 +47,7 @@ fn is_entry_of(entry: &MessageEntry, digest: u64, message: &[u8]) -> bool
 fn find_in_few(entries: &[MessageEntry], digest: u64, message: &[u8]) -> Option<usize>
     requires digests { AreDigested entries.now }
     requires digest { digest ≡ digest_of message.now }
-    ensures { result ≡ place_in (newest_first entries.now) message.now }
+    ensures { result ≡ message_place_in (newest_first entries.now) message.now }
 {
     let mut next = entries.len();
     'older: while next > 0 {
@@ -70,7 +71,7 @@ fn find_in_chain(
     requires digests { AreDigested entries.now }
     requires chained { IsChained chains.now entries.now }
     requires digest { digest ≡ digest_of message.now }
-    ensures { result ≡ place_in (newest_first entries.now) message.now }
+    ensures { result ≡ message_place_in (newest_first entries.now) message.now }
 {
     let mut next = chains[pick_chain(chains.len(), digest)];
     'older: while next > 0 {
@@ -93,7 +94,7 @@ fn find_place(
 ) -> Option<usize>
     requires table { IsTable chains.now entries.now }
     requires digest { digest ≡ digest_of message.now }
-    ensures { result ≡ place_in (newest_first entries.now) message.now }
+    ensures { result ≡ message_place_in (newest_first entries.now) message.now }
 {
     if chains.is_empty() {
         find_in_few(entries, digest, message)
@@ -104,7 +105,7 @@ fn find_place(
 
 impl<'a> MessagePlaces<'a> {
     ghost use Rattle.std.specs.Prelude.{◌≡◌, IfOk, OnOk, Some, []};
-    ghost use Rattle.clock_offsets.specs.inner.MessagePlaces.{place_in, places_with};
+    ghost use Rattle.clock_offsets.specs.inner.MessagePlaces.{message_place_in, message_places_with};
 
     /// Makes a table with no places. It has memory for this many. The only error is out of memory.
     pub(crate) fn new(alloc: Global, count: usize) -> Result<MessagePlaces<'a>, AllocError>
@@ -121,7 +122,7 @@ impl<'a> MessagePlaces<'a> {
 
     /// Finds the place of a message.
     pub(crate) fn find(&self, message: &[u8]) -> Option<usize>
-        ensures { result ≡ place_in self.now message.now }
+        ensures { result ≡ message_place_in self.now message.now }
     {
         find_place(&self.chains, &self.entries, digest(message), message)
     }
@@ -133,8 +134,8 @@ impl<'a> MessagePlaces<'a> {
         message: &'a [u8],
         place: usize,
     ) -> Result<usize, AllocError>
-        ensures place { IfOk result (λ p. place_in self.new message.now ≡ Some p) }
-        ensures added { OnOk result (self.new ≡ places_with self.old message.now place) }
+        ensures place { IfOk result (λ p. message_place_in self.new message.now ≡ Some p) }
+        ensures added { OnOk result (self.new ≡ message_places_with self.old message.now place) }
     {
         let own = digest(message);
         if let Some(found) = find_place(&self.chains, &self.entries, own, message) {

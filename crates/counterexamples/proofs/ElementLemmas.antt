@@ -3,7 +3,7 @@ use Rattle.std.proofs.Common.{◌≡◌, ◌↔◌, MatchOption, Bool, true, eqb
 use Rattle.std.specs.Option.{is_some, option_eq}
 use Rattle.std.proofs.lemmas.Bool.{cases_lt, eq-eqb, eqb-true, false≢true}
 use Rattle.std.proofs.lemmas.Option.{same_Some, slice_get_within}
-use Rattle.refute_tests.specs.Clearing.{early}
+use Rattle.refute_tests.specs.Clearing.{starts_early}
 use Rattle.trace_types.specs.NamedSegments.{number_of_element, number_of_task}
 use Rattle.trace_types.specs.Parts.{by_number}
 use Rattle.trace_types.specs.Pipelines.{HandlesAt, RefutesUnshared, TakesUnfinished}
@@ -128,7 +128,7 @@ so_far_all trace t e n None all so_far = never trace t e n all so_far
 so_far_all trace t e n (Some k) all so_far = end_here trace t e n k all so_far
 
 -- a test of the two segments tells whether the element is taken early
-pub early_tells : (trace : NamedTrace) (from to e giver taker : ℕ) (s u : NamedSegment) → slice_get trace.segments giver ≡ Some s → slice_get trace.segments taker ≡ Some u → IsEnd trace from e giver → IsStart trace to e taker → (early trace.grace s u ≡ true) ↔ TakesEarly trace from to e
+pub early_tells : (trace : NamedTrace) (from to e giver taker : ℕ) (s u : NamedSegment) → slice_get trace.segments giver ≡ Some s → slice_get trace.segments taker ≡ Some u → IsEnd trace from e giver → IsStart trace to e taker → (starts_early trace.grace u s ≡ true) ↔ TakesEarly trace from to e
 early_tells trace from to e giver taker s u at_s at_u (given, ends) (taken, starts) = (
   (λ h. record {
     giver = giver;

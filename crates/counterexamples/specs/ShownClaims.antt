@@ -5,7 +5,7 @@ use Rattle.std.specs.Option.{option_zip}
 use Rattle.certificates.specs.declared.claim.Claim.{Claim}
 use Rattle.certificates.specs.declared.matter.Matter.{Matter}
 use Rattle.certificates.specs.declared.matter.Matter.TheVariants.{Before, Exclusive, Pipe}
-use Rattle.day_partitions.specs.Books.{KeptDay, traces_of}
+use Rattle.day_partitions.specs.Books.{KeptDay, traces_kept_on}
 use Rattle.hypothesis_index.specs.Refuting.{Refutes}
 use Rattle.hypothesis_index.specs.declared.relation.Relation as relation
 use Rattle.hypothesis_index.specs.declared.relation.Relation.{Relation}
@@ -36,6 +36,6 @@ pub record IsShownClaim (known : Known) (days : List KeptDay) (claim : Claim) : 
   pub relation : Relation
   pub numbered : relation_of known claim.matter ≡ Some relation
   pub trace : NamedTrace
-  pub stands : slice_get (traces_of days claim.day) claim.index ≡ Some trace
+  pub stands : slice_get (traces_kept_on days claim.day) claim.index ≡ Some trace
   pub request : trace.request ≡ claim.request
   pub refutes : Refutes relation trace

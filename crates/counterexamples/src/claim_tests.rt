@@ -4,6 +4,7 @@ ghost use Rattle.std.specs.Prelude.{◌≡◌, IfOk, length};
 use crate::shown;
 use crate::tests::three_requests;
 use certificates::{Claim, Matter};
+use day_partitions::DayBook;
 use segment_names::Catalogue;
 use std::alloc::{AllocError, Global};
 use std::process::Abort;
@@ -64,6 +65,42 @@ fn matter(alloc: Global, kind: &str, first: &str, second: &str) -> Result<Matter
     }
 }
 
+/// A claim of this kind on two names or tasks.
+fn claim_of(
+    alloc: Global,
+    kind: &str,
+    names: (&str, &str),
+    day: u32,
+    index: u32,
+    request: &str,
+) -> Result<Claim, AllocError> {
+    let request = Text::new(alloc, request)?;
+    Ok(Claim {
+        line: 2,
+        matter: matter(alloc, kind, names.0, names.1)?,
+        day,
+        index,
+        request,
+    })
+}
+
+/// Tells whether the book shows the claim, whose names are those of the catalogue of two names.
+fn is_shown_by(
+    rt: &impl Abort,
+    alloc: Global,
+    book: &DayBook,
+    claim: &Claim,
+) -> Result<bool, AllocError> {
+    let catalogue = two_names(rt, alloc)?;
+    Ok(shown(book, &catalogue, claim))
+}
+
+/// Tells whether the book of r1, r2 and r3 shows the claim.
+fn is_shown_there(rt: &impl Abort, alloc: Global, claim: &Claim) -> Result<bool, AllocError> {
+    let book = three_requests(rt, alloc)?;
+    is_shown_by(rt, alloc, &book, claim)
+}
+
 /// Tells whether the book of r1, r2 and r3 shows a claim of this kind on two names or tasks.
 fn is_shown(
     rt: &impl Abort,
@@ -74,16 +111,8 @@ fn is_shown(
     index: u32,
     request: &str,
 ) -> Result<bool, AllocError> {
-    let book = three_requests(rt, alloc)?;
-    let catalogue = two_names(rt, alloc)?;
-    let claim = Claim {
-        line: 2,
-        matter: matter(alloc, kind, names.0, names.1)?,
-        day,
-        index,
-        request: Text::new(alloc, request)?,
-    };
-    Ok(shown(&book, &catalogue, &claim))
+    let claim = claim_of(alloc, kind, names, day, index, request)?;
+    is_shown_there(rt, alloc, &claim)
 }
 
 #[test]

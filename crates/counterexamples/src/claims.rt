@@ -1,7 +1,7 @@
 ghost use Rattle.std.specs.Prelude.{◌≡◌, ◌↔◌, true};
 ghost use Rattle.counterexamples.specs.ShownClaims.{IsShownClaim, matter_numbers};
 ghost use Rattle.counterexamples.specs.ShownClaims.{relation_between, relation_of};
-ghost use Rattle.day_partitions.specs.Books.{traces_of};
+ghost use Rattle.day_partitions.specs.Books.{traces_kept_on};
 
 use crate::refutes;
 use certificates::{Claim, Matter};
@@ -56,7 +56,7 @@ fn relation_of(catalogue: &Catalogue, matter: &Matter) -> Option<Relation>
 
 /// Lends the traces of a day; none where it is not kept.
 fn traces_of(book: &DayBook, day: u32) -> &[NamedTrace]
-    ensures { result.now ≡ traces_of book.now.days day }
+    ensures { result.now ≡ traces_kept_on book.now.days day }
 {
     'days: for place in 0..book.days() {
         if book.day(place) == day {

@@ -79,34 +79,47 @@ fn pair(
     })
 }
 
+/// Tells which relations of the names 0 and 1 the trace refutes, and whether it refutes one of a name
+/// that it lacks or of tasks.
+fn names_refuted(trace: &NamedTrace) -> (bool, bool, bool, bool, bool) {
+    let unknown = Relation::Apart { low: 0, high: 2 };
+    (
+        refutes(trace, NAMES[0]),
+        refutes(trace, NAMES[1]),
+        refutes(trace, NAMES[2]),
+        refutes(trace, NAMES[3]),
+        refutes(trace, unknown) || refutes(trace, TASKS[2]),
+    )
+}
+
+/// Tells the same of a trace of two such segments.
+fn pair_refuted(
+    alloc: Global,
+    first: NamedSegment,
+    second: NamedSegment,
+    grace: u64,
+) -> Result<(bool, bool, bool, bool, bool), AllocError>
+    requires names { first.name ≢ second.name }
+    requires tasks { first.task ≢ second.task }
+    requires one { first.element ≡ None }
+    requires other { second.element ≡ None }
+    requires grace { grace ≤ 1000000000 }
+{
+    let trace = pair(alloc, "r1", 0, first, second, grace)?;
+    Ok(names_refuted(&trace))
+}
+
 #[test]
 fn times_refute_relations_of_names(rt: HostRuntime) -> Result<(), Fail> {
     let alloc = rt.alloc();
-    let rows = [
-        (
-            pair(alloc, "r1", 0, lone(0, 0, 10), lone(1, 10, 30), 0)?,
-            [false, true, false, true],
-        ),
-        (
-            pair(alloc, "r1", 0, lone(1, 0, 5), lone(0, 5, 9), 0)?,
-            [true, false, false, true],
-        ),
-        (
-            pair(alloc, "r1", 0, lone(0, 0, 10), lone(1, 9, 20), 0)?,
-            [true, true, true, true],
-        ),
-        (
-            pair(alloc, "r1", 0, lone(0, 0, 10), lone(1, 9, 20), 1)?,
-            [false, true, false, true],
-        ),
-    ];
-    for (trace, expected) in &rows {
-        for (relation, refuted) in NAMES.iter().zip(expected) {
-            assert!(rt; refutes(trace, *relation) == *refuted);
-        }
-        let unknown = Relation::Apart { low: 0, high: 2 };
-        assert!(rt; !refutes(trace, unknown) && !refutes(trace, TASKS[2]));
-    }
+    let follows = pair_refuted(alloc, lone(0, 0, 10), lone(1, 10, 30), 0)?;
+    assert_eq!(rt; follows, (false, true, false, true, false));
+    let precedes = pair_refuted(alloc, lone(1, 0, 5), lone(0, 5, 9), 0)?;
+    assert_eq!(rt; precedes, (true, false, false, true, false));
+    let overlaps = pair_refuted(alloc, lone(0, 0, 10), lone(1, 9, 20), 0)?;
+    assert_eq!(rt; overlaps, (true, true, true, true, false));
+    let graced = pair_refuted(alloc, lone(0, 0, 10), lone(1, 9, 20), 1)?;
+    assert_eq!(rt; graced, (false, true, false, true, false));
     Ok(())
 }
 
@@ -158,32 +171,37 @@ fn shared_trace(
     })
 }
 
+/// Tells which relations of the tasks 0 and 1 such a trace refutes.
+fn tasks_refuted(
+    alloc: Global,
+    order: (u32, u32),
+    times: (i64, i64, i64),
+    grace: u64,
+) -> Result<(bool, bool, bool), AllocError>
+    requires elements { order.0 + order.1 ≡ 1 }
+    requires first { times.0 ≤ℤ times.1 }
+    requires second { times.1 ≤ℤ times.2 }
+    requires grace { grace ≤ 1000000000 }
+{
+    let trace = shared_trace(alloc, order, times, grace)?;
+    Ok((
+        refutes(&trace, TASKS[0]),
+        refutes(&trace, TASKS[1]),
+        refutes(&trace, TASKS[2]),
+    ))
+}
+
 #[test]
 fn elements_refute_relations_of_tasks(rt: HostRuntime) -> Result<(), Fail> {
     let alloc = rt.alloc();
-    let rows = [
-        (
-            shared_trace(alloc, (0, 1), (10, 20, 30), 0)?,
-            [false, true, true],
-        ),
-        (
-            shared_trace(alloc, (1, 0), (20, 30, 40), 0)?,
-            [true, true, true],
-        ),
-        (
-            shared_trace(alloc, (0, 1), (10, 19, 30), 0)?,
-            [true, true, true],
-        ),
-        (
-            shared_trace(alloc, (0, 1), (10, 19, 30), 1)?,
-            [false, true, true],
-        ),
-    ];
-    for (trace, expected) in &rows {
-        for (relation, refuted) in TASKS.iter().zip(expected) {
-            assert!(rt; refutes(trace, *relation) == *refuted);
-        }
-    }
+    let follows = tasks_refuted(alloc, (0, 1), (10, 20, 30), 0)?;
+    assert_eq!(rt; follows, (false, true, true));
+    let turned = tasks_refuted(alloc, (1, 0), (20, 30, 40), 0)?;
+    assert_eq!(rt; turned, (true, true, true));
+    let overlaps = tasks_refuted(alloc, (0, 1), (10, 19, 30), 0)?;
+    assert_eq!(rt; overlaps, (true, true, true));
+    let graced = tasks_refuted(alloc, (0, 1), (10, 19, 30), 1)?;
+    assert_eq!(rt; graced, (false, true, true));
     Ok(())
 }
 
@@ -233,11 +251,15 @@ fn two_days(rt: &impl Abort, alloc: Global) -> Result<DayBook, AllocError> {
 }
 
 #[test]
-fn the_first_refuter_is_found_by_day_and_index(rt: HostRuntime) -> Result<(), Fail> {
-    let alloc = rt.alloc();
-    let empty = DayBook::new(alloc, 2)?;
+fn an_empty_book_has_no_refuter(rt: HostRuntime) -> Result<(), Fail> {
+    let empty = DayBook::new(rt.alloc(), 2)?;
     assert!(rt; find(&empty, NAMES[3]) == None);
-    let book = two_days(&rt, alloc)?;
+    Ok(())
+}
+
+#[test]
+fn the_first_refuter_is_found_by_day_and_index(rt: HostRuntime) -> Result<(), Fail> {
+    let book = two_days(&rt, rt.alloc())?;
     let second = Some(Finding { place: 1, index: 1 });
     assert!(rt; find(&book, NAMES[0]) == second);
     assert!(rt; find(&book, NAMES[1]) == Some(Finding { place: 0, index: 0 }));
@@ -279,14 +301,20 @@ fn agrees_on_pair(book: &DayBook, all: &FirstRefuters, low: u32, high: u32) -> b
         && all.find(unshared) == find(book, unshared)
 }
 
+/// Tells whether all first refuters of the book are those that are found alone.
+fn all_agree(alloc: Global, book: &DayBook) -> Result<bool, AllocError> {
+    let all = find_all(alloc, book)?;
+    Ok(
+        agrees_on(book, &all, 0, 1)
+            && agrees_on(book, &all, 1, 0)
+            && agrees_on_pair(book, &all, 0, 1),
+    )
+}
+
 #[test]
 fn first_refuters_among_all_are_those_found_alone(rt: HostRuntime) -> Result<(), Fail> {
-    let alloc = rt.alloc();
-    let book = two_days(&rt, alloc)?;
-    let all = find_all(alloc, &book)?;
-    assert!(rt; agrees_on(&book, &all, 0, 1));
-    assert!(rt; agrees_on(&book, &all, 1, 0));
-    assert!(rt; agrees_on_pair(&book, &all, 0, 1));
+    let book = two_days(&rt, rt.alloc())?;
+    assert!(rt; all_agree(rt.alloc(), &book)?);
     Ok(())
 }
 
@@ -330,33 +358,30 @@ pub(crate) fn three_requests(rt: &impl Abort, alloc: Global) -> Result<DayBook, 
     Ok(book)
 }
 
+/// The first refuters of the two orders of the names 0 and 1, and of their mutual exclusion.
+type Noted = (Option<Finding>, Option<Finding>, Option<Finding>);
+
+/// Notes the first refuters of all relations of a book, and gives those of the names 0 and 1.
+fn noted_in(alloc: Global, book: &DayBook) -> Result<Noted, AllocError> {
+    let all = find_all(alloc, book)?;
+    Ok((all.find(NAMES[0]), all.find(NAMES[1]), all.find(NAMES[2])))
+}
+
 #[test]
 fn the_first_refuter_of_each_relation_is_noted(rt: HostRuntime) -> Result<(), Fail> {
-    let alloc = rt.alloc();
-    let second = Some(Finding { place: 0, index: 1 });
-    let all = find_all(alloc, &two_requests(&rt, alloc)?)?;
-    assert!(rt;
-        all.find(Relation::Before {
-            first: 0,
-            second: 1
-        }) == second
-    );
-    assert!(rt;
-        all.find(Relation::Before {
-            first: 1,
-            second: 0
-        }) == Some(Finding { place: 0, index: 0 })
-    );
-    assert!(rt; all.find(Relation::Exclusive { low: 0, high: 1 }) == None);
-    let all = find_all(alloc, &three_requests(&rt, alloc)?)?;
-    assert!(rt;
-        all.find(Relation::Before {
-            first: 0,
-            second: 1
-        }) == second
-    );
-    assert!(rt;
-        all.find(Relation::Exclusive { low: 0, high: 1 }) == Some(Finding { place: 0, index: 2 })
-    );
+    let book = two_requests(&rt, rt.alloc())?;
+    let noted = noted_in(rt.alloc(), &book)?;
+    assert!(rt; noted.0 == Some(Finding { place: 0, index: 1 }));
+    assert!(rt; noted.1 == Some(Finding { place: 0, index: 0 }));
+    assert!(rt; noted.2 == None);
+    Ok(())
+}
+
+#[test]
+fn the_first_refuter_stays_where_another_trace_is_added(rt: HostRuntime) -> Result<(), Fail> {
+    let book = three_requests(&rt, rt.alloc())?;
+    let noted = noted_in(rt.alloc(), &book)?;
+    assert!(rt; noted.0 == Some(Finding { place: 0, index: 1 }));
+    assert!(rt; noted.2 == Some(Finding { place: 0, index: 2 }));
     Ok(())
 }

@@ -4,7 +4,7 @@ use Rattle.std.proofs.lemmas.Bool.{iff_false}
 use Rattle.std.proofs.lemmas.List.{length-map}
 use Rattle.pipeline_tests.specs.DaySheets.{SheetState}
 use Rattle.trace_types.specs.declared.named_trace.NamedTrace.{NamedTrace}
-use Rattle.day_partitions.specs.Books.{BookState, book, has_day, all_traces, IsBook, IsSheetOf, IsFull, with_traces, with_added}
+use Rattle.day_partitions.specs.Books.{BookState, book, has_day, all_traces, IsBook, IsSheetOf, IsFull, with_day_traces, with_added}
 use Rattle.day_partitions.specs.inner.Trees.{TreeState}
 use Rattle.day_partitions.specs.inner.Slots.{shown, shown_days, AreInSlots, AreSameDays, HasTraceRoom, HasRoom}
 use Rattle.day_partitions.specs.declared.day.Day.{Day}
@@ -44,12 +44,12 @@ spare_is : (b : Bool) (x y z : ℕ) → z ≡ (if b then x else x - 1) → (b �
 spare_is true x y z e same less = e ∙ same refl
 spare_is false x y z e same less = e ∙ less
 
-pub view_added : (names day : ℕ) (ts : List NamedTrace) (t u v : TreeState) (ds es fs : List Day) → AreSameDays ds es → (has_day (shown_days ds) day ≡ true → u ≡ t) → u.spare - 1 ≡ t.spare - 1 → shown_days fs ≡ with_traces day ts (shown_days es) → v.spare ≡ (if has_day (shown_days es) day then u.spare else u.spare - 1) → book (shown_days fs) names v.spare ≡ with_added (book (shown_days ds) names t.spare) day ts
+pub view_added : (names day : ℕ) (ts : List NamedTrace) (t u v : TreeState) (ds es fs : List Day) → AreSameDays ds es → (has_day (shown_days ds) day ≡ true → u ≡ t) → u.spare - 1 ≡ t.spare - 1 → shown_days fs ≡ with_day_traces day ts (shown_days es) → v.spare ≡ (if has_day (shown_days es) day then u.spare else u.spare - 1) → book (shown_days fs) names v.spare ≡ with_added (book (shown_days ds) names t.spare) day ts
 view_added names day ts t u v ds es fs same kept less days spare =
     let shown_same = same_shown ds es same in
     let left : v.spare ≡ (if has_day (shown_days ds) day then t.spare else t.spare - 1) =
     spare_is (has_day (shown_days ds) day) u.spare t.spare v.spare (spare ∙ ap (λ l. if has_day l day then u.spare else u.spare - 1) shown_same) (λ h. ap (λ (x : TreeState). x.spare) (kept h)) less in
-    ap (λ l. book l names v.spare) (days ∙ ap (with_traces day ts) shown_same) ∙ ap (book (with_traces day ts (shown_days ds)) names) left
+    ap (λ l. book l names v.spare) (days ∙ ap (with_day_traces day ts) shown_same) ∙ ap (book (with_day_traces day ts (shown_days ds)) names) left
 
 pub book_kept : (b c : BookState) (day : ℕ) (sheet : SheetState) → c ≡ with_added b day sheet.traces → IsBook b → IsSheetOf b.names day sheet → (IsFull b day → ⊥) → length (all_traces b.days) + length sheet.traces < 2 ^ 32 → IsBook c
 book_kept b c day sheet e k s not_full few = subst (λ x. IsBook x) (sym e) (book_added b day sheet k s not_full few)

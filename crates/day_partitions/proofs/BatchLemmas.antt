@@ -6,7 +6,7 @@ use Rattle.std.proofs.lemmas.List.Elements.{All-head, All-tail, All-contains}
 use Rattle.std.proofs.lemmas.List.Sums.{sum_by-cons}
 use Rattle.hypothesis_index.specs.Places.{width_of}
 use Rattle.trace_types.specs.declared.named_trace.NamedTrace.{NamedTrace}
-use Rattle.day_partitions.specs.Books.{KeptDay, kept_day, BookState, book, has_day, all_traces, HasTraces, IsBook, IsSheetOf, IsFull, with_traces, with_added}
+use Rattle.day_partitions.specs.Books.{KeptDay, kept_day, BookState, book, has_day, all_traces, HasTraces, IsBook, IsSheetOf, IsFull, with_day_traces, with_added}
 use Rattle.day_partitions.specs.Batches.{with_all, new_days, trace_count, AreSheetsFor, HasRoomFor}
 use Rattle.day_partitions.specs.inner.Rooms.{HaveTraceRoom}
 use Rattle.day_partitions.specs.inner.Trees.{TreeState, with_spare_rows}
@@ -18,7 +18,7 @@ use Rattle.day_partitions.proofs.DropLemmas.{book_spare}
 use Rattle.day_partitions.proofs.RoomLemmas.{same_shown, same_slots, book_added}
 
 -- ---- whether another day is kept
-has_other : (d : ℕ) (ts : List NamedTrace) (ks : List KeptDay) (e : ℕ) → e ≢ d → has_day (with_traces d ts ks) e ≡ has_day ks e
+has_other : (d : ℕ) (ts : List NamedTrace) (ks : List KeptDay) (e : ℕ) → e ≢ d → has_day (with_day_traces d ts ks) e ≡ has_day ks e
 has_other d ts [] e other = has_next e (kept_day d ts) [] (λ h. other (sym h))
 has_other d ts (k ∷ ks) e other = elim (cases_order k.day d) [
   | inl same ↦ ap (λ l. has_day l e) (with_same d ts k ks same) ∙ has_next e (kept_day d (k.traces ++ ts)) ks (λ h. other (sym h)) ∙ sym (has_next e k ks (λ h. other (sym h ∙ same)))
@@ -35,13 +35,13 @@ weigh b = cond b 1 0
 pub new_cons : (ks : List KeptDay) (s : DatedSheet) (ss : List DatedSheet) → new_days ks (s ∷ ss) ≡ weigh (is_new ks s) + new_days ks ss
 new_cons ks s ss = sum_by-cons (λ (x : DatedSheet). cond (is_new ks x) 1 0) s ss
 
-new_other : (d : ℕ) (ts : List NamedTrace) (ks : List KeptDay) (ss : List DatedSheet) → All (λ (s : DatedSheet). d < s.day) ss → new_days (with_traces d ts ks) ss ≡ new_days ks ss
+new_other : (d : ℕ) (ts : List NamedTrace) (ks : List KeptDay) (ss : List DatedSheet) → All (λ (s : DatedSheet). d < s.day) ss → new_days (with_day_traces d ts ks) ss ≡ new_days ks ss
 new_other d ts ks [] h = refl
 new_other d ts ks (s ∷ ss) h =
     let here : d < s.day = All-head (λ (x : DatedSheet). d < x.day) s ss h in
-    let same : weigh (is_new (with_traces d ts ks) s) ≡ weigh (is_new ks s) = ap (λ b. weigh (not b)) (has_other d ts ks s.day (λ e. omega arith)) in
+    let same : weigh (is_new (with_day_traces d ts ks) s) ≡ weigh (is_new ks s) = ap (λ b. weigh (not b)) (has_other d ts ks s.day (λ e. omega arith)) in
     let rest = new_other d ts ks ss (All-tail (λ (x : DatedSheet). d < x.day) s ss h) in
-    omega (arith, new_cons (with_traces d ts ks) s ss, new_cons ks s ss, same, rest)
+    omega (arith, new_cons (with_day_traces d ts ks) s ss, new_cons ks s ss, same, rest)
 
 pub count_cons : (s : DatedSheet) (ss : List DatedSheet) → trace_count (s ∷ ss) ≡ length s.sheet.traces + trace_count ss
 count_cons s ss = sum_by-cons (λ (x : DatedSheet). length x.sheet.traces) s ss
@@ -52,7 +52,7 @@ SheetBelow r s = r.day < s.day
 
 abbrev all_days : List KeptDay → List DatedSheet → List KeptDay
 all_days ks [] = ks
-all_days ks (s ∷ ss) = all_days (with_traces s.day s.sheet.traces ks) ss
+all_days ks (s ∷ ss) = all_days (with_day_traces s.day s.sheet.traces ks) ss
 
 less_spare : (b : Bool) (n s : ℕ) → (if b then s else s - 1) - n ≡ s - (weigh (not b) + n)
 less_spare true n s = omega arith
@@ -61,7 +61,7 @@ less_spare false n s = omega arith
 all_is : (ks : List KeptDay) (names s : ℕ) (ss : List DatedSheet) → AllPairs SheetBelow ss → with_all (book ks names s) ss ≡ book (all_days ks ss) names (s - new_days ks ss)
 all_is ks names s [] r = (let z : s ≡ s - 0 = omega arith in ap (book ks names) z)
 all_is ks names s (x ∷ ss) r =
-    let ls = with_traces x.day x.sheet.traces ks in
+    let ls = with_day_traces x.day x.sheet.traces ks in
     let t = if has_day ks x.day then s else s - 1 in
     all_is ls names t ss (pairs_tail SheetBelow x ss r)
     ∙ ap (book (all_days ls ss) names) (ap (λ n. t - n) (new_other x.day x.sheet.traces ks ss (pairs_head SheetBelow x ss r)) ∙ less_spare (has_day ks x.day) (new_days ks ss) s ∙ ap (λ n. s - n) (sym (new_cons ks x ss)))
@@ -108,14 +108,14 @@ few_after : (b : Bool) (n len m : ℕ) → len + (weigh (not b) + n) ≤ 64 → 
 few_after true n len m l e = omega arith
 few_after false n len m l e = omega arith
 
-pub taken : (names : ℕ) (t u : TreeState) (ds es : List Day) (s : DatedSheet) (ss : List DatedSheet) → CanTake names t ds (s ∷ ss) → AreInSlots u es → shown_days es ≡ with_traces s.day s.sheet.traces (shown_days ds) → u.width ≡ t.width → u.spare ≡ (if has_day (shown_days ds) s.day then t.spare else t.spare - 1) → ChangesOnly s.day ds es → CanTake names u es ss
+pub taken : (names : ℕ) (t u : TreeState) (ds es : List Day) (s : DatedSheet) (ss : List DatedSheet) → CanTake names t ds (s ∷ ss) → AreInSlots u es → shown_days es ≡ with_day_traces s.day s.sheet.traces (shown_days ds) → u.width ≡ t.width → u.spare ≡ (if has_day (shown_days ds) s.day then t.spare else t.spare - 1) → ChangesOnly s.day ds es → CanTake names u es ss
 taken names t u ds es s ss c slots days width spare others =
     let ks = shown_days ds in
     let b = book ks names t.spare in
     let d = s.day in let ts = s.sheet.traces in
     let head = All-head (λ (x : DatedSheet). IsSheetOf names x.day x.sheet) s ss c.sheets.each in
     let above = pairs_head SheetBelow s ss c.sheets.rising in
-    let is : book (shown_days es) names u.spare ≡ with_added b d ts = ap (λ l. book l names u.spare) days ∙ ap (book (with_traces d ts ks) names) spare in
+    let is : book (shown_days es) names u.spare ≡ with_added b d ts = ap (λ l. book l names u.spare) days ∙ ap (book (with_day_traces d ts ks) names) spare in
     let size = total_with d ts ks in
     let new_same : new_days (shown_days es) ss ≡ new_days ks ss = ap (λ l. new_days l ss) days ∙ new_other d ts ks ss above in
     let long : length (shown_days es) ≡ (if has_day ks d then length ks else length ks + 1) = ap length days ∙ count_with d ts ks c.kept.rising in

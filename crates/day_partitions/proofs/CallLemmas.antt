@@ -4,8 +4,8 @@ use Rattle.std.proofs.lemmas.Bool.{cases_eq, cases_order, cases_Bool, eq-eqb, ne
 use Rattle.std.proofs.lemmas.List.{append-nil, length-map}
 use Rattle.std.proofs.lemmas.List.Elements.{All-head, All-tail, All-nil, All-filter, All-drop}
 use Rattle.trace_types.specs.declared.named_trace.NamedTrace.{NamedTrace}
-use Rattle.day_partitions.specs.Books.{KeptDay, kept_day, AreRising, HasTraces, has_day, traces_of}
-use Rattle.day_partitions.specs.Kept.{DayCommand, Add, Drop, Keep, Taken, distinct_numbers, greater_days, kept_traces, kept_of, AreKept, NothingIsKept, CallsKeep, OneListIsKept}
+use Rattle.day_partitions.specs.Books.{KeptDay, kept_day, AreRising, HasTraces, has_day, traces_kept_on}
+use Rattle.day_partitions.specs.Kept.{DayCommand, Add, Drop, Keep, Taken, distinct_numbers, greater_days_taken, kept_traces, kept_of, AreKept, NothingIsKept, CallsKeep, OneListIsKept}
 use Rattle.day_partitions.proofs.DayLemmas.{Below, has_next, has_here, has_above, above_all, all_with, rising_with, pairs_nil, pairs_cons, pairs_head, pairs_tail}
 use Rattle.day_partitions.proofs.DropLemmas.{traces_other, traces_same, traces_above, rising_without}
 use Rattle.day_partitions.proofs.SlotLemmas.{pairs_drop}
@@ -28,7 +28,7 @@ taken_in d (t ∷ ts) = elim (cases_Bool (t.day == d)) [
   | inr other ↦ ap (λ b. b || is_in d (map (λ (t : Taken). t.day) ts)) other ∙ taken_in d ts ∙ sym (ap (λ l. has_some (map trace_in l)) (filter_no (day_is d) t ts other))
 ]
 
-has_traces : (d : ℕ) (ks : List KeptDay) → All HasTraces ks → has_some (traces_of ks d) ≡ has_day ks d
+has_traces : (d : ℕ) (ks : List KeptDay) → All HasTraces ks → has_some (traces_kept_on ks d) ≡ has_day ks d
 has_traces d [] h = refl
 has_traces d (k ∷ ks) h = elim (cases_eq k.day d) [
   | inl same ↦ ap has_some (traces_same d k ks same) ∙ some_of_length k.traces (All-head HasTraces k ks h) ∙ sym (has_here d k ks same)
@@ -76,7 +76,7 @@ rising_distinct : (ks : List KeptDay) → AreRising ks → are_distinct (days_of
 rising_distinct [] r = refl
 rising_distinct (k ∷ ks) r = and_from (not (is_in k.day (days_of ks))) (are_distinct (days_of ks)) (not_from_false _ (in_days k.day ks ∙ has_above k.day ks (pairs_head Below k ks r))) (rising_distinct ks (pairs_tail Below k ks r))
 
-greater_is : (ks : List KeptDay) (cs : List DayCommand) (e : ℕ) → AreKept ks cs → greater_days (kept_traces cs) e ≡ count_above e ks
+greater_is : (ks : List KeptDay) (cs : List DayCommand) (e : ℕ) → AreKept ks cs → greater_days_taken (kept_traces cs) e ≡ count_above e ks
 greater_is ks cs e h =
     let taken_days = map (λ (t : Taken). t.day) (kept_traces cs) in
     let same : (d : ℕ) → is_in d taken_days ≡ is_in d (days_of ks) = λ d. taken_in d (kept_traces cs) ∙ ap has_some (sym (h.traces d)) ∙ has_traces d ks h.some ∙ sym (in_days d ks) in
@@ -105,14 +105,14 @@ calls_keep ks cs (Keep n) some h =
       rising = pairs_drop Below _ ks h.rising;
       some = All-drop HasTraces _ ks h.some;
       traces = λ e. traces_newest n ks e h.rising ∙ ap (λ l. if not (nat_le n (count_above e ks)) then l else []) (h.traces e) ∙ ap (λ c. if not (nat_le n c) then kept_of cs e else []) (sym (greater_is ks cs e h))
-          ∙ sym (append-nil (if not (nat_le n (greater_days (kept_traces cs) e)) then kept_of cs e else [])) ∙ sym (kept_of_next (Keep n) cs e);
+          ∙ sym (append-nil (if not (nat_le n (greater_days_taken (kept_traces cs) e)) then kept_of cs e else [])) ∙ sym (kept_of_next (Keep n) cs e);
     }
 
 -- ---- the traces of each day fix the days
 none_absurd : (ts : List NamedTrace) → 0 < length ts → ts ≡ [] → ⊥
 none_absurd ts l e = let n = ap length e in omega arith
 
-same_days_by : (js ks : List KeptDay) → AreRising js → AreRising ks → All HasTraces js → All HasTraces ks → ((d : ℕ) → traces_of js d ≡ traces_of ks d) → js ≡ ks
+same_days_by : (js ks : List KeptDay) → AreRising js → AreRising ks → All HasTraces js → All HasTraces ks → ((d : ℕ) → traces_kept_on js d ≡ traces_kept_on ks d) → js ≡ ks
 same_days_by [] [] rj rk sj sk h = refl
 same_days_by [] (k ∷ ks) rj rk sj sk h = absurd (none_absurd k.traces (All-head HasTraces k ks sk) (sym (traces_same k.day k ks refl) ∙ sym (h k.day)))
 same_days_by (j ∷ js) [] rj rk sj sk h = absurd (none_absurd j.traces (All-head HasTraces j js sj) (sym (traces_same j.day j js refl) ∙ h j.day))
@@ -120,7 +120,7 @@ same_days_by (j ∷ js) (k ∷ ks) rj rk sj sk h = elim (cases_order j.day k.day
   | inl same ↦
       let traces : j.traces ≡ k.traces = sym (traces_same j.day j js refl) ∙ h j.day ∙ traces_same j.day k ks (sym same) in
       let head : j ≡ k = ap (λ i. kept_day i j.traces) same ∙ ap (kept_day k.day) traces in
-      let tails : (d : ℕ) → traces_of js d ≡ traces_of ks d = λ d. elim (cases_eq j.day d) [
+      let tails : (d : ℕ) → traces_kept_on js d ≡ traces_kept_on ks d = λ d. elim (cases_eq j.day d) [
         | inl at ↦ traces_above d js (subst (λ i. All (λ (x : KeptDay). i < x.day) js) at (pairs_head Below j js rj)) ∙ sym (traces_above d ks (subst (λ i. All (λ (x : KeptDay). i < x.day) ks) (sym same ∙ at) (pairs_head Below k ks rk)))
         | inr other ↦ sym (traces_other d j js other) ∙ h d ∙ traces_other d k ks (λ e. other (same ∙ e))
       ] in

@@ -4,7 +4,7 @@ use Rattle.std.proofs.lemmas.Bool.{cases_lt, cases_order, lt-ltb, le-ltb, eq-eqb
 use Rattle.std.proofs.lemmas.List.Elements.{All-nil, All-cons, All-head, All-tail, All-weaker}
 use Rattle.std.specs.List.{prefix_len}
 use Rattle.trace_types.specs.declared.named_trace.NamedTrace.{NamedTrace}
-use Rattle.day_partitions.specs.Books.{KeptDay, kept_day, all_traces, has_day, AreRising, with_traces}
+use Rattle.day_partitions.specs.Books.{KeptDay, kept_day, all_traces, has_day, AreRising, with_day_traces}
 
 -- ---- pairs of a list
 module _ {X : Type 0} (R : X → X → Type 0) where
@@ -37,14 +37,14 @@ place_next d k ks l = cond-true (nat_lt k.day d) (1 + place_of_day d ks) 0 (lt-l
 pub place_here : (d : ℕ) (k : KeptDay) (ks : List KeptDay) → d ≤ k.day → place_of_day d (k ∷ ks) ≡ 0
 place_here d k ks l = cond-false (nat_lt k.day d) (1 + place_of_day d ks) 0 (le-ltb k.day d l)
 
--- how `with_traces` goes by cases
-pub with_below : (d : ℕ) (ts : List NamedTrace) (k : KeptDay) (ks : List KeptDay) → k.day < d → with_traces d ts (k ∷ ks) ≡ k ∷ with_traces d ts ks
+-- how `with_day_traces` goes by cases
+pub with_below : (d : ℕ) (ts : List NamedTrace) (k : KeptDay) (ks : List KeptDay) → k.day < d → with_day_traces d ts (k ∷ ks) ≡ k ∷ with_day_traces d ts ks
 with_below d ts k ks l = cond-true (nat_lt k.day d) _ _ (lt-ltb k.day d l)
 
-pub with_same : (d : ℕ) (ts : List NamedTrace) (k : KeptDay) (ks : List KeptDay) → k.day ≡ d → with_traces d ts (k ∷ ks) ≡ kept_day d (k.traces ++ ts) ∷ ks
+pub with_same : (d : ℕ) (ts : List NamedTrace) (k : KeptDay) (ks : List KeptDay) → k.day ≡ d → with_day_traces d ts (k ∷ ks) ≡ kept_day d (k.traces ++ ts) ∷ ks
 with_same d ts k ks e = cond-false (nat_lt k.day d) _ _ (le-ltb k.day d (omega arith)) ∙ cond-true (k.day == d) _ _ (eq-eqb k.day d e)
 
-pub with_above : (d : ℕ) (ts : List NamedTrace) (k : KeptDay) (ks : List KeptDay) → d < k.day → with_traces d ts (k ∷ ks) ≡ kept_day d ts ∷ k ∷ ks
+pub with_above : (d : ℕ) (ts : List NamedTrace) (k : KeptDay) (ks : List KeptDay) → d < k.day → with_day_traces d ts (k ∷ ks) ≡ kept_day d ts ∷ k ∷ ks
 with_above d ts k ks l = cond-false (nat_lt k.day d) _ _ (le-ltb k.day d (omega arith)) ∙ cond-false (k.day == d) _ _ (ne_eqb k.day d (λ e. omega arith))
 
 -- the day stands at its place
@@ -60,7 +60,7 @@ pub stands_here : (d : ℕ) (k : KeptDay) (ks : List KeptDay) → d ≤ k.day �
 stands_here d k ks l h = ap (λ i. (get_or (k ∷ ks) i k).day) (sym (place_here d k ks l)) ∙ h.1 k
 
 -- a day that stands at its place gets more traces
-pub with_set : (d : ℕ) (ts : List NamedTrace) (ks : List KeptDay) → StandsAt d ks → (e : KeptDay) → with_traces d ts ks ≡ set ks (place_of_day d ks) (kept_day d ((get_or ks (place_of_day d ks) e).traces ++ ts))
+pub with_set : (d : ℕ) (ts : List NamedTrace) (ks : List KeptDay) → StandsAt d ks → (e : KeptDay) → with_day_traces d ts ks ≡ set ks (place_of_day d ks) (kept_day d ((get_or ks (place_of_day d ks) e).traces ++ ts))
 with_set d ts [] h e = absurd (omega (arith, h.0))
 with_set d ts (k ∷ ks) h e = elim (cases_lt k.day d) [
   | inl low ↦ let n = place_next d k ks low in
@@ -86,7 +86,7 @@ absent_here d k ks l h =
     omega arith
 
 -- a new day is inserted at its place
-pub with_insert : (d : ℕ) (ts : List NamedTrace) (ks : List KeptDay) → IsAbsent d ks → with_traces d ts ks ≡ insert ks (place_of_day d ks) (kept_day d ts)
+pub with_insert : (d : ℕ) (ts : List NamedTrace) (ks : List KeptDay) → IsAbsent d ks → with_day_traces d ts ks ≡ insert ks (place_of_day d ks) (kept_day d ts)
 with_insert d ts [] h = refl
 with_insert d ts (k ∷ ks) h = elim (cases_lt k.day d) [
   | inl low ↦ let n = place_next d k ks low in
@@ -128,24 +128,24 @@ has_absent d (k ∷ ks) r h = elim (cases_lt k.day d) [
 ]
 
 -- ---- what holds of each day
-pub all_with : (P : KeptDay → Type 0) (d : ℕ) (ts : List NamedTrace) (ks : List KeptDay) → All P ks → P (kept_day d ts) → ((k : KeptDay) → P k → k.day ≡ d → P (kept_day d (k.traces ++ ts))) → All P (with_traces d ts ks)
+pub all_with : (P : KeptDay → Type 0) (d : ℕ) (ts : List NamedTrace) (ks : List KeptDay) → All P ks → P (kept_day d ts) → ((k : KeptDay) → P k → k.day ≡ d → P (kept_day d (k.traces ++ ts))) → All P (with_day_traces d ts ks)
 all_with P d ts [] h new more = All-cons P (kept_day d ts) [] new (All-nil P)
 all_with P d ts (k ∷ ks) h new more =
     let here = All-head P k ks h in let rest = All-tail P k ks h in
     elim (cases_order k.day d) [
       | inl same ↦ subst (λ l. All P l) (sym (with_same d ts k ks same)) (All-cons P (kept_day d (k.traces ++ ts)) ks (more k here same) rest)
-      | inr (inl low) ↦ subst (λ l. All P l) (sym (with_below d ts k ks low)) (All-cons P k (with_traces d ts ks) here (all_with P d ts ks rest new more))
+      | inr (inl low) ↦ subst (λ l. All P l) (sym (with_below d ts k ks low)) (All-cons P k (with_day_traces d ts ks) here (all_with P d ts ks rest new more))
       | inr (inr high) ↦ subst (λ l. All P l) (sym (with_above d ts k ks high)) (All-cons P (kept_day d ts) (k ∷ ks) new h)
     ]
 
-pub rising_with : (d : ℕ) (ts : List NamedTrace) (ks : List KeptDay) → AreRising ks → AreRising (with_traces d ts ks)
+pub rising_with : (d : ℕ) (ts : List NamedTrace) (ks : List KeptDay) → AreRising ks → AreRising (with_day_traces d ts ks)
 rising_with d ts [] r = pairs_cons Below (kept_day d ts) [] (All-nil (Below (kept_day d ts))) (pairs_nil Below)
 rising_with d ts (k ∷ ks) r =
     let head = pairs_head Below k ks r in let rest = pairs_tail Below k ks r in
     elim (cases_order k.day d) [
       | inl same ↦ let new = kept_day d (k.traces ++ ts) in
           subst (λ l. AreRising l) (sym (with_same d ts k ks same)) (pairs_cons Below new ks (All-weaker (Below k) (Below new) (λ j h. omega arith) ks head) rest)
-      | inr (inl low) ↦ subst (λ l. AreRising l) (sym (with_below d ts k ks low)) (pairs_cons Below k (with_traces d ts ks) (all_with (Below k) d ts ks head low (λ j h e. low)) (rising_with d ts ks rest))
+      | inr (inl low) ↦ subst (λ l. AreRising l) (sym (with_below d ts k ks low)) (pairs_cons Below k (with_day_traces d ts ks) (all_with (Below k) d ts ks head low (λ j h e. low)) (rising_with d ts ks rest))
       | inr (inr high) ↦ let new = kept_day d ts in
           subst (λ l. AreRising l) (sym (with_above d ts k ks high)) (pairs_cons Below new (k ∷ ks) (All-cons (Below new) k ks high (All-weaker (Below k) (Below new) (λ j h. omega arith) ks head)) r)
     ]
@@ -157,20 +157,20 @@ total ks = length (all_traces ks)
 pub total_cons : (k : KeptDay) (ks : List KeptDay) → total (k ∷ ks) ≡ length k.traces + total ks
 total_cons k ks = length-append k.traces (all_traces ks)
 
-pub total_with : (d : ℕ) (ts : List NamedTrace) (ks : List KeptDay) → total (with_traces d ts ks) ≡ total ks + length ts
+pub total_with : (d : ℕ) (ts : List NamedTrace) (ks : List KeptDay) → total (with_day_traces d ts ks) ≡ total ks + length ts
 total_with d ts [] = total_cons (kept_day d ts) [] ∙ omega arith
 total_with d ts (k ∷ ks) = elim (cases_order k.day d) [
   | inl same ↦ ap total (with_same d ts k ks same) ∙ omega (arith, total_cons (kept_day d (k.traces ++ ts)) ks, total_cons k ks, length-append k.traces ts)
-  | inr (inl low) ↦ ap total (with_below d ts k ks low) ∙ omega (arith, total_cons k (with_traces d ts ks), total_cons k ks, total_with d ts ks)
+  | inr (inl low) ↦ ap total (with_below d ts k ks low) ∙ omega (arith, total_cons k (with_day_traces d ts ks), total_cons k ks, total_with d ts ks)
   | inr (inr high) ↦ ap total (with_above d ts k ks high) ∙ omega (arith, total_cons (kept_day d ts) (k ∷ ks))
 ]
 
 -- ---- how many days
-pub count_with : (d : ℕ) (ts : List NamedTrace) (ks : List KeptDay) → AreRising ks → length (with_traces d ts ks) ≡ (if has_day ks d then length ks else length ks + 1)
+pub count_with : (d : ℕ) (ts : List NamedTrace) (ks : List KeptDay) → AreRising ks → length (with_day_traces d ts ks) ≡ (if has_day ks d then length ks else length ks + 1)
 count_with d ts [] r = refl
 count_with d ts (k ∷ ks) r = elim (cases_order k.day d) [
   | inl same ↦ ap length (with_same d ts k ks same) ∙ sym (cond-true (has_day (k ∷ ks) d) (length (k ∷ ks)) (length (k ∷ ks) + 1) (has_here d k ks same))
-  | inr (inl low) ↦ ap length (with_below d ts k ks low) ∙ more (has_day ks d) (length ks) (length (with_traces d ts ks)) (count_with d ts ks (pairs_tail Below k ks r)) ∙ ap (λ b. cond b (length (k ∷ ks)) (length (k ∷ ks) + 1)) (sym (has_next d k ks (λ e. omega arith)))
+  | inr (inl low) ↦ ap length (with_below d ts k ks low) ∙ more (has_day ks d) (length ks) (length (with_day_traces d ts ks)) (count_with d ts ks (pairs_tail Below k ks r)) ∙ ap (λ b. cond b (length (k ∷ ks)) (length (k ∷ ks) + 1)) (sym (has_next d k ks (λ e. omega arith)))
   | inr (inr high) ↦ ap length (with_above d ts k ks high) ∙ (let s : suc (suc (length ks)) ≡ suc (length ks) + 1 = omega arith in s) ∙ sym (cond-false (has_day (k ∷ ks) d) (length (k ∷ ks)) (length (k ∷ ks) + 1) (has_next d k ks (λ e. omega arith) ∙ has_above d ks (above_all d k ks (omega arith) r)))
 ]
   where

@@ -4,7 +4,7 @@ use Rattle.std.proofs.lemmas.Bool.{cases_eq, cases_lt, cases_order, cases_Bool, 
 use Rattle.std.proofs.lemmas.List.{append-nil, map-append}
 use Rattle.std.proofs.lemmas.List.Elements.{All-nil, All-append, All-weaker, All-map, filter-append}
 use Rattle.trace_types.specs.declared.named_trace.NamedTrace.{NamedTrace}
-use Rattle.day_partitions.specs.Books.{KeptDay, kept_day, AreRising, traces_of, with_traces, without_day, newest}
+use Rattle.day_partitions.specs.Books.{KeptDay, kept_day, AreRising, traces_kept_on, with_day_traces, days_without, newest_days}
 use Rattle.day_partitions.specs.Kept.{DayCommand, Add, Drop, Keep, Taken, traces_taken_by, taken_traces, drops, is_dropped, kept_traces, kept_of}
 use Rattle.day_partitions.proofs.DayLemmas.{Below, with_below, with_same, with_above, above_all, pairs_tail}
 use Rattle.day_partitions.proofs.DropLemmas.{without_other, without_same, traces_other, traces_same, traces_above}
@@ -95,33 +95,33 @@ kept_of_next c cs d =
     ∙ ap (λ l. (if not (drops (kept_traces cs) c d) then kept_of cs d else []) ++ l) (now_of (length cs) d c)
 
 -- ---- the same of a list of days
-pub traces_with : (d : ℕ) (ts : List NamedTrace) (ks : List KeptDay) (e : ℕ) → AreRising ks → traces_of (with_traces d ts ks) e ≡ traces_of ks e ++ (if d == e then ts else [])
+pub traces_with : (d : ℕ) (ts : List NamedTrace) (ks : List KeptDay) (e : ℕ) → AreRising ks → traces_kept_on (with_day_traces d ts ks) e ≡ traces_kept_on ks e ++ (if d == e then ts else [])
 traces_with d ts [] e r = refl
 traces_with d ts (k ∷ ks) e r = elim (cases_order k.day d) [
-  | inl same ↦ ap (λ l. traces_of l e) (with_same d ts k ks same) ∙ elim (cases_eq d e) [
+  | inl same ↦ ap (λ l. traces_kept_on l e) (with_same d ts k ks same) ∙ elim (cases_eq d e) [
     | inl at ↦ traces_same e (kept_day d (k.traces ++ ts)) ks at ∙ ap (λ l. k.traces ++ l) (sym (cond-true (d == e) ts [] (eq-eqb d e at))) ∙ ap (λ l. l ++ (if d == e then ts else [])) (sym (traces_same e k ks (same ∙ at)))
-    | inr other ↦ traces_other e (kept_day d (k.traces ++ ts)) ks other ∙ sym (traces_other e k ks (λ h. other (sym same ∙ h))) ∙ sym (append-nil (traces_of (k ∷ ks) e)) ∙ ap (λ l. traces_of (k ∷ ks) e ++ l) (sym (cond-false (d == e) ts [] (ne_eqb d e other)))
+    | inr other ↦ traces_other e (kept_day d (k.traces ++ ts)) ks other ∙ sym (traces_other e k ks (λ h. other (sym same ∙ h))) ∙ sym (append-nil (traces_kept_on (k ∷ ks) e)) ∙ ap (λ l. traces_kept_on (k ∷ ks) e ++ l) (sym (cond-false (d == e) ts [] (ne_eqb d e other)))
   ]
-  | inr (inl low) ↦ ap (λ l. traces_of l e) (with_below d ts k ks low) ∙ elim (cases_eq k.day e) [
-    | inl at ↦ traces_same e k (with_traces d ts ks) at ∙ sym (append-nil k.traces) ∙ ap (λ l. k.traces ++ l) (sym (cond-false (d == e) ts [] (ne_eqb d e (λ h. omega arith)))) ∙ ap (λ l. l ++ (if d == e then ts else [])) (sym (traces_same e k ks at))
-    | inr other ↦ traces_other e k (with_traces d ts ks) other ∙ traces_with d ts ks e (pairs_tail Below k ks r) ∙ ap (λ l. l ++ (if d == e then ts else [])) (sym (traces_other e k ks other))
+  | inr (inl low) ↦ ap (λ l. traces_kept_on l e) (with_below d ts k ks low) ∙ elim (cases_eq k.day e) [
+    | inl at ↦ traces_same e k (with_day_traces d ts ks) at ∙ sym (append-nil k.traces) ∙ ap (λ l. k.traces ++ l) (sym (cond-false (d == e) ts [] (ne_eqb d e (λ h. omega arith)))) ∙ ap (λ l. l ++ (if d == e then ts else [])) (sym (traces_same e k ks at))
+    | inr other ↦ traces_other e k (with_day_traces d ts ks) other ∙ traces_with d ts ks e (pairs_tail Below k ks r) ∙ ap (λ l. l ++ (if d == e then ts else [])) (sym (traces_other e k ks other))
   ]
-  | inr (inr high) ↦ ap (λ l. traces_of l e) (with_above d ts k ks high) ∙ elim (cases_eq d e) [
+  | inr (inr high) ↦ ap (λ l. traces_kept_on l e) (with_above d ts k ks high) ∙ elim (cases_eq d e) [
     | inl at ↦ traces_same e (kept_day d ts) (k ∷ ks) at ∙ sym (cond-true (d == e) ts [] (eq-eqb d e at)) ∙ ap (λ l. l ++ (if d == e then ts else [])) (sym (traces_other e k ks (λ h. omega arith) ∙ traces_above e ks (subst (λ i. All (λ (j : KeptDay). i < j.day) ks) at (above_all d k ks (omega arith) r))))
-    | inr other ↦ traces_other e (kept_day d ts) (k ∷ ks) other ∙ sym (append-nil (traces_of (k ∷ ks) e)) ∙ ap (λ l. traces_of (k ∷ ks) e ++ l) (sym (cond-false (d == e) ts [] (ne_eqb d e other)))
+    | inr other ↦ traces_other e (kept_day d ts) (k ∷ ks) other ∙ sym (append-nil (traces_kept_on (k ∷ ks) e)) ∙ ap (λ l. traces_kept_on (k ∷ ks) e ++ l) (sym (cond-false (d == e) ts [] (ne_eqb d e other)))
   ]
 ]
 
-pub traces_without : (d : ℕ) (ks : List KeptDay) (e : ℕ) → traces_of (without_day d ks) e ≡ (if not (e == d) then traces_of ks e else [])
+pub traces_without : (d : ℕ) (ks : List KeptDay) (e : ℕ) → traces_kept_on (days_without d ks) e ≡ (if not (e == d) then traces_kept_on ks e else [])
 traces_without d [] e = sym (nil_either (not (e == d)))
 traces_without d (k ∷ ks) e = elim (cases_eq k.day d) [
-  | inl same ↦ ap (λ l. traces_of l e) (without_same d k ks same) ∙ traces_without d ks e ∙ elim (cases_eq e d) [
+  | inl same ↦ ap (λ l. traces_kept_on l e) (without_same d k ks same) ∙ traces_without d ks e ∙ elim (cases_eq e d) [
     | inl at ↦ cond-false (not (e == d)) _ _ (not_from_true (e == d) (eq-eqb e d at)) ∙ sym (cond-false (not (e == d)) _ _ (not_from_true (e == d) (eq-eqb e d at)))
     | inr other ↦ ap (λ l. if not (e == d) then l else []) (sym (traces_other e k ks (λ h. other (sym h ∙ same))))
   ]
-  | inr differs ↦ ap (λ l. traces_of l e) (without_other d k ks differs) ∙ elim (cases_eq k.day e) [
-    | inl at ↦ traces_same e k (without_day d ks) at ∙ sym (traces_same e k ks at) ∙ sym (cond-true (not (e == d)) _ _ (not_from_false (e == d) (ne_eqb e d (λ h. differs (at ∙ h)))))
-    | inr other ↦ traces_other e k (without_day d ks) other ∙ traces_without d ks e ∙ ap (λ l. if not (e == d) then l else []) (sym (traces_other e k ks other))
+  | inr differs ↦ ap (λ l. traces_kept_on l e) (without_other d k ks differs) ∙ elim (cases_eq k.day e) [
+    | inl at ↦ traces_same e k (days_without d ks) at ∙ sym (traces_same e k ks at) ∙ sym (cond-true (not (e == d)) _ _ (not_from_false (e == d) (ne_eqb e d (λ h. differs (at ∙ h)))))
+    | inr other ↦ traces_other e k (days_without d ks) other ∙ traces_without d ks e ∙ ap (λ l. if not (e == d) then l else []) (sym (traces_other e k ks other))
   ]
 ]
 
@@ -146,7 +146,7 @@ count_most e (k ∷ ks) = elim (cases_lt e k.day) [
 ]
 
 -- a day with as many days above it as are kept in all is not kept
-full_above : (e : ℕ) (ks : List KeptDay) → AreRising ks → length ks ≤ count_above e ks → traces_of ks e ≡ []
+full_above : (e : ℕ) (ks : List KeptDay) → AreRising ks → length ks ≤ count_above e ks → traces_kept_on ks e ≡ []
 full_above e [] r h = refl
 full_above e (k ∷ ks) r h = elim (cases_lt e k.day) [
   | inl l ↦ traces_other e k ks (λ s. omega arith) ∙ traces_above e ks (above_all e k ks (omega arith) r)
@@ -156,32 +156,32 @@ full_above e (k ∷ ks) r h = elim (cases_lt e k.day) [
 if_gone : (b : Bool) (ts : List NamedTrace) → b ≡ false → (if b then ts else []) ≡ []
 if_gone b ts e = cond-false b ts [] e
 
-pub traces_newest : (n : ℕ) (ks : List KeptDay) (e : ℕ) → AreRising ks → traces_of (newest n ks) e ≡ (if not (nat_le n (count_above e ks)) then traces_of ks e else [])
+pub traces_newest : (n : ℕ) (ks : List KeptDay) (e : ℕ) → AreRising ks → traces_kept_on (newest_days n ks) e ≡ (if not (nat_le n (count_above e ks)) then traces_kept_on ks e else [])
 traces_newest n [] e r = nil_drop n ∙ sym (nil_either (not (nat_le n 0)))
   where
-    nil_drop : (m : ℕ) → traces_of (newest m []) e ≡ []
-    nil_drop m = (let z : 0 - m ≡ 0 = omega arith in ap (λ i. traces_of (drop i []) e) z)
+    nil_drop : (m : ℕ) → traces_kept_on (newest_days m []) e ≡ []
+    nil_drop m = (let z : 0 - m ≡ 0 = omega arith in ap (λ i. traces_kept_on (drop i []) e) z)
 traces_newest n (k ∷ ks) e r = elim (cases_lt (length ks) n) [
   | inl all ↦
       let zero_gap : length (k ∷ ks) - n ≡ 0 = omega arith in
-      ap (λ i. traces_of (drop i (k ∷ ks)) e) zero_gap ∙ elim (cases_lt (count_above e (k ∷ ks)) n) [
+      ap (λ i. traces_kept_on (drop i (k ∷ ks)) e) zero_gap ∙ elim (cases_lt (count_above e (k ∷ ks)) n) [
         | inl l ↦ sym (cond-true (not (nat_le n (count_above e (k ∷ ks)))) _ _ (not_from_false _ (lt-leb n (count_above e (k ∷ ks)) l)))
-        | inr l ↦ full_above e (k ∷ ks) r (omega arith) ∙ sym (if_gone _ (traces_of (k ∷ ks) e) (not_from_true _ (le-leb n (count_above e (k ∷ ks)) l)))
+        | inr l ↦ full_above e (k ∷ ks) r (omega arith) ∙ sym (if_gone _ (traces_kept_on (k ∷ ks) e) (not_from_true _ (le-leb n (count_above e (k ∷ ks)) l)))
       ]
   | inr some ↦
       let gap : length (k ∷ ks) - n ≡ suc (length ks - n) = omega arith in
       let rest = traces_newest n ks e (pairs_tail Below k ks r) in
-      ap (λ i. traces_of (drop i (k ∷ ks)) e) gap ∙ rest ∙ elim (cases_order e k.day) [
+      ap (λ i. traces_kept_on (drop i (k ∷ ks)) e) gap ∙ rest ∙ elim (cases_order e k.day) [
         | inl same ↦
             let above = above_all e k ks (omega arith) r in
             let c = count_all_above e ks above in let d = count_next e k ks (omega arith) in
-            if_gone _ (traces_of ks e) (not_from_true _ (le-leb n (count_above e ks) (omega arith))) ∙ sym (if_gone _ (traces_of (k ∷ ks) e) (not_from_true _ (le-leb n (count_above e (k ∷ ks)) (omega arith))))
+            if_gone _ (traces_kept_on ks e) (not_from_true _ (le-leb n (count_above e ks) (omega arith))) ∙ sym (if_gone _ (traces_kept_on (k ∷ ks) e) (not_from_true _ (le-leb n (count_above e (k ∷ ks)) (omega arith))))
         | inr (inl low) ↦
             let above = above_all e k ks (omega arith) r in
             let c = count_all_above e ks above in let d = count_here e k ks low in
-            if_gone _ (traces_of ks e) (not_from_true _ (le-leb n (count_above e ks) (omega arith))) ∙ sym (if_gone _ (traces_of (k ∷ ks) e) (not_from_true _ (le-leb n (count_above e (k ∷ ks)) (omega arith))))
+            if_gone _ (traces_kept_on ks e) (not_from_true _ (le-leb n (count_above e ks) (omega arith))) ∙ sym (if_gone _ (traces_kept_on (k ∷ ks) e) (not_from_true _ (le-leb n (count_above e (k ∷ ks)) (omega arith))))
         | inr (inr high) ↦
             let d = count_next e k ks (omega arith) in
-            ap (λ c. if not (nat_le n c) then traces_of ks e else []) (sym d) ∙ ap (λ l. if not (nat_le n (count_above e (k ∷ ks))) then l else []) (sym (traces_other e k ks (λ h. omega arith)))
+            ap (λ c. if not (nat_le n c) then traces_kept_on ks e else []) (sym d) ∙ ap (λ l. if not (nat_le n (count_above e (k ∷ ks))) then l else []) (sym (traces_other e k ks (λ h. omega arith)))
       ]
 ]

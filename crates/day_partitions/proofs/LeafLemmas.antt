@@ -6,7 +6,7 @@ use Rattle.std.proofs.lemmas.List.Sums.{sum_by-set}
 use Rattle.std.specs.Option.{option_map}
 use Rattle.std.specs.FinMap.{get, insert}
 use Rattle.word_rows.specs.Words.{full_words as full}
-use Rattle.row_pool.specs.Pools.{Pool, IsLive, row_at, with_row, with_taken, without_row}
+use Rattle.row_pool.specs.Pools.{Pool, IsLive, row_at, with_row, with_row_taken, without_row}
 use Rattle.day_partitions.specs.inner.Nodes.{id_at, owns_row, AreRows, AreMetBut, ChangesInner, leaf_rows}
 use Rattle.day_partitions.proofs.PoolLemmas.{row_at-kept, row_at-same, live-kept, live-insert_same, apart-new, get-insert_other, get-remove_other, len-insert_new, len-insert_old, len-remove_old}
 use Rattle.day_partitions.proofs.PlaceLemmas.{id_inner, id_leaf, id_last, own_inner, own_leaf, own_last}
@@ -100,7 +100,7 @@ weight o = cond (is_some o) 1 0
 -- ---- a missing leaf was given a row
 module _ (p : Pool) (nodes : List ℕ) (ls : List (Option ℕ)) (k x : ℕ) (words : List ℕ) where
   abbrev pub filled : Pool
-  filled = with_row (with_taken p x) x words
+  filled = with_row (with_row_taken p x) x words
 
   get_filled : (i : ℕ) → i ≢ x → get filled.rows i ≡ get p.rows i
   get_filled i other = get-insert_other (insert p.rows x (full p.width)) x words i other ∙ get-insert_other p.rows x (full p.width) i other
@@ -128,7 +128,7 @@ module _ (p : Pool) (nodes : List ℕ) (ls : List (Option ℕ)) (k x : ℕ) (wor
             ]
           ];
           long = λ n h. elim (cases_eq n l) [
-            | inl e ↦ ap (λ i. length (row_at filled i)) (ap (id_at nodes ms) e ∙ here) ∙ ap length (row_at-same (with_taken p x) x words) ∙ long
+            | inl e ↦ ap (λ i. length (row_at filled i)) (ap (id_at nodes ms) e ∙ here) ∙ ap length (row_at-same (with_row_taken p x) x words) ∙ long
             | inr e ↦ ap length (stays n h e) ∙ r.long n h
           ];
           blank = stays 129 (omega arith) (λ e. omega arith) ∙ r.blank;

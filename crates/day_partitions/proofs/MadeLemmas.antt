@@ -4,7 +4,7 @@ use Rattle.std.proofs.lemmas.Bool.{cases_lt}
 use Rattle.std.proofs.lemmas.List.{length_push, get_or_push, get_or_append_left}
 use Rattle.std.specs.FinMap.{get, insert, len}
 use Rattle.word_rows.specs.Words.{full_words as full}
-use Rattle.row_pool.specs.Pools.{Pool, IsLive, row_at, with_row, with_taken}
+use Rattle.row_pool.specs.Pools.{Pool, IsLive, row_at, with_row, with_row_taken}
 use Rattle.day_partitions.specs.inner.Nodes.{AreMade}
 use Rattle.day_partitions.proofs.PoolLemmas.{row_at-kept, row_at-same, row_at-other, live-with, live-insert_same, apart-new, len-insert_new}
 
@@ -45,7 +45,7 @@ made_with p ids w id m new =
     }
 
 -- one more row was taken
-pub made_more : (p q : Pool) (ids jds : List ℕ) (w id : ℕ) → IsMade p ids w → get p.rows id ≡ None → q ≡ with_taken p id → p.width ≡ w → jds ≡ ids ++ id ∷ [] → IsMade q jds w
+pub made_more : (p q : Pool) (ids jds : List ℕ) (w id : ℕ) → IsMade p ids w → get p.rows id ≡ None → q ≡ with_row_taken p id → p.width ≡ w → jds ≡ ids ++ id ∷ [] → IsMade q jds w
 made_more p q ids jds w id m new is width push =
     let h = made_with p ids w id m new in
     let rows : q.rows ≡ insert p.rows id (full w) = ap (λ r. r.rows) is ∙ ap (λ v. insert p.rows id (full v)) width in

@@ -6,9 +6,9 @@ use Rattle.std.proofs.lemmas.List.Elements.{All-append}
 use Rattle.pipeline_tests.specs.DaySheets.{SheetState}
 use Rattle.refute_tests.specs.Clearing.{HaveNamesBelow}
 use Rattle.trace_types.specs.declared.named_trace.NamedTrace.{NamedTrace}
-use Rattle.day_partitions.specs.Books.{KeptDay, kept_day, BookState, has_day, all_traces, AreRising, HasTraces, AreOfDay, IsBook, IsSheetOf, IsFull, with_traces, with_added}
+use Rattle.day_partitions.specs.Books.{KeptDay, kept_day, BookState, has_day, all_traces, AreRising, HasTraces, AreOfDay, IsBook, IsSheetOf, IsFull, with_day_traces, with_added}
 use Rattle.day_partitions.specs.inner.Trees.{TreeState, leaf_words}
-use Rattle.pipeline_tests.specs.Rows.{LackRefuted}
+use Rattle.refute_tests.specs.Survivors.{LackRefuted}
 use Rattle.day_partitions.specs.inner.Slots.{shown, shown_days, place_in_days, IsDayAt, HasLeaf, AreInSlots, IsSameDay, AreSameDays, HasTraceRoom}
 use Rattle.day_partitions.specs.declared.day.Day.{Day}
 use Rattle.day_partitions.proofs.DayLemmas.{all_with, rising_with, total_with, count_with}
@@ -107,7 +107,7 @@ book_added b day sheet k s not_full few =
       dated = all_with (λ (x : KeptDay). AreOfDay x.day x.traces) day ts b.days k.dated s.dated (λ x h e. All-append (λ (t : NamedTrace). t.day ≡ day) x.traces ts (subst (λ i. AreOfDay i x.traces) e h) s.dated);
       named = all_with (λ (x : KeptDay). All (HaveNamesBelow b.names) x.traces) day ts b.days k.named s.named (λ x h e. All-append (HaveNamesBelow b.names) x.traces ts h s.named);
       counted = omega (arith, few, total_with day ts b.days);
-      room = spare_room (has_day b.days day) (length b.days) b.spare (length (with_traces day ts b.days)) k.room (omega (arith, k.room)) (full_kept b day not_full) (count_with day ts b.days k.rising);
+      room = spare_room (has_day b.days day) (length b.days) b.spare (length (with_day_traces day ts b.days)) k.room (omega (arith, k.room)) (full_kept b day not_full) (count_with day ts b.days k.rising);
     }
 
 pub same_days : (ds : List Day) → AreSameDays ds ds

@@ -5,7 +5,7 @@ use Rattle.std.proofs.lemmas.List.{get_or-map, length-map, map-set, map-append, 
 use Rattle.std.proofs.lemmas.List.Elements.{Contains-get_or}
 use Rattle.std.specs.List.{prefix_len}
 use Rattle.trace_types.specs.declared.named_trace.NamedTrace.{NamedTrace}
-use Rattle.day_partitions.specs.Books.{KeptDay, kept_day, has_day, AreRising, with_traces}
+use Rattle.day_partitions.specs.Books.{KeptDay, kept_day, has_day, AreRising, with_day_traces}
 use Rattle.day_partitions.specs.inner.Trees.{TreeState}
 use Rattle.day_partitions.specs.inner.Slots.{shown, shown_days, place_in_days, IsDayAt, HasRoom, RoomAt, IsExtended, IsInserted, ChangesOnly}
 use Rattle.day_partitions.specs.declared.day.Day.{Day}
@@ -49,7 +49,7 @@ absent day n ds e h = λ k l same.
     h (inside, λ d. ap (λ (x : KeptDay). x.day) (sym (get_or-map shown ds n d k inside)) ∙ ap (λ i. (get_or (shown_days ds) i k).day) (sym at) ∙ same)
 
 -- ---- a day is extended
-pub shown_extended : (day n : ℕ) (ds es : List Day) (ts : List NamedTrace) → n ≡ place_in_days day ds → IsDayAt ds n day → IsExtended ds n ts es → shown_days es ≡ with_traces day ts (shown_days ds)
+pub shown_extended : (day n : ℕ) (ds es : List Day) (ts : List NamedTrace) → n ≡ place_in_days day ds → IsDayAt ds n day → IsExtended ds n ts es → shown_days es ≡ with_day_traces day ts (shown_days ds)
 shown_extended day n ds es ts e h x =
     let at : n ≡ place_of_day day (shown_days ds) = e ∙ sym (place_shown day ds) in
     let d = get_or ds n x.now in
@@ -66,7 +66,7 @@ map-insert : (ds : List Day) (n : ℕ) (d : Day) → shown_days (insert ds n d) 
 map-insert ds n d =
     map-append shown (take n ds) (d ∷ drop n ds) ∙ ap (λ l. l ++ (shown d ∷ shown_days (drop n ds))) (sym (take-map shown n ds)) ∙ ap (λ l. take n (shown_days ds) ++ (shown d ∷ l)) (sym (drop-map shown n ds))
 
-pub shown_inserted : (day n : ℕ) (ds es : List Day) (ts : List NamedTrace) → n ≡ place_in_days day ds → (IsDayAt ds n day → ⊥) → IsInserted ds n day ts es → shown_days es ≡ with_traces day ts (shown_days ds)
+pub shown_inserted : (day n : ℕ) (ds es : List Day) (ts : List NamedTrace) → n ≡ place_in_days day ds → (IsDayAt ds n day → ⊥) → IsInserted ds n day ts es → shown_days es ≡ with_day_traces day ts (shown_days ds)
 shown_inserted day n ds es ts e h x =
     let at : n ≡ place_of_day day (shown_days ds) = e ∙ sym (place_shown day ds) in
     let now : shown x.now ≡ kept_day day ts = ap (λ i. kept_day i x.now.traces.items) x.day_is ∙ ap (kept_day day) x.traces_are in

@@ -9,7 +9,7 @@ use Rattle.std.proofs.lemmas.List.Sums.{sum_by-set}
 use Rattle.trace_types.specs.declared.named_trace.NamedTrace.{NamedTrace}
 use Rattle.day_partitions.specs.inner.Trees.{TreeState, tree, IsMissing, IsMetLeaf, leaf_words}
 use Rattle.pipeline_tests.specs.DayLaws.{CommonLacks}
-use Rattle.pipeline_tests.specs.Rows.{LackRefuted}
+use Rattle.refute_tests.specs.Survivors.{LackRefuted}
 use Rattle.day_partitions.specs.inner.Slots.{HasLeaf, AreInSlots}
 use Rattle.day_partitions.specs.declared.day.Day.{Day}
 use Rattle.day_partitions.proofs.AnyLemmas.{any_head, any_tail, any_left, any_right, any_either, any_cases}

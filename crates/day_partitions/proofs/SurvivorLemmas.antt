@@ -9,7 +9,7 @@ use Rattle.trace_types.specs.Surviving.{IsRefuted}
 use Rattle.word_rows.specs.Words.{bit_of}
 use Rattle.day_partitions.specs.Books.{all_traces}
 use Rattle.day_partitions.specs.inner.Trees.{TreeState, AreCommon, leaf_bit, leaf_words}
-use Rattle.pipeline_tests.specs.Rows.{LackRefuted}
+use Rattle.refute_tests.specs.Survivors.{LackRefuted}
 use Rattle.day_partitions.specs.inner.Slots.{HasLeaf, AreInSlots, shown_days}
 use Rattle.day_partitions.specs.declared.day.Day.{Day}
 use Rattle.day_partitions.proofs.AnyLemmas.{any_of_days, days_of_any}

@@ -6,7 +6,7 @@ use Rattle.std.proofs.lemmas.List.{get_or-set_same, get_or-set_other, get_or_pas
 use Rattle.std.specs.Option.{option_map}
 use Rattle.std.specs.FinMap.{get}
 use Rattle.word_rows.specs.Words.{IsCommon}
-use Rattle.row_pool.specs.Pools.{Pool, row_at, with_row, with_taken, without_row}
+use Rattle.row_pool.specs.Pools.{Pool, row_at, with_row, with_row_taken, without_row}
 use Rattle.day_partitions.specs.inner.Trees.{TreeState, tree, IsMetLeaf, leaf_words}
 use Rattle.day_partitions.specs.inner.Nodes.{id_at, owns_row, AreRows, AreMetBut, ChangesInner, IsTree, leaf_rows, tree_of}
 use Rattle.day_partitions.proofs.PoolLemmas.{row_at-same}
@@ -52,12 +52,12 @@ changed_by p q nodes jds ls ms k v below t h width e =
     }
 
 module _ (p q : Pool) (nodes : List ℕ) (ls ms : List (Option ℕ)) (k : ℕ) (t : IsTree p nodes ls) (below : k < 64) where
-  pub put_is : (s : Pool) (x : ℕ) (words : List ℕ) → get_or ls k None ≡ None → get p.rows x ≡ None → length words ≡ p.width → s ≡ with_taken p x → q ≡ with_row s x words → ms ≡ set ls k (Some x) → IsChanged p ls k (Some words) q nodes ms
+  pub put_is : (s : Pool) (x : ℕ) (words : List ℕ) → get_or ls k None ≡ None → get p.rows x ≡ None → length words ≡ p.width → s ≡ with_row_taken p x → q ≡ with_row s x words → ms ≡ set ls k (Some x) → IsChanged p ls k (Some words) q nodes ms
   put_is s x words none new long es e em =
       let f = filled p nodes ls k x words in
       let h = leaf_put p nodes ls k x words t.rows below none new long in
       let at : option_map (row_at f) (get_or (set ls k (Some x)) k None) ≡ Some words =
-      ap (option_map (row_at f)) (get_or-set_same ls k (Some x) None (omega (arith, t.rows.all_leaves))) ∙ ap Some (row_at-same (with_taken p x) x words) in
+      ap (option_map (row_at f)) (get_or-set_same ls k (Some x) None (omega (arith, t.rows.all_leaves))) ∙ ap Some (row_at-same (with_row_taken p x) x words) in
       let is : q ≡ f = e ∙ ap (λ r. with_row r x words) es in
       subst (λ m. IsChanged p ls k (Some words) q nodes m) (sym em) (subst (λ r. IsChanged p ls k (Some words) r nodes (set ls k (Some x))) (sym is)
       (changed_by p f nodes nodes ls (set ls k (Some x)) k (Some words) below t h refl at))

@@ -11,7 +11,7 @@ use Rattle.word_rows.specs.Words.{widened_words as widened}
 use Rattle.day_partitions.specs.Books.{KeptDay, BookState, IsBook, with_names}
 use Rattle.day_partitions.specs.inner.Trees.{TreeState, leaf_words, widened_tree}
 use Rattle.pipeline_tests.specs.DayLaws.{WidenedLacks}
-use Rattle.pipeline_tests.specs.Rows.{LackRefuted}
+use Rattle.refute_tests.specs.Survivors.{LackRefuted}
 use Rattle.day_partitions.specs.inner.Slots.{shown, shown_days, HasLeaf, AreInSlots}
 use Rattle.day_partitions.specs.declared.day.Day.{Day}
 use Rattle.day_partitions.proofs.SurvivorLemmas.{some_leaf}

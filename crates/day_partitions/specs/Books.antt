@@ -32,9 +32,9 @@ abbrev pub all_traces : List KeptDay → List NamedTrace
 all_traces days = flat_map (λ k. k.traces) days
 
 -- the traces of one day, none where it is not kept
-abbrev pub traces_of : List KeptDay → ℕ → List NamedTrace
-traces_of [] day = []
-traces_of (k ∷ ks) day = if k.day == day then k.traces else traces_of ks day
+abbrev pub traces_kept_on : List KeptDay → ℕ → List NamedTrace
+traces_kept_on [] day = []
+traces_kept_on (k ∷ ks) day = if k.day == day then k.traces else traces_kept_on ks day
 
 -- the day is kept
 abbrev pub has_day : List KeptDay → ℕ → Bool
@@ -75,25 +75,25 @@ abbrev pub IsFull : BookState → ℕ → Type 0
 IsFull b day = (length b.days ≡ 64) × (has_day b.days day ≡ false)
 
 -- the traces follow those of their day; a new day stands in its place by number
-abbrev pub with_traces : ℕ → List NamedTrace → List KeptDay → List KeptDay
-with_traces day traces [] = kept_day day traces ∷ []
-with_traces day traces (k ∷ ks) =
-    if nat_lt k.day day then k ∷ with_traces day traces ks
+abbrev pub with_day_traces : ℕ → List NamedTrace → List KeptDay → List KeptDay
+with_day_traces day traces [] = kept_day day traces ∷ []
+with_day_traces day traces (k ∷ ks) =
+    if nat_lt k.day day then k ∷ with_day_traces day traces ks
     else (if k.day == day then kept_day day (k.traces ++ traces) ∷ ks
     else kept_day day traces ∷ k ∷ ks)
 
 -- the days but this one
-abbrev pub without_day : ℕ → List KeptDay → List KeptDay
-without_day day days = filter (λ k. not (k.day == day)) days
+abbrev pub days_without : ℕ → List KeptDay → List KeptDay
+days_without day days = filter (λ k. not (k.day == day)) days
 
 -- the last n of the days, or all where they are fewer
-abbrev pub newest : ℕ → List KeptDay → List KeptDay
-newest n days = drop (length days - n) days
+abbrev pub newest_days : ℕ → List KeptDay → List KeptDay
+newest_days n days = drop (length days - n) days
 
 -- the book with more traces of a day; a new day takes a spare row, where there is one
 abbrev pub with_added : BookState → ℕ → List NamedTrace → BookState
 with_added b day traces =
-    book (with_traces day traces b.days) b.names
+    book (with_day_traces day traces b.days) b.names
     (if has_day b.days day then b.spare else b.spare - 1)
 
 -- the book with other days, where each dropped day leaves a spare row

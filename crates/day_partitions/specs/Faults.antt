@@ -6,6 +6,6 @@ use Rattle.day_partitions.specs.declared.book_fault.BookFault.TheVariants.{Memor
 use Rattle.day_partitions.specs.Books.{BookState, IsFull}
 
 -- the sheet comes back, and there would be 65 days exactly where they are too many
-abbrev pub IsFault : BookState → ℕ → SheetState → BookFault → Type 0
-IsFault b day sheet (Memory s) = (s ≡ sheet) × (IsFull b day → ⊥)
-IsFault b day sheet (TooManyDays s days) = (s ≡ sheet) × IsFull b day × (days ≡ 65)
+abbrev pub IsBookFault : BookState → ℕ → SheetState → BookFault → Type 0
+IsBookFault b day sheet (Memory s) = (s ≡ sheet) × (IsFull b day → ⊥)
+IsBookFault b day sheet (TooManyDays s days) = (s ≡ sheet) × IsFull b day × (days ≡ 65)

@@ -4,8 +4,8 @@ use Rattle.std.specs.Prelude.{◌≡◌, ℕ, ◌<◌, Bool, false, not, ◌&&�
 use Rattle.std.specs.Prelude.{if◌then◌else◌, List, [], ◌∷◌, ◌++◌, length, map, filter, All}
 use Rattle.std.specs.List.{list_any}
 use Rattle.trace_types.specs.declared.named_trace.NamedTrace.{NamedTrace}
-use Rattle.day_partitions.specs.Books.{KeptDay, AreRising, HasTraces, traces_of, with_traces}
-use Rattle.day_partitions.specs.Books.{without_day, newest}
+use Rattle.day_partitions.specs.Books.{KeptDay, AreRising, HasTraces, traces_kept_on, with_day_traces}
+use Rattle.day_partitions.specs.Books.{days_without, newest_days}
 
 -- traces are added to a day, a day is dropped, or all but so many of the newest days are
 pub data DayCommand : Type 0 where
@@ -38,15 +38,15 @@ distinct_numbers (n ∷ ns) =
     if list_any (λ m. m == n) ns then distinct_numbers ns else n ∷ distinct_numbers ns
 
 -- how many different days greater than this one the traces have
-abbrev pub greater_days : List Taken → ℕ → ℕ
-greater_days traces day =
+abbrev pub greater_days_taken : List Taken → ℕ → ℕ
+greater_days_taken traces day =
     length (distinct_numbers (filter (λ d. nat_lt day d) (map (λ (t : Taken). t.day) traces)))
 
 -- the command drops the day, where these are the traces that are kept just before
 abbrev pub drops : List Taken → DayCommand → ℕ → Bool
 drops kept (Add d traces) day = false
 drops kept (Drop d) day = day == d
-drops kept (Keep n) day = nat_le n (greater_days kept day)
+drops kept (Keep n) day = nat_le n (greater_days_taken kept day)
 
 -- one of the commands, the last first, came after the one that took the trace, and dropped its day
 abbrev pub is_dropped : List DayCommand → Taken → Bool
@@ -69,7 +69,7 @@ kept_of commands day =
 pub record AreKept (days : List KeptDay) (commands : List DayCommand) : Type 0 where
   pub rising : AreRising days
   pub some : All HasTraces days
-  pub traces : (day : ℕ) → traces_of days day ≡ kept_of commands day
+  pub traces : (day : ℕ) → traces_kept_on days day ≡ kept_of commands day
 
 -- an add has at least one trace
 abbrev pub AddsSome : DayCommand → Type 0
@@ -79,9 +79,9 @@ AddsSome (Keep n) = Unit {0}
 
 -- the days after one more command, as the calls of a book say
 abbrev pub days_after : List KeptDay → DayCommand → List KeptDay
-days_after days (Add day traces) = with_traces day traces days
-days_after days (Drop day) = without_day day days
-days_after days (Keep n) = newest n days
+days_after days (Add day traces) = with_day_traces day traces days
+days_after days (Drop day) = days_without day days
+days_after days (Keep n) = newest_days n days
 
 -- a book without days has kept nothing
 abbrev pub NothingIsKept : Type 0

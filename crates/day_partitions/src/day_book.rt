@@ -59,9 +59,11 @@ impl DayBook {
     ghost use Rattle.day_partitions.specs.Batches.{with_all, AreAllNew, AreSheetsFor, HasRoomFor};
     ghost use Rattle.day_partitions.specs.Batches.{IsBatchFault};
     ghost use Rattle.day_partitions.specs.Books.{all_traces, book, has_day, with_added, IsBook};
-    ghost use Rattle.day_partitions.specs.Books.{newest, traces_of, with_fewer, without_day};
+    ghost use Rattle.day_partitions.specs.Books.{days_without, newest_days, traces_kept_on};
+    ghost use Rattle.day_partitions.specs.Books.{with_fewer};
     ghost use Rattle.day_partitions.specs.Books.{with_names, with_spare_days, IsFull, IsSheetOf};
-    ghost use Rattle.day_partitions.specs.Faults.{IsFault};
+    ghost use Rattle.day_partitions.specs.Faults.{IsBookFault};
+    ghost use Rattle.day_partitions.specs.Meets.{meets_of_add, meets_of_drop};
 
     /// Makes a book without days, for so many names. It takes the memory for the rows of the tree
     /// besides its leaves, and room for 64 days.
@@ -131,7 +133,8 @@ impl DayBook {
     }
 
     /// Adds the sheet of a day: its traces follow those of the day, and a new day stands in its
-    /// place. After an error the book is unchanged. It meets rows at most 7 times.
+    /// place. After an error the book is unchanged, and nothing was counted. It meets seven rows
+    /// where the day is kept, and else six.
     pub fn add_counted<L: Ledger>(
         &mut self,
         day: u32,
@@ -142,12 +145,13 @@ impl DayBook {
         requires counted { length (all_traces self.old.days) + length sheet.traces < 2 ^ 32 }
         ensures added { OnOk result (self.new ≡ with_added self.old day sheet.traces) }
         ensures fits { OnOk result (IsFull self.old day → ⊥) }
-        ensures fault { IfErr result (IsFault self.old day sheet) }
+        ensures fault { IfErr result (IsBookFault self.old day sheet) }
         ensures unchanged { OnErr result (self.new ≡ self.old) }
 
         // A spare row is all that a new day needs.
         ensures sure { self.old.spare ≢ 0 → has_day self.old.days day ≡ false → IsOk result }
-        ensures steps { steps.new ≤ steps.old + 7 }
+        ensures steps { OnOk result (steps.new ≡ steps.old + meets_of_add self.old.days day) }
+        ensures uncounted { OnErr result (steps.new ≡ steps.old) }
     {
         if is_full(&self.days, day) {
             return Err(BookFault::TooManyDays { sheet, days: 65 });
@@ -166,7 +170,7 @@ impl DayBook {
         requires counted { length (all_traces self.old.days) + length sheet.traces < 2 ^ 32 }
         ensures added { OnOk result (self.new ≡ with_added self.old day sheet.traces) }
         ensures fits { OnOk result (IsFull self.old day → ⊥) }
-        ensures fault { IfErr result (IsFault self.old day sheet) }
+        ensures fault { IfErr result (IsBookFault self.old day sheet) }
         ensures unchanged { OnErr result (self.new ≡ self.old) }
         ensures sure { self.old.spare ≢ 0 → has_day self.old.days day ≡ false → IsOk result }
     {
@@ -186,7 +190,7 @@ impl DayBook {
         requires counted { length (all_traces self.old.days) + length sheet.traces < 2 ^ 32 }
         ensures added { OnOk result (self.new ≡ with_added self.old day sheet.traces) }
         ensures fits { OnOk result (IsFull self.old day → ⊥) }
-        ensures fault { IfErr result (IsFault self.old day sheet) }
+        ensures fault { IfErr result (IsBookFault self.old day sheet) }
         ensures unchanged { OnErr result (self.new ≡ self.old) }
         ensures sure { self.old.spare ≢ 0 → has_day self.old.days day ≡ false → IsOk result }
     {
@@ -195,11 +199,12 @@ impl DayBook {
     }
 
     /// Drops a day with all its traces, and tells how many there were: 0 where the day is not
-    /// kept. A dropped day leaves a spare row. It takes no memory, and meets rows at most 6 times.
+    /// kept. A dropped day leaves a spare row. It takes no memory, and meets six rows, or none
+    /// where the day is not kept.
     pub fn drop_counted<L: Ledger>(&mut self, day: u32, steps: &mut Steps<L>) -> u32
-        ensures dropped { self.new ≡ with_fewer self.old (without_day day self.old.days) }
-        ensures count { result ≡ length (traces_of self.old.days day) }
-        ensures steps { steps.new ≤ steps.old + 6 }
+        ensures dropped { self.new ≡ with_fewer self.old (days_without day self.old.days) }
+        ensures count { result ≡ length (traces_kept_on self.old.days day) }
+        ensures steps { steps.new ≡ steps.old + meets_of_drop self.old.days day }
     {
         let place = find_place(&self.days, day);
         if !is_day_at(&self.days, place, day) {
@@ -210,8 +215,8 @@ impl DayBook {
 
     /// Drops a day with all its traces, as `drop_counted` does.
     pub fn drop_day(&mut self, day: u32) -> u32
-        ensures dropped { self.new ≡ with_fewer self.old (without_day day self.old.days) }
-        ensures count { result ≡ length (traces_of self.old.days day) }
+        ensures dropped { self.new ≡ with_fewer self.old (days_without day self.old.days) }
+        ensures count { result ≡ length (traces_kept_on self.old.days day) }
     {
         self.drop_from::<Brand>(day, Blank::new(1))
     }
@@ -220,8 +225,8 @@ impl DayBook {
     fn drop_from<L: Ledger>(&mut self, day: u32, blank: Blank) -> u32
         requires name { blank.name ≡ L.name }
         requires parts { (blank.parts ≡ L.parts) × (0 < L.parts) }
-        ensures dropped { self.new ≡ with_fewer self.old (without_day day self.old.days) }
-        ensures count { result ≡ length (traces_of self.old.days day) }
+        ensures dropped { self.new ≡ with_fewer self.old (days_without day self.old.days) }
+        ensures count { result ≡ length (traces_kept_on self.old.days day) }
     {
         let mut steps = Steps::<L>::new(blank);
         self.drop_counted(day, &mut steps)
@@ -230,7 +235,7 @@ impl DayBook {
     /// Drops all days but the last so many, and tells how many traces they had. Each dropped day
     /// leaves a spare row. It takes no memory.
     pub fn keep_newest(&mut self, days: u32) -> u32
-        ensures kept { self.new ≡ with_fewer self.old (newest days self.old.days) }
+        ensures kept { self.new ≡ with_fewer self.old (newest_days days self.old.days) }
         ensures count { result + length (all_traces self.new.days)
             ≡ length (all_traces self.old.days) }
     {
@@ -241,7 +246,7 @@ impl DayBook {
     fn keep_from<L: Ledger>(&mut self, days: u32, blank: Blank) -> u32
         requires name { blank.name ≡ L.name }
         requires parts { (blank.parts ≡ L.parts) × (0 < L.parts) }
-        ensures kept { self.new ≡ with_fewer self.old (newest days self.old.days) }
+        ensures kept { self.new ≡ with_fewer self.old (newest_days days self.old.days) }
         ensures count { result + length (all_traces self.new.days)
             ≡ length (all_traces self.old.days) }
     {
@@ -261,12 +266,14 @@ impl DayBook {
     }
 
     /// Makes the book one of so many names, at least as many as before: the words grow, with all
-    /// new bits 1. The only error is that memory ran out.
+    /// new bits 1. The only error is that memory ran out, and there is none where the words stay as
+    /// many.
     pub fn widen(&mut self, names: u32) -> Result<(), AllocError>
         requires more { self.old.names ≤ names }
         requires most { names ≤ 512 }
         ensures ok { OnOk result (self.new ≡ with_names self.old names) }
         ensures err { OnErr result (self.new ≡ self.old) }
+        ensures sure { width_of names ≡ width_of self.old.names → IsOk result }
     {
         pairs_follow();
         widened_lacks();

@@ -1,7 +1,8 @@
 //! A day's sheet is taken into the tree and the list of days, for which there is room.
 ghost use Rattle.std.specs.Prelude.{◌≡◌, ◌≢◌, ◌+◌, ◌-◌, ◌<◌, ◌≤◌, ◌⊎◌, length, All, Contains};
 ghost use Rattle.std.specs.Prelude.{if◌then◌else◌, vec_capacity};
-ghost use Rattle.day_partitions.specs.Books.{AreRising, has_day, with_traces};
+ghost use Rattle.day_partitions.specs.Books.{AreRising, has_day, with_day_traces};
+ghost use Rattle.day_partitions.specs.Meets.{meets_of_add};
 ghost use Rattle.day_partitions.specs.inner.Slots.{AreInSlots, ChangesOnly, HasRoom, IsExtended};
 ghost use Rattle.day_partitions.specs.inner.Slots.{IsInserted, RoomAt, shown_days};
 
@@ -87,13 +88,13 @@ pub(crate) fn take_in<L: Ledger>(
     requires capacity { 64 ≤ vec_capacity days.old }
     ensures slots { AreInSlots tree.new days.new.items }
     ensures days { shown_days days.new.items
-        ≡ with_traces day sheet.traces (shown_days days.old.items) }
+        ≡ with_day_traces day sheet.traces (shown_days days.old.items) }
     ensures width { tree.new.width ≡ tree.old.width }
     ensures spare { tree.new.spare ≡ (if has_day (shown_days days.old.items) day
         then tree.old.spare else tree.old.spare - 1) }
     ensures others { ChangesOnly day days.old.items days.new.items }
     ensures capacity { 64 ≤ vec_capacity days.new }
-    ensures steps { steps.new ≤ steps.old + 7 }
+    ensures steps { steps.new ≡ steps.old + meets_of_add (shown_days days.old.items) day }
 {
     let place = find_place(days, day);
     if is_day_at(days, place, day) {

@@ -138,12 +138,13 @@ impl Tree {
     }
 
     /// Makes all rows wider, with full words after their own. The only error is that memory ran
-    /// out.
+    /// out, and there is none where the width stays.
     pub(crate) fn widen(&mut self, width: u32) -> Result<(), AllocError>
         requires { self.old.width ≤ width }
         ensures ok { OnOk result (self.new
             ≡ widened_tree self.old width (width - self.old.width)) }
         ensures err { OnErr result (self.new ≡ self.old) }
+        ensures sure { width ≡ self.old.width → IsOk result }
     {
         self.pool.new_width(width)
     }

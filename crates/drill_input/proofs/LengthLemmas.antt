@@ -4,7 +4,7 @@ use Rattle.std.proofs.lemmas.Fmt.{length-decimal-le}
 use Rattle.std.proofs.lemmas.List.{length-append}
 use Rattle.std.specs.List.{flat_map, range_with_len}
 use Rattle.drill_input.specs.Draws.{draw}
-use Rattle.drill_input.specs.DrillInput.{Line, drill_input, line_of, lines_of, start_of, text_member, trace_of}
+use Rattle.drill_input.specs.DrillInput.{Line, drill_input, line_of, lines_of, trace_start, text_member, lines_of_trace}
 use Rattle.drill_input.specs.InputLaws.{InputIsShort}
 use Rattle.drill_input.proofs.LineLemmas.{line_of_pieces}
 
@@ -100,12 +100,12 @@ all_short b d1 d2 d3 d4 d5 h h1 h2 h3 h4 h5 =
 
 -- a trace is short
 draws_short : (k d1 d2 d3 d4 d5 : ℕ) → k < 20000 → d1 < 1000 → d2 < 1000 → d3 < 1000 → d4 < 1000 → d5 < 1000
-    → length (flat_map (line_of k) (lines_of (start_of k) d1 d2 d3 d4 d5)) ≤ 3300
+    → length (flat_map (line_of k) (lines_of (trace_start k) d1 d2 d3 d4 d5)) ≤ 3300
 unfolding lines_of
 draws_short k d1 d2 d3 d4 d5 lt h1 h2 h3 h4 h5 =
-    lines_short k (lines_of (start_of k) d1 d2 d3 d4 d5) lt (all_short (start_of k) d1 d2 d3 d4 d5 (omega arith) h1 h2 h3 h4 h5)
+    lines_short k (lines_of (trace_start k) d1 d2 d3 d4 d5) lt (all_short (trace_start k) d1 d2 d3 d4 d5 (omega arith) h1 h2 h3 h4 h5)
 
-trace_short : (number k : ℕ) → k < 20000 → length (trace_of number k) ≤ 3300
+trace_short : (number k : ℕ) → k < 20000 → length (lines_of_trace number k) ≤ 3300
 trace_short number k lt =
     draws_short k _ _ _ _ _ lt (draw_small number _) (draw_small number _) (draw_small number _) (draw_small number _) (draw_small number _)
 
@@ -121,7 +121,7 @@ texts_short f a (suc n) bound each le =
 pub input_short : InputIsShort
 input_short number traces le =
     let short : length (drill_input number traces) ≤ 3300 * traces =
-    texts_short (trace_of number) 0 traces 20000 (trace_short number) (omega arith) in
+    texts_short (lines_of_trace number) 0 traces 20000 (trace_short number) (omega arith) in
     omega arith
 
 pub short_input : (number traces : ℕ) (bytes : List ℕ) → traces ≤ 20000 → bytes ≡ drill_input number traces → length bytes ≤ 67108864

@@ -5,8 +5,8 @@ use Rattle.std.specs.List.{flat_map, join_with_byte, range_with_len}
 use Rattle.drill_input.specs.Draws.{draw}
 
 -- when a trace starts: a second after the one before it, and a thousand of them a day
-abbrev pub start_of : ℕ → ℕ
-start_of k = (19800 + k / 1000) * 86400000000 + (k % 1000) * 1000000
+abbrev pub trace_start : ℕ → ℕ
+trace_start k = (19800 + k / 1000) * 86400000000 + (k % 1000) * 1000000
 
 -- a member of an object whose value is a text, and one whose value is a number
 abbrev pub text_member : List ℕ → List ℕ → List ℕ
@@ -71,8 +71,8 @@ line_of k line = codes "{" ++ join_with_byte 44 (
     ∷ line.message) ++ codes "}\n"
 
 -- the lines of the trace with this index, from 0, by draws from a number: five for each trace
-abbrev pub trace_of : ℕ → ℕ → List ℕ
-trace_of number k = flat_map (line_of k) (lines_of (start_of k)
+abbrev pub lines_of_trace : ℕ → ℕ → List ℕ
+lines_of_trace number k = flat_map (line_of k) (lines_of (trace_start k)
     (draw number (5 * k))
     (draw number (5 * k + 1))
     (draw number (5 * k + 2))
@@ -81,4 +81,4 @@ trace_of number k = flat_map (line_of k) (lines_of (start_of k)
 
 -- the input of this many traces by draws from a number
 abbrev pub drill_input : ℕ → ℕ → List ℕ
-drill_input number traces = flat_map (trace_of number) (range_with_len 0 traces)
+drill_input number traces = flat_map (lines_of_trace number) (range_with_len 0 traces)

@@ -1,5 +1,5 @@
 ghost use Rattle.std.specs.Prelude.{◌≡◌};
-ghost use Rattle.drill_input.specs.Draws.{draw, drawn, next_state, state_after};
+ghost use Rattle.drill_input.specs.Draws.{draw, drawn, next_draw_state, draw_state_after};
 
 use crate::trace_draws::TraceDraws;
 use std::marker::Model;
@@ -28,7 +28,7 @@ impl DrawSequence {
 
     /// Draws a number below 1000.
     pub(crate) fn draw(&mut self) -> u32
-        ensures state { self.new ≡ next_state self.old }
+        ensures state { self.new ≡ next_draw_state self.old }
         ensures value { result ≡ drawn self.new }
     {
         let state = (u64::from(self.state) * 1_103_515_245 + 12_345) % 2_147_483_648;
@@ -38,7 +38,7 @@ impl DrawSequence {
 
     /// Draws the five numbers of a trace.
     pub(crate) fn draw_trace(&mut self) -> TraceDraws
-        ensures state { self.new ≡ state_after self.old 5 }
+        ensures state { self.new ≡ draw_state_after self.old 5 }
         ensures d1 { result.d1 ≡ draw self.old 0 }
         ensures d2 { result.d2 ≡ draw self.old 1 }
         ensures d3 { result.d3 ≡ draw self.old 2 }

@@ -1,6 +1,6 @@
 ghost use Rattle.std.specs.Prelude.{◌≡◌, ◌≤◌, ◌++◌, length, OnOk, IfOk};
 ghost use Rattle.std.specs.List.{flat_map};
-ghost use Rattle.drill_input.specs.DrillInput.{drill_input, line_of, lines_of, start_of};
+ghost use Rattle.drill_input.specs.DrillInput.{drill_input, line_of, lines_of, trace_start};
 
 use crate::draw_sequence::DrawSequence;
 use crate::line_bytes::put_line;
@@ -24,7 +24,7 @@ fn put_lines(bytes: &mut Vec<u8>, index: u32, lines: &[TraceLine]) -> Result<(),
 /// Appends the lines of the trace with this index, by its draws.
 fn put_trace(bytes: &mut Vec<u8>, index: u32, draws: TraceDraws) -> Result<(), AllocError>
     ensures { OnOk result (bytes.new.items ≡ bytes.old.items ++ flat_map (line_of index)
-        (lines_of (start_of index) draws.d1 draws.d2 draws.d3 draws.d4 draws.d5)) }
+        (lines_of (trace_start index) draws.d1 draws.d2 draws.d3 draws.d4 draws.d5)) }
 {
     let lines = trace_lines(start_time(index), draws);
     put_lines(bytes, index, &lines)

@@ -1,5 +1,5 @@
 ghost use Rattle.std.specs.Prelude.{◌≡◌, ◌<◌, ◌^◌};
-ghost use Rattle.drill_input.specs.DrillInput.{lines_of, start_of};
+ghost use Rattle.drill_input.specs.DrillInput.{lines_of, trace_start};
 
 use crate::trace_draws::TraceDraws;
 use crate::trace_line::Message::{Absent, Received, Sent};
@@ -7,7 +7,7 @@ use crate::trace_line::TraceLine;
 
 /// Returns when the trace with this index starts, in microseconds.
 pub(crate) fn start_time(index: u32) -> u64
-    ensures value { result ≡ start_of index }
+    ensures value { result ≡ trace_start index }
     ensures small { result < 2 ^ 63 }
 {
     (19_800 + u64::from(index / 1_000)) * 86_400_000_000 + u64::from(index % 1_000) * 1_000_000

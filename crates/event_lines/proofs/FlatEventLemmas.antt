@@ -7,9 +7,9 @@ use Rattle.event_lines.specs.declared.line.Line.{Line}
 use Rattle.event_lines.specs.declared.why.Why.{Why}
 use Rattle.event_lines.specs.declared.why.Why.TheVariants.{NotJson}
 use Rattle.event_lines.specs.LineResults.{line_result, value_result, control_line_result, event_line_result}
-use Rattle.event_lines.specs.inner.Fields.{AreFields}
+use Rattle.event_lines.specs.inner.Fields.{AreEventFields}
 use Rattle.event_lines.specs.inner.FlatObjects.{IsEventLine}
-use Rattle.event_lines.specs.inner.Readings.{IsAdded}
+use Rattle.event_lines.specs.inner.Readings.{IsLineAdded}
 
 -- what its fields say is what the line says
 said_by_fields : (n : ℕ) (line : List ℕ) (f : EventFields) (h : IsEventLine line f) → event_line_result n (object h.members) ≡ line_result n line
@@ -21,6 +21,6 @@ said_by_fields n line f h =
 
 -- what is appended by its fields is what the line says
 pub added_by_fields : (n : ℕ) (line : List ℕ) (f : EventFields) (old new : List Line) (added : Result (Unit {0}) Why) → IsEventLine line f
-    → ((d : Data) → AreFields f d → IsAdded (event_line_result n d) old new added) → IsAdded (line_result n line) old new added
+    → ((d : Data) → AreEventFields f d → IsLineAdded (event_line_result n d) old new added) → IsLineAdded (line_result n line) old new added
 added_by_fields n line f old new added h e =
-    subst (λ said. IsAdded said old new added) (said_by_fields n line f h) (e (object h.members) h.fields)
+    subst (λ said. IsLineAdded said old new added) (said_by_fields n line f h) (e (object h.members) h.fields)

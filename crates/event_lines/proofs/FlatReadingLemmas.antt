@@ -11,7 +11,7 @@ use Rattle.serde_json.specs.Read.{of_json, converted, number_of, read}
 use Rattle.serde_json.proofs.Views.{get_member-put, get_member-put_other}
 use Rattle.event_lines.proofs.ConvertingLemmas.{converted-object, member_read, members_over, whole_read}
 use Rattle.event_lines.specs.declared.flat_lines.FlatMembers.{FlatMembers}
-use Rattle.event_lines.specs.inner.FlatObjects.{Slot, slots, Hold, AreMembers, rest_of}
+use Rattle.event_lines.specs.inner.FlatObjects.{Slot, slots, Hold, AreMembers, members_ahead}
 use Rattle.std.specs.List.{AllByRecursion}
 
 -- ---- a member more
@@ -42,7 +42,7 @@ put_other k d ms (s ∷ ss) o h = (get_member-put_other s.0 k d ms (λ same. o.0
 -- from the tokens `start` the reader has come to `ts`, and f is what is kept
 abbrev pub Reaches : List Token → FlatMembers → List Token → Type 0
 Reaches start f ts =
-    (ms : Members) × (n : ℕ) × (length ts ≤ n) × AreMembers f ms × (rest_of (length start) no_members start ≡ rest_of n ms ts)
+    (ms : Members) × (n : ℕ) × (length ts ≤ n) × AreMembers f ms × (members_ahead (length start) no_members start ≡ members_ahead n ms ts)
 
 pub begins : (start : List Token) (f : FlatMembers) → AreMembers f no_members → Reaches start f start
 begins start f h = (no_members, length start, omega arith, h, refl)
@@ -67,12 +67,12 @@ steps start ts s r f g k d i named e shorter kept =
       i.4 ∙ member_read (value 126) i.0 i.1 k ts s r d (omega arith) named e,
     )
 
-pub ends : (start ts r : List Token) (f : FlatMembers) → Reaches start f ts → read_key ts ≡ Some (None, r) → (ms : Members) × AreMembers f ms × (rest_of (length start) no_members start ≡ Some (ms, r))
+pub ends : (start ts r : List Token) (f : FlatMembers) → Reaches start f ts → read_key ts ≡ Some (None, r) → (ms : Members) × AreMembers f ms × (members_ahead (length start) no_members start ≡ Some (ms, r))
 ends start ts r f i closed = (i.0, i.3, i.4 ∙ members_over (value 126) i.0 i.1 ts r i.2 closed)
 
 -- ---- the whole line
 
-pub flat_read : (text : List ℕ) (r : List Token) (ms : Members) → tokens text ≡ Token.begin_object ∷ r → rest_of (length r) no_members r ≡ Some (ms, []) → read text ≡ Some (object ms)
+pub flat_read : (text : List ℕ) (r : List Token) (ms : Members) → tokens text ≡ Token.begin_object ∷ r → members_ahead (length r) no_members r ≡ Some (ms, []) → read text ≡ Some (object ms)
 flat_read text r ms e f =
     whole_read (value 127 (tokens text)) (object ms)
     (ap (converted of_json) (ap (value 127) e ∙ value-begin_object 127 r (omega arith)) ∙ converted-object (members (value 126) (length r) r) ∙ ap (parse_map object) f)

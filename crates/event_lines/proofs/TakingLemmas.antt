@@ -8,6 +8,7 @@ use Rattle.event_lines.specs.declared.line_error.LineError.{LineError}
 use Rattle.event_lines.specs.Cut.{input_lines}
 use Rattle.event_lines.specs.InputLines.{LineFault, both_said, lines_said_from, IsLineError}
 use Rattle.event_lines.specs.LinesTaken.{LinesTaken, TakesBytes, said_with}
+use Rattle.event_lines.specs.inner.MoreTaken.{IsBegun, with_later}
 use Rattle.event_lines.proofs.PieceLemmas.{both_said-assoc, both_pieces, few_input_lines}
 
 -- lines that end are read, and the bytes after them begin a new line
@@ -54,3 +55,15 @@ finished_error taken e h = subst (λ said. IsLineError said e) (reading_with_non
 -- no byte is kept where their number is 0
 pub nothing_kept : (rest : List ℕ) (count : ℕ) → length rest ≡ count → (count == 0) ≡ true → rest ≡ []
 nothing_kept rest count is e = nil_from_length rest (is ∙ eqb-true count 0 e)
+
+-- what a reader took that began where another stands was taken after what the other took
+pub later_taken : (taken begun later : LinesTaken) (bytes : List ℕ) → IsBegun taken begun → TakesBytes begun bytes later → TakesBytes taken bytes (with_later taken later)
+later_taken taken begun later bytes begins takes = record {
+  said = λ more.
+      sym (both_said-assoc taken.ended later.ended (lines_said_from later.number (input_lines (later.rest ++ more))))
+      ∙ ap (both_said taken.ended) (takes.said more)
+      ∙ begins.ended (lines_said_from begun.number (input_lines (begun.rest ++ (bytes ++ more))))
+      ∙ ap (λ n. both_said taken.ended (lines_said_from n (input_lines (begun.rest ++ (bytes ++ more))))) begins.number
+      ∙ ap (λ xs. both_said taken.ended (lines_said_from taken.number (input_lines (xs ++ (bytes ++ more))))) begins.rest;
+  room = omega (arith, takes.room, begins.number, ap length begins.rest);
+}

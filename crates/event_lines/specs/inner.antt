@@ -2,5 +2,6 @@
 pub mod Fields
 pub mod FlatObjects
 pub mod LinesSoFar
+pub mod MoreTaken
 pub mod PlainObjects
 pub mod Readings

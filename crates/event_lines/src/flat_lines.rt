@@ -2,10 +2,10 @@ ghost use Rattle.std.specs.Prelude.{◌≡◌, ◌==◌, length, slice_index, So
 ghost use Rattle.serde_json.specs.Data.{Members, no_members, object, number, string, unsigned, put};
 ghost use Rattle.serde_json.specs.Read.{number_of};
 ghost use Rattle.event_lines.specs.LineResults.{json_value};
-ghost use Rattle.event_lines.specs.inner.Fields.{AreFields};
+ghost use Rattle.event_lines.specs.inner.Fields.{AreEventFields};
 ghost use Rattle.event_lines.specs.EventFaults.{is_bad_text};
 ghost use Rattle.event_lines.specs.inner.PlainObjects.{AreGood, HasGoodTexts};
-ghost use Rattle.event_lines.specs.inner.FlatObjects.{AreMembers, IsEventLine, rest_of};
+ghost use Rattle.event_lines.specs.inner.FlatObjects.{AreMembers, IsEventLine, members_ahead};
 
 use crate::time_unit::TimeUnit;
 use crate::value_fields::in_nanoseconds;
@@ -110,7 +110,7 @@ impl<'a> FlatMembers<'a> {
     /// Gives the fields of the event line, where it has what it must have and its time is in range.
     pub(crate) fn fields(&self) -> Option<EventFields<'a>>
         ensures fields { IfSome result (λ f. (ms : Members) → AreMembers self.now ms
-            → AreFields f (object ms)) }
+            → AreEventFields f (object ms)) }
         ensures good { AreGood self.now → IfSome result HasGoodTexts }
     {
         let (unit, number) = match self.nanos {
@@ -132,7 +132,7 @@ impl<'a> FlatMembers<'a> {
 /// Reads the members of an object after its opening brace; none where this way does not read them.
 fn read_members<'a>(reader: &mut Reader<'a>) -> Option<FlatMembers<'a>>
     ensures { IfSome result (λ f. (ms : Members) × AreMembers f ms
-        × (rest_of (length reader.old) no_members reader.old ≡ Some (ms, reader.new))) }
+        × (members_ahead (length reader.old) no_members reader.old ≡ Some (ms, reader.new))) }
 {
     let mut found = FlatMembers::new();
     'members: while let Some(key) = reader.next_key().ok()? {

@@ -1,4 +1,4 @@
-ghost use Rattle.std.specs.Prelude.{◌≡◌, ◌∷◌, [], ◌++◌, OnOk};
+ghost use Rattle.std.specs.Prelude.{◌≡◌, ◌∷◌, [], ◌++◌, OnOk, OnErr};
 ghost use Rattle.event_lines.specs.declared.line.Line.TheVariants.{Control};
 ghost use Rattle.event_lines.specs.LineParts.{lines_of_runs};
 
@@ -31,21 +31,24 @@ impl LineParts {
         LineParts { runs }
     }
 
-    /// Appends later lines; no event is moved. The only error is out of memory.
+    /// Appends later lines; no event is moved. The only error is out of memory, after which the
+    /// lines are as before and the later ones are gone.
     pub fn append(&mut self, mut later: LineParts) -> Result<(), AllocError>
-        ensures { OnOk result (self.new ≡ self.old ++ later) }
+        ensures appended { OnOk result (self.new ≡ self.old ++ later) }
+        ensures unchanged { OnErr result (self.new ≡ self.old) }
     {
         self.runs.append(&mut later.runs)
     }
 
-    /// Appends a control line. The only error is out of memory.
+    /// Appends a control line. The only error is out of memory, after which the lines are as before.
     pub fn push_control(
         &mut self,
         alloc: Global,
         line: u32,
         command: Command,
     ) -> Result<(), AllocError>
-        ensures { OnOk result (self.new ≡ self.old ++ Control line command ∷ []) }
+        ensures appended { OnOk result (self.new ≡ self.old ++ Control line command ∷ []) }
+        ensures unchanged { OnErr result (self.new ≡ self.old) }
     {
         Ok(
             self.runs.push(LineRun {

@@ -1,7 +1,8 @@
 ghost use Rattle.std.specs.Prelude.{◌≡◌, ◌≤◌, ◌<◌, ◌+◌, ◌-◌, ◌∷◌, [], ◌++◌, length, Ok};
-ghost use Rattle.std.specs.Prelude.{List, ℕ, IfOk, IfErr, OnOk};
+ghost use Rattle.std.specs.Prelude.{List, ℕ, IfOk, IfErr, OnOk, OnErr};
 ghost use Rattle.event_lines.specs.InputLines.{lines_said, IsLineError};
 ghost use Rattle.event_lines.specs.LinesTaken.{TakesBytes, room_after, said_with};
+ghost use Rattle.event_lines.specs.inner.MoreTaken.{IsBegun, with_later};
 
 use crate::lines::read_piece;
 use crate::lines_so_far::LinesSoFar;
@@ -83,17 +84,17 @@ impl LineReader {
         Ok(())
     }
 
-    /// Takes bytes and keeps them.
+    /// Takes bytes and keeps them, or none of them.
     fn keep(&mut self, bytes: &[u8]) -> Result<(), AllocError>
         requires { length bytes.now ≤ room_after self.old }
-        ensures { OnOk result (TakesBytes self.old bytes.now self.new) }
+        ensures taken { OnOk result (TakesBytes self.old bytes.now self.new) }
+        ensures unchanged { OnErr result (self.new ≡ self.old) }
     {
         self.rest.extend_from_slice(bytes)
     }
 
-    /// Takes the next bytes of the input. Lines that end are read; after the first bad line no
-    /// further one is. The only error is out of memory.
-    pub fn take<R: Threads + Sync>(&mut self, rt: &R, bytes: &[u8]) -> Result<(), AllocError>
+    /// Takes bytes. After an error it may have taken some of them.
+    fn take_in_steps<R: Threads + Sync>(&mut self, rt: &R, bytes: &[u8]) -> Result<(), AllocError>
         requires { length bytes.now ≤ room_after self.old }
         ensures { OnOk result (TakesBytes self.old bytes.now self.new) }
     {
@@ -106,6 +107,53 @@ impl LineReader {
         };
         self.take_lines(rt, lines)?;
         self.keep(rest)
+    }
+
+    /// Makes a reader of what comes next: it has the bytes of the line that has not ended, and no
+    /// line before them.
+    fn begin_more(&self) -> Result<LineReader, AllocError>
+        ensures { IfOk result (IsBegun self.now) }
+    {
+        Ok(LineReader {
+            alloc: self.alloc,
+            workers: self.workers,
+            lines: self.lines.begin_more(self.alloc),
+            number: self.number,
+            rest: Vec::from_slice(self.alloc, &self.rest)?,
+        })
+    }
+
+    /// Appends what a reader took that began where this one stands.
+    fn append(&mut self, later: LineReader) -> Result<(), AllocError>
+        ensures appended { OnOk result (self.new ≡ with_later self.old later) }
+        ensures unchanged { OnErr result (self.new ≡ self.old) }
+    {
+        let LineReader {
+            lines,
+            number,
+            rest,
+            ..
+        } = later;
+        self.lines.append(lines)?;
+        self.number = number;
+        self.rest = rest;
+        Ok(())
+    }
+
+    /// Takes the next bytes of the input. Lines that end are read; after the first bad line no
+    /// further one is. The only error is out of memory, after which no byte was taken, and the same
+    /// bytes can be given again.
+    pub fn take<R: Threads + Sync>(&mut self, rt: &R, bytes: &[u8]) -> Result<(), AllocError>
+        requires { length bytes.now ≤ room_after self.old }
+        ensures taken { OnOk result (TakesBytes self.old bytes.now self.new) }
+        ensures unchanged { OnErr result (self.new ≡ self.old) }
+    {
+        if cut_at_line_feed(bytes, 0).is_none() {
+            return self.keep(bytes);
+        }
+        let mut more = self.begin_more()?;
+        more.take_in_steps(rt, bytes)?;
+        self.append(more)
     }
 
     /// Ends the input and gives its lines.

@@ -5,9 +5,9 @@ ghost use Rattle.serde_json.specs.View.{view};
 ghost use Rattle.event_lines.specs.Commands.{command_result};
 ghost use Rattle.event_lines.specs.LineResults.{json_value, control_line_result, event_line_result};
 ghost use Rattle.event_lines.specs.LineResults.{object_result, line_result};
-ghost use Rattle.event_lines.specs.inner.Fields.{AreFields};
+ghost use Rattle.event_lines.specs.inner.Fields.{AreEventFields};
 ghost use Rattle.event_lines.specs.inner.PlainObjects.{HasGoodTexts};
-ghost use Rattle.event_lines.specs.inner.Readings.{IsAdded};
+ghost use Rattle.event_lines.specs.inner.Readings.{IsLineAdded};
 
 use crate::command_reading::read_command;
 use crate::flat_lines::flat_fields;
@@ -50,7 +50,7 @@ fn add_control_line(
 ) -> Result<Result<(), Why>, AllocError>
     requires { get (codes "do") (view value.now) ≡ Some (view name.now) }
     ensures { IfOk result (λ added.
-        IsAdded (control_line_result number (view value.now)) lines.old lines.new added) }
+        IsLineAdded (control_line_result number (view value.now)) lines.old lines.new added) }
 {
     match read_control_line(value, name) {
         Ok(command) => {
@@ -72,8 +72,8 @@ fn add_fields(
     fields: &EventFields<'_>,
     lines: &mut RunBuilder,
 ) -> Result<Result<(), Why>, AllocError>
-    ensures { IfOk result (λ added. (d : Data) → AreFields fields.now d
-        → IsAdded (event_line_result number d) lines.old lines.new added) }
+    ensures { IfOk result (λ added. (d : Data) → AreEventFields fields.now d
+        → IsLineAdded (event_line_result number d) lines.old lines.new added) }
 {
     if has_bad_text(fields) {
         return Ok(Err(Why::BadText));
@@ -90,8 +90,8 @@ fn add_good_fields(
     lines: &mut RunBuilder,
 ) -> Result<Result<(), Why>, AllocError>
     requires { HasGoodTexts fields.now }
-    ensures { IfOk result (λ added. (d : Data) → AreFields fields.now d
-        → IsAdded (event_line_result number d) lines.old lines.new added) }
+    ensures { IfOk result (λ added. (d : Data) → AreEventFields fields.now d
+        → IsLineAdded (event_line_result number d) lines.old lines.new added) }
 {
     lines.push_event(alloc, number, fields)?;
     Ok(Ok(()))
@@ -105,7 +105,7 @@ fn add_event_line(
     lines: &mut RunBuilder,
 ) -> Result<Result<(), Why>, AllocError>
     ensures { IfOk result (λ added.
-        IsAdded (event_line_result number (view value.now)) lines.old lines.new added) }
+        IsLineAdded (event_line_result number (view value.now)) lines.old lines.new added) }
 {
     match fields_of(value) {
         Ok(fields) => add_fields(alloc, number, &fields, lines),
@@ -121,7 +121,7 @@ fn add_object(
     lines: &mut RunBuilder,
 ) -> Result<Result<(), Why>, AllocError>
     ensures { IfOk result (λ added.
-        IsAdded (object_result number (view value.now)) lines.old lines.new added) }
+        IsLineAdded (object_result number (view value.now)) lines.old lines.new added) }
 {
     match value.get("do") {
         Some(name) => add_control_line(alloc, number, value, name, lines),
@@ -137,7 +137,7 @@ pub(crate) fn add_any_line(
     lines: &mut RunBuilder,
 ) -> Result<Result<(), Why>, AllocError>
     ensures { IfOk result (λ added.
-        IsAdded (line_result number line.now) lines.old lines.new added) }
+        IsLineAdded (line_result number line.now) lines.old lines.new added) }
 {
     match parse(alloc, line)? {
         Some(value) if value.is_object() => add_object(alloc, number, &value, lines),
@@ -155,7 +155,7 @@ pub(crate) fn add_token_line(
     lines: &mut RunBuilder,
 ) -> Result<Result<(), Why>, AllocError>
     ensures { IfOk result (λ added.
-        IsAdded (line_result number line.now) lines.old lines.new added) }
+        IsLineAdded (line_result number line.now) lines.old lines.new added) }
 {
     match flat_fields(line, scratch)? {
         Some(fields) => add_fields(alloc, number, &fields, lines),
@@ -176,7 +176,7 @@ pub(crate) fn add_line(
     lines: &mut RunBuilder,
 ) -> Result<Result<(), Why>, AllocError>
     ensures { IfOk result (λ added.
-        IsAdded (line_result number line.now) lines.old lines.new added) }
+        IsLineAdded (line_result number line.now) lines.old lines.new added) }
 {
     match plain_fields(line) {
         Some(fields) => add_good_fields(alloc, number, &fields, lines),

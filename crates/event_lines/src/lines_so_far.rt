@@ -1,6 +1,8 @@
-ghost use Rattle.std.specs.Prelude.{◌≡◌, ◌≤◌, ◌<◌, ◌+◌, ◌^◌, length, IfOk, OnOk};
+ghost use Rattle.std.specs.Prelude.{◌≡◌, ◌≤◌, ◌<◌, ◌+◌, ◌^◌, length, IfOk, OnOk, OnErr};
+ghost use Rattle.std.specs.Prelude.{List, Result};
+ghost use Rattle.event_lines.specs.declared.line.Line.{Line};
 ghost use Rattle.event_lines.specs.Cut.{input_lines};
-ghost use Rattle.event_lines.specs.InputLines.{both_said, lines_said_from};
+ghost use Rattle.event_lines.specs.InputLines.{LineFault, both_said, lines_said_from};
 ghost use Rattle.event_lines.specs.inner.LinesSoFar.{said_so_far};
 ghost use Rattle.event_lines.specs.inner.Readings.{IsReading};
 
@@ -21,6 +23,42 @@ pub(crate) enum LinesSoFar {
 }
 
 impl LinesSoFar {
+    /// Begins what comes after these lines: no line yet, or the first bad one, after which no line
+    /// matters. Takes no memory.
+    pub(crate) fn begin_more(&self, alloc: Global) -> LinesSoFar
+        ensures { (later : Result (List Line) LineFault)
+            → both_said (said_so_far self.now) (both_said (said_so_far result) later)
+            ≡ both_said (said_so_far self.now) later }
+    {
+        match self {
+            LinesSoFar::Good { .. } => LinesSoFar::Good {
+                lines: LineParts::of(Vec::new(alloc)),
+            },
+            LinesSoFar::Bad { line, why } => LinesSoFar::Bad {
+                line: *line,
+                why: *why,
+            },
+        }
+    }
+
+    /// Appends what later lines say. The only error is out of memory, after which all is as before.
+    pub(crate) fn append(&mut self, later: LinesSoFar) -> Result<(), AllocError>
+        ensures appended { OnOk result (said_so_far self.new
+            ≡ both_said (said_so_far self.old) (said_so_far later)) }
+        ensures unchanged { OnErr result (said_so_far self.new ≡ said_so_far self.old) }
+    {
+        let LinesSoFar::Good { lines } = self else {
+            return Ok(());
+        };
+        match later {
+            LinesSoFar::Good { lines: more } => lines.append(more),
+            LinesSoFar::Bad { line, why } => {
+                *self = LinesSoFar::Bad { line, why };
+                Ok(())
+            }
+        }
+    }
+
     /// Reads the lines of bytes, numbered from this one on, by up to so many workers, and appends
     /// what they say. Returns the number of the last line. The only error is out of memory.
     pub(crate) fn add<R: Threads + Sync>(

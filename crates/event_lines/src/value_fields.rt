@@ -5,7 +5,7 @@ ghost use Rattle.serde_json.specs.Data.{Data};
 ghost use Rattle.serde_json.specs.View.{view};
 ghost use Rattle.event_lines.specs.TimeUnits.{latest_in, nanoseconds_in};
 ghost use Rattle.event_lines.specs.EventFaults.{event_line_fault, has_bad_text, is_bad_text};
-ghost use Rattle.event_lines.specs.inner.Fields.{AreFields};
+ghost use Rattle.event_lines.specs.inner.Fields.{AreEventFields};
 
 use crate::Why;
 use crate::object_members::{as_text, as_whole_number, member, optional_text};
@@ -30,7 +30,7 @@ pub(crate) fn in_nanoseconds(unit: TimeUnit, number: Option<u64>) -> Result<u64,
 /// Reads the fields of an event line. The error is the first that holds of `Missing`, `WrongKind`
 /// and `OutOfRange`.
 pub(crate) fn fields_of(value: &Value) -> Result<EventFields<'_>, Why>
-    ensures found { IfOk result (λ f. AreFields f (view value.now)) }
+    ensures found { IfOk result (λ f. AreEventFields f (view value.now)) }
     ensures fault { IfErr result (λ why. event_line_fault (view value.now) ≡ Some why) }
 {
     let unit = TimeUnit::of(value);
@@ -68,7 +68,7 @@ fn is_some_bad_text(text: Option<&str>) -> bool
 
 /// Tells whether one of the texts is bad.
 pub(crate) fn has_bad_text(fields: &EventFields<'_>) -> bool
-    ensures { (d : Data) → AreFields fields.now d → has_bad_text d ≡ result }
+    ensures { (d : Data) → AreEventFields fields.now d → has_bad_text d ≡ result }
 {
     is_bad_text(fields.request)
         || is_bad_text(fields.machine)

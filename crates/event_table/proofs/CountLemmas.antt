@@ -8,7 +8,8 @@ use Rattle.std.proofs.lemmas.List.Elements.{filter-append}
 use Rattle.std.proofs.lemmas.List.Sums.{count_by-le-length, length-filter, sum_by-cons}
 use Rattle.trace_types.specs.Firsts.{firsts_of}
 use Rattle.event_table.specs.declared.event_numbers.EventNumbers.{EventNumbers}
-use Rattle.event_table.specs.inner.Placing.{AreApart, AreCounted, request_numbers, with_request}
+use Rattle.event_table.specs.inner.Placing.{AreCounted, request_numbers, with_request}
+use Rattle.event_table.specs.Texts.{AreDifferent}
 use Rattle.event_table.proofs.FirstLemmas.{any-firsts, apart_head, apart_tail, firsts-push, flips, means}
 
 abbrev pub keys : List EventNumbers → List ℕ
@@ -97,7 +98,7 @@ bits_none key (request ∷ requests) none = by (nat_eq key request) refl (bits_n
         let others = rest (rw e at none) in
         omega (arith, sum_by-cons (bit key) request requests)
 
-bits_apart : (key : ℕ) (requests : List ℕ) → AreApart requests → sum_by (bit key) requests ≤ 1
+bits_apart : (key : ℕ) (requests : List ℕ) → AreDifferent requests → sum_by (bit key) requests ≤ 1
 unfolding bit
 bits_apart key [] apart = omega arith
 bits_apart key (request ∷ requests) apart = by (nat_eq key request) refl (bits_apart key requests (apart_tail request requests apart))
@@ -131,7 +132,7 @@ sum_zero : (requests : List ℕ) → sum_by (λ r. length (with_request [] r)) r
 sum_zero [] = refl
 sum_zero (request ∷ requests) = let first = sum_by-cons (λ r. length (with_request [] r)) request requests in let rest = sum_zero requests in omega arith
 
-pub few_events : (events : List EventNumbers) (requests : List ℕ) → AreApart requests → sum_by (λ r. length (with_request events r)) requests ≤ length events
+pub few_events : (events : List EventNumbers) (requests : List ℕ) → AreDifferent requests → sum_by (λ r. length (with_request events r)) requests ≤ length events
 few_events [] requests apart = let none = sum_zero requests in omega arith
 few_events (event ∷ events) requests apart =
     let first = bits_apart event.request requests apart in

@@ -1,6 +1,6 @@
 -- The parts of a list that is cut at places.
 use Rattle.std.proofs.Common.{◌≡◌, ℕ, zero, suc, ◌<◌, ◌≤◌, List, [], ◌∷◌, length, get_or, slice_get, slice_range, Some, refl, ap, arith}
-use Rattle.event_table.specs.Cuts.{AreStops, cut_at}
+use Rattle.event_table.specs.inner.Cuts.{AreStops, cut_at}
 
 -- a part for each place
 pub cut_length : {X : Type 0} (start : ℕ) (ends : List ℕ) (xs : List X) → length (cut_at start ends xs) ≡ length ends

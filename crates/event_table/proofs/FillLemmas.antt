@@ -7,8 +7,9 @@ use Rattle.std.proofs.lemmas.List.{get_or_at, get_or-set_same, get_or-set_other,
 use Rattle.std.proofs.lemmas.List.Elements.{filter-append}
 use Rattle.std.proofs.lemmas.List.Sums.{sum_by-cons}
 use Rattle.event_table.specs.declared.event_numbers.EventNumbers.{EventNumbers}
-use Rattle.event_table.specs.Cuts.{AreStops, cut_at}
-use Rattle.event_table.specs.inner.Placing.{AreApart, AreFilled, AreStarts, HaveRequestsBelow, IsPlacing, ends_from, no_place, with_request}
+use Rattle.event_table.specs.inner.Cuts.{AreStops, cut_at}
+use Rattle.event_table.specs.inner.Placing.{AreFilled, AreStarts, HaveRequestsBelow, IsPlacing, ends_from, no_place, with_request}
+use Rattle.event_table.specs.Texts.{AreDifferent}
 use Rattle.event_table.proofs.CountLemmas.{with_other, with_own}
 use Rattle.event_table.proofs.FirstLemmas.{apart_head, apart_tail, means}
 
@@ -92,7 +93,7 @@ module _ (done all later : List EventNumbers) (event : EventNumbers) (all_is : a
             rest (rw e at none),
           )
 
-  pub place_next : (next : List ℕ) (out : List EventNumbers) (start : ℕ) (requests : List ℕ) → AreApart requests → list_any (nat_eq event.request) requests ≡ true → AreFilled done all next out start requests
+  pub place_next : (next : List ℕ) (out : List EventNumbers) (start : ℕ) (requests : List ℕ) → AreDifferent requests → list_any (nat_eq event.request) requests ≡ true → AreFilled done all next out start requests
       → AreFilled (done ++ event ∷ []) all (set next event.request (get_or next event.request 0 + 1)) (set out (get_or next event.request 0) event) start requests
   place_next next out start [] apart there filled = absurd (cc there)
   place_next next out start (request ∷ requests) apart there filled =

@@ -6,7 +6,7 @@ use Rattle.std.proofs.lemmas.List.Elements.{All-cons, All-filter, All-weaker, fi
 use Rattle.std.proofs.lemmas.List.Folds.{list_any_none}
 use Rattle.std.proofs.lemmas.List.Kept.{AllPairs-cons, AllPairs-filter}
 use Rattle.trace_types.specs.Firsts.{firsts_of}
-use Rattle.event_table.specs.inner.Placing.{AreApart}
+use Rattle.event_table.specs.Texts.{AreDifferent}
 
 pub own : (x : ℕ) → nat_eq x x ≡ true
 own x = eq-eqb x x refl
@@ -62,7 +62,7 @@ firsts-push (y ∷ ys) x = by (nat_eq x y) (list_any (nat_eq x) (firsts_of nat_e
         rw (r, f, e, a, f, filter-append (λ z. not (nat_eq y z)) (firsts_of nat_eq ys) (x ∷ []), g) refl
 
 -- none stands twice
-pub firsts_apart : (xs : List ℕ) → AreApart (firsts_of nat_eq xs)
+pub firsts_apart : (xs : List ℕ) → AreDifferent (firsts_of nat_eq xs)
 firsts_apart [] = λ i j d lt within. absurd (omega (arith, within))
 firsts_apart (x ∷ xs) =
     let others : List ℕ = filter (λ z. not (nat_eq x z)) (firsts_of nat_eq xs) in
@@ -78,8 +78,8 @@ firsts_all P (x ∷ xs) all =
     (All-filter (λ z. not (nat_eq x z)) P (firsts_of nat_eq xs) (firsts_all P xs (λ k d lt. all (suc k) d (omega (arith, lt)))))
 
 -- of numbers apart, the first is none of the others, and these are apart
-pub apart_head : (x : ℕ) (xs : List ℕ) → AreApart (x ∷ xs) → list_any (nat_eq x) xs ≡ false
+pub apart_head : (x : ℕ) (xs : List ℕ) → AreDifferent (x ∷ xs) → list_any (nat_eq x) xs ≡ false
 apart_head x xs apart = list_any_none (nat_eq x) xs (λ k d lt. ne_eqb x (get_or xs k d) (λ (h : x ≡ get_or xs k d). apart 0 (suc k) d (omega arith) (omega (arith, lt)) h))
 
-pub apart_tail : (x : ℕ) (xs : List ℕ) → AreApart (x ∷ xs) → AreApart xs
+pub apart_tail : (x : ℕ) (xs : List ℕ) → AreDifferent (x ∷ xs) → AreDifferent xs
 apart_tail x xs apart i j d lt within = apart (suc i) (suc j) d (omega (arith, lt)) (omega (arith, within))

@@ -7,8 +7,9 @@ use Rattle.std.proofs.lemmas.List.Elements.{All-map, All-weaker}
 use Rattle.std.proofs.lemmas.List.Folds.{list_any_at}
 use Rattle.std.proofs.lemmas.List.Sums.{sum_by-cons}
 use Rattle.event_table.specs.declared.event_numbers.EventNumbers.{EventNumbers}
-use Rattle.event_table.specs.Cuts.{AreStops, cut_at}
-use Rattle.event_table.specs.inner.Placing.{AreApart, AreCounted, AreNowhere, AreSome, AreStarts, HaveRequestsBelow, IsPlacing, ends_from, groups_of, no_place, request_numbers, with_request}
+use Rattle.event_table.specs.inner.Cuts.{AreStops, cut_at}
+use Rattle.event_table.specs.inner.Placing.{AreCounted, AreNowhere, AreSome, AreStarts, HaveRequestsBelow, IsPlacing, ends_from, groups_of, no_place, request_numbers, with_request}
+use Rattle.event_table.specs.Texts.{AreDifferent}
 use Rattle.event_table.proofs.CountLemmas.{any-count, few_events, keys}
 use Rattle.event_table.proofs.FillLemmas.{ends_stop, filled_cut, starts_filled}
 use Rattle.event_table.proofs.FirstLemmas.{any-firsts, firsts_all, firsts_apart, own}
@@ -81,6 +82,6 @@ all_requests all requests counts counted below few = record {
   below = below;
   few = few;
   each = counted.each;
-  apart = subst AreApart (sym counted.order) (firsts_apart (keys all));
+  apart = subst AreDifferent (sym counted.order) (firsts_apart (keys all));
   within = subst (All (λ r. r < length counts)) (sym counted.order) (firsts_all (λ r. r < length counts) (keys all) (All-map (λ r. r < length counts) (λ (e : EventNumbers). e.request) all below));
 }

@@ -11,7 +11,7 @@ use Rattle.std.proofs.lemmas.List.Kept.{AllPairs-filter, AllPairs-from_increasin
 use Rattle.trace_types.specs.declared.event.Event.{Event}
 use Rattle.trace_types.specs.EventLines.{AreOfRequest, LinesRise}
 use Rattle.trace_types.specs.Times.{AreTimely, latest_time}
-use Rattle.trace_types.specs.Batch.{PlainTrace, is_of, events_of, requests_of, trace_of, traces_of}
+use Rattle.trace_types.specs.Batch.{PlainTrace, is_of_request, events_of, requests_of, trace_of, traces_of}
 use Rattle.event_table.proofs.TextLemmas.{laws}
 
 abbrev IsBefore : Event → Event → Type 0
@@ -33,30 +33,30 @@ rising_from_pairs d events pairs k within =
 
 rising-events_of : (request : List ℕ) (batch : List Event) → LinesRise batch → LinesRise (events_of request batch)
 rising-events_of request [] rising = rising
-rising-events_of request (first ∷ batch) rising = rising_from_pairs first (events_of request (first ∷ batch)) (AllPairs-filter IsBefore (is_of request) (first ∷ batch) (pairs_from_rising (first ∷ batch) rising))
+rising-events_of request (first ∷ batch) rising = rising_from_pairs first (events_of request (first ∷ batch)) (AllPairs-filter IsBefore (is_of_request request) (first ∷ batch) (pairs_from_rising (first ∷ batch) rising))
 
 by_bytes : (a b : List ℕ) → bytes_eq a b ≡ true → a ≡ b
 by_bytes a b same = (bytes_eq-Decides a b).0 same
 
 of_request-events_of : (request : List ℕ) (batch : List Event) → AreOfRequest request (events_of request batch)
-of_request-events_of request batch k d within = by_bytes _ request (filter_passes (is_of request) batch k d within)
+of_request-events_of request batch k d within = by_bytes _ request (filter_passes (is_of_request request) batch k d within)
 
 -- a request of later events has them in the whole batch too
 events_of_more : (request : List ℕ) (first : Event) (batch : List Event) → 0 < length (events_of request batch) → 0 < length (events_of request (first ∷ batch))
-events_of_more request first batch there = by (is_of request first) refl
+events_of_more request first batch there = by (is_of_request request first) refl
   where
-    by : (b : Bool) → is_of request first ≡ b → 0 < length (events_of request (first ∷ batch))
+    by : (b : Bool) → is_of_request request first ≡ b → 0 < length (events_of request (first ∷ batch))
     by true e = rw e (omega arith)
     by false e = rw e there
 
 events_of_first : (first : Event) (batch : List Event) → 0 < length (events_of first.request (first ∷ batch))
-events_of_first first batch = let own : is_of first.request first ≡ true = laws.refl first.request in rw own (omega arith)
+events_of_first first batch = let own : is_of_request first.request first ≡ true = laws.refl first.request in rw own (omega arith)
 
 events_of_there : (batch : List Event) → All (λ request. 0 < length (events_of request batch)) (requests_of batch)
 events_of_there [] k d within = absurd (omega arith)
 events_of_there (first ∷ batch) k d within =
-    All-cons (λ request. 0 < length (events_of request (first ∷ batch))) first.request (filter (λ request. not (is_of request first)) (requests_of batch)) (events_of_first first batch)
-    (All-filter (λ request. not (is_of request first)) (λ request. 0 < length (events_of request (first ∷ batch))) (requests_of batch)
+    All-cons (λ request. 0 < length (events_of request (first ∷ batch))) first.request (filter (λ request. not (is_of_request request first)) (requests_of batch)) (events_of_first first batch)
+    (All-filter (λ request. not (is_of_request request first)) (λ request. 0 < length (events_of request (first ∷ batch))) (requests_of batch)
     (λ j e lt. events_of_more (get_or (requests_of batch) j e) first batch (events_of_there batch j e lt))) k d within
 
 pub traces_not_empty : (batch : List Event) → All (λ (t : PlainTrace). 0 < length t.events) (traces_of batch)
@@ -70,10 +70,10 @@ traces_rising batch rising = All-map (λ (t : PlainTrace). LinesRise t.events) (
 
 pub traces_timely : (batch : List Event) → AreTimely batch → All (λ (t : PlainTrace). AreTimely t.events) (traces_of batch)
 traces_timely batch timely = All-map (λ (t : PlainTrace). AreTimely t.events) (trace_of batch) (requests_of batch)
-    (λ k d within. All-filter (is_of (get_or (requests_of batch) k d)) (λ (e : Event). e.time ≤ latest_time) batch timely)
+    (λ k d within. All-filter (is_of_request (get_or (requests_of batch) k d)) (λ (e : Event). e.time ≤ latest_time) batch timely)
 
 events_of_few : (request : List ℕ) (batch : List Event) → length (events_of request batch) ≤ length batch
-events_of_few request batch = rw (length-filter (is_of request) batch) (count_by-le-length (is_of request) batch)
+events_of_few request batch = rw (length-filter (is_of_request request) batch) (count_by-le-length (is_of_request request) batch)
 
 pub traces_few : (batch : List Event) (count : ℕ) → length batch < count → All (λ (t : PlainTrace). length t.events < count) (traces_of batch)
 traces_few batch count few = All-map (λ (t : PlainTrace). length t.events < count) (trace_of batch) (requests_of batch) (λ k d within. let own = events_of_few (get_or (requests_of batch) k d) batch in omega (arith, own, few))

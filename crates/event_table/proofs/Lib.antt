@@ -14,4 +14,5 @@ pub mod StartLemmas
 pub mod StepLemmas
 pub mod TableLemmas
 pub mod TextLemmas
+pub mod TextNumberLemmas
 pub mod TraceLemmas

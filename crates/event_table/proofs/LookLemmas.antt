@@ -4,10 +4,11 @@ use Rattle.std.proofs.lemmas.List.{get_or-map, length-map}
 use Rattle.std.proofs.lemmas.Option.{get_or_from_slice_get, slice_get-get_or, slice_get-map, slice_get_within}
 use Rattle.std.specs.Option.{option_map}
 use Rattle.trace_types.specs.declared.event.Event.{Event}
-use Rattle.trace_types.specs.Events.{machine_at, name_at, task_at}
+use Rattle.trace_types.specs.Events.{machine_at, event_name_at, task_at}
 use Rattle.event_table.specs.declared.event_numbers.EventNumbers.{EventNumbers}
 use Rattle.event_table.specs.Gathered.{NumberedTrace, receipt_at, send_at, trace_under}
-use Rattle.event_table.specs.Numbers.{AreWithin, event_under, message_under, text_under}
+use Rattle.event_table.specs.Numbers.{event_under, message_under, text_under}
+use Rattle.event_table.specs.inner.Tables.{AreWithin}
 use Rattle.event_table.specs.Texts.{MessageLists, TextLists}
 
 module _ (texts : TextLists) (messages : MessageLists) (events : List EventNumbers) (now : NumberedTrace) (view : record { texts = texts; trace = trace_under texts messages events } ≡ now) where
@@ -50,7 +51,7 @@ module _ (texts : TextLists) (messages : MessageLists) (events : List EventNumbe
       pub task_there : slice_get now.texts.tasks numbers.task ≡ Some (task_at now.trace.events at)
       task_there = text_at (λ (ts : TextLists). ts.tasks) numbers.task (λ (e : Event). e.task) within_at.task refl
 
-      pub name_there : slice_get now.texts.names numbers.event ≡ Some (name_at now.trace.events at)
+      pub name_there : slice_get now.texts.names numbers.event ≡ Some (event_name_at now.trace.events at)
       name_there = text_at (λ (ts : TextLists). ts.names) numbers.event (λ (e : Event). e.event) within_at.event refl
 
     -- its messages

@@ -2,7 +2,7 @@
 use Rattle.std.proofs.Common.{◌≡◌, ℕ, zero, suc, ◌+◌, ◌-◌, ◌<◌, ◌≤◌, List, [], ◌∷◌, ◌++◌, length, get_or, take, drop, map, slice_range, refl, sym, ap, ◌∙◌, subst, length-append, arith}
 use Rattle.std.proofs.Math.Seq.{drop-append-add}
 use Rattle.std.proofs.lemmas.List.{length-drop, take_all, take-append-le, drop-append-le}
-use Rattle.event_table.specs.Cuts.{AreStops, cut_at}
+use Rattle.event_table.specs.inner.Cuts.{AreStops, cut_at}
 
 -- each message ends where it begins or later, and within the bytes
 pub stops_end : (start : ℕ) (ends : List ℕ) (count : ℕ) → AreStops start ends count → start ≤ count

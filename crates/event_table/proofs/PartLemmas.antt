@@ -10,8 +10,10 @@ use Rattle.event_table.specs.declared.event_numbers.EventNumbers.{EventNumbers}
 use Rattle.event_table.specs.declared.numbered_part.NumberedPart.{NumberedPart}
 use Rattle.event_table.specs.declared.numbered_part.TextNumbers.{TextNumbers}
 use Rattle.event_table.specs.Gathered.{events_of_tables}
-use Rattle.event_table.specs.Numbers.{AreWithin, IsPlace, event_under, events_under, message_under, no_message, text_under}
-use Rattle.event_table.specs.Texts.{AreFewMessages, AreFewTexts, MessageLists, MessagesGrowBy, TextLists, TextsGrowBy}
+use Rattle.event_table.specs.Numbers.{event_under, events_under, message_under, no_message, text_under}
+use Rattle.event_table.specs.inner.Tables.{AreWithin, IsPlace}
+use Rattle.event_table.specs.Texts.{MessageLists, TextLists}
+use Rattle.event_table.specs.inner.Growth.{AreFewMessages, AreFewTexts, MessagesGrowBy, TextsGrowBy}
 use Rattle.event_table.specs.inner.PartNumbers.{AreOfPart, IsPlaceAfter}
 use Rattle.event_table.specs.inner.Renumbering.{AreAllNumbersOf, AreNumbersOf, part_events, place_after, renumbered_by, whole_events}
 use Rattle.event_table.proofs.TableLemmas.{all_numbers_later, events_later}

@@ -2,7 +2,7 @@
 use Rattle.std.proofs.Common.{◌≡◌, ℕ, ◌+◌, ◌<◌, List, [], ◌∷◌, ◌++◌, length, get_or, take, map, slice_get, Some, refl, sym, ap, ◌∙◌, subst, append-nil, append_assoc, arith}
 use Rattle.std.proofs.lemmas.List.{map-append, length_push, take_more}
 use Rattle.std.proofs.lemmas.Option.{slice_get-get_or}
-use Rattle.event_table.specs.Texts.{GrowsBy}
+use Rattle.event_table.specs.inner.Growth.{GrowsBy}
 use Rattle.event_table.specs.inner.Renumbering.{AreNumbersOf}
 use Rattle.event_table.proofs.TextLemmas.{grows_more, still_there}
 

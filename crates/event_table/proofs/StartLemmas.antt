@@ -6,7 +6,8 @@ use Rattle.std.proofs.lemmas.Bool.{eq-eqb, ne_eqb}
 use Rattle.std.proofs.lemmas.List.{get_or-set_same, get_or-set_other, get_or-take, length-set, length-take, get_or_default, take_more}
 use Rattle.std.proofs.lemmas.List.Folds.{list_any_none, list_any_more}
 use Rattle.std.proofs.lemmas.List.Sums.{sum_by-cons, sum_by_more}
-use Rattle.event_table.specs.inner.Placing.{AreApart, AreNowhere, AreStarts, ends_from, no_place}
+use Rattle.event_table.specs.inner.Placing.{AreNowhere, AreStarts, ends_from, no_place}
+use Rattle.event_table.specs.Texts.{AreDifferent}
 
 module _ (size : ℕ → ℕ) where
   ends_push : (start : ℕ) (requests : List ℕ) (request : ℕ) → ends_from size start (requests ++ request ∷ []) ≡ ends_from size start requests ++ (start + sum_by size requests + size request) ∷ []
@@ -42,7 +43,7 @@ module _ (size : ℕ → ℕ) where
           )
 
 -- none of the requests so far is the next one
-pub none_before : (requests : List ℕ) (i : ℕ) → AreApart requests → i < length requests → list_any (nat_eq (get_or requests i 0)) (take i requests) ≡ false
+pub none_before : (requests : List ℕ) (i : ℕ) → AreDifferent requests → i < length requests → list_any (nat_eq (get_or requests i 0)) (take i requests) ≡ false
 none_before requests i apart lt = list_any_none (nat_eq (get_or requests i 0)) (take i requests) (λ k d l.
     let long = length-take i requests in
     let before : k < i = omega (arith, l, long) in
@@ -50,7 +51,7 @@ none_before requests i apart lt = list_any_none (nat_eq (get_or requests i 0)) (
     ne_eqb (get_or requests i 0) (get_or (take i requests) k d) (λ (h : get_or requests i 0 ≡ get_or (take i requests) k d). apart k i 0 before lt (sym (h ∙ same))))
 
 -- one request more
-module _ (counts next : List ℕ) (requests : List ℕ) (i : ℕ) (apart : AreApart requests) (within : All (λ r. r < length counts) requests) (lt : i < length requests) (long : length next ≡ length counts) where
+module _ (counts next : List ℕ) (requests : List ℕ) (i : ℕ) (apart : AreDifferent requests) (within : All (λ r. r < length counts) requests) (lt : i < length requests) (long : length next ≡ length counts) where
   pub sum_next : (end count : ℕ) → end ≡ sum_by (λ r. get_or counts r 0) (take i requests) → count ≡ get_or counts (get_or requests i 0) 0 → end + count ≡ sum_by (λ r. get_or counts r 0) (take (i + 1) requests)
   sum_next end count at read = let s = sum_by_more (λ r. get_or counts r 0) requests i 0 lt in omega arith
 

@@ -5,8 +5,10 @@ use Rattle.std.proofs.lemmas.List.{get_or_append_left, length_push, map-append}
 use Rattle.std.proofs.lemmas.List.Elements.{All-push, All-weaker}
 use Rattle.trace_types.specs.declared.event.Event.{Event}
 use Rattle.event_table.specs.declared.event_numbers.EventNumbers.{EventNumbers}
-use Rattle.event_table.specs.Numbers.{AreWithin, IsPlace, IsTable, event_under, events_under, message_under, no_message, text_under}
-use Rattle.event_table.specs.Texts.{GrowsBy, MessageLists, MessagesGrowBy, TextLists, TextsGrowBy}
+use Rattle.event_table.specs.Numbers.{event_under, events_under, message_under, no_message, text_under}
+use Rattle.event_table.specs.inner.Tables.{AreWithin, IsPlace, IsTable}
+use Rattle.event_table.specs.Texts.{MessageLists, TextLists}
+use Rattle.event_table.specs.inner.Growth.{GrowsBy, MessagesGrowBy, TextsGrowBy}
 use Rattle.event_table.proofs.TextLemmas.{grown_length}
 
 module _ (most : ℕ) (old new : List (List ℕ)) (grown : GrowsBy most old new) where

@@ -9,7 +9,8 @@ use Rattle.std.specs.Cmp.{IsEquivalence}
 use Rattle.std.specs.Cmp.Rules.{comparing}
 use Rattle.std.specs.Cmp.Lexicographic.{bytes_decides}
 use Rattle.std.specs.Str.{bytes_eq}
-use Rattle.event_table.specs.Texts.{AreDifferent, GrowsBy, with_text}
+use Rattle.event_table.specs.Texts.{AreDifferent}
+use Rattle.event_table.specs.inner.Growth.{GrowsBy, with_text}
 
 pub laws : IsEquivalence bytes_eq
 laws = search (comparing, rules)

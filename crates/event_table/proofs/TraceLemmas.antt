@@ -9,7 +9,8 @@ use Rattle.trace_types.specs.Batch.{events_of, trace_of, traces_of}
 use Rattle.trace_types.specs.Firsts.{firsts_of}
 use Rattle.event_table.specs.declared.event_numbers.EventNumbers.{EventNumbers}
 use Rattle.event_table.specs.Gathered.{first_request, trace_under, traces_under}
-use Rattle.event_table.specs.Numbers.{AreWithin, event_under, events_under, text_under}
+use Rattle.event_table.specs.Numbers.{event_under, events_under, text_under}
+use Rattle.event_table.specs.inner.Tables.{AreWithin}
 use Rattle.event_table.specs.Texts.{AreDifferent, MessageLists, TextLists}
 use Rattle.event_table.specs.inner.Placing.{groups_of, request_numbers, with_request}
 use Rattle.event_table.proofs.CountLemmas.{keys}

@@ -1,12 +1,12 @@
 -- The traces of events whose texts are numbers of tables.
-use Rattle.std.specs.Prelude.{ℕ, ◌≡◌, ◌<◌, List, [], ◌∷◌, length, map, All}
+use Rattle.std.specs.Prelude.{ℕ, List, [], ◌∷◌, map}
 use Rattle.std.specs.Prelude.{Option, None, slice_index_or}
 use Rattle.std.specs.List.{flat_map}
 use Rattle.trace_types.specs.declared.event.Event.{Event}
 use Rattle.trace_types.specs.Batch.{PlainTrace}
 use Rattle.trace_types.specs.Events.{receipts_of, sends_of}
 use Rattle.event_table.specs.declared.event_numbers.EventNumbers.{EventNumbers}
-use Rattle.event_table.specs.Numbers.{AreWithin, events_under, text_under}
+use Rattle.event_table.specs.Numbers.{events_under, text_under}
 use Rattle.event_table.specs.Texts.{MessageLists, TextLists}
 
 -- the events of tables, one table after another
@@ -33,13 +33,6 @@ trace_under texts messages events = record {
 -- the traces of groups of events, one of each request
 abbrev pub traces_under : TextLists → MessageLists → List (List EventNumbers) → List PlainTrace
 traces_under texts messages groups = map (trace_under texts messages) groups
-
--- so many groups of events, none of them empty, and their texts and messages
-pub record AreGathered (texts : TextLists) (messages : MessageLists)
-    (groups : List (List EventNumbers)) (count : ℕ) : Type 0 where
-  pub within : All (λ group. All (AreWithin texts messages) group) groups
-  pub some : All (λ group. 0 < length group) groups
-  pub counted : count ≡ length groups
 
 -- the texts of a trace's batch, and the trace
 pub record NumberedTrace : Type 0 where

@@ -1,4 +1,4 @@
-pub mod Cuts
+pub mod Digests
 pub mod Gathered
 pub mod LentEvents
 pub mod Numbers

@@ -1,11 +1,10 @@
 -- Events whose texts are numbers of tables, and whose messages are places in lists.
-use Rattle.std.specs.Prelude.{ℕ, ◌≡◌, ◌<◌, ◌==◌, ◌⊎◌, List, [], length, map, All}
-use Rattle.std.specs.Prelude.{slice_index_or}
-use Rattle.std.specs.Prelude.{Option, None, Some, option_map, if◌then◌else◌}
+use Rattle.std.specs.Prelude.{ℕ, ◌==◌, List, [], map, slice_index_or, Option, None, Some}
+use Rattle.std.specs.Prelude.{option_map, if◌then◌else◌}
 use Rattle.trace_types.specs.declared.event.Event.{Event}
 use Rattle.event_table.specs.declared.event_fields.EventFields.{EventFields}
 use Rattle.event_table.specs.declared.event_numbers.EventNumbers.{EventNumbers}
-use Rattle.event_table.specs.Texts.{AreFewMessages, AreFewTexts, MessageLists, TextLists}
+use Rattle.event_table.specs.Texts.{MessageLists, TextLists}
 
 -- the place that stands for no message
 abbrev pub no_message : ℕ
@@ -49,24 +48,3 @@ event_of line fields = record {
   send = option_map (λ s. s.now) fields.send;
   recv = option_map (λ s. s.now) fields.recv;
 }
-
--- the place is that of one of so many messages, or stands for none
-abbrev pub IsPlace : ℕ → ℕ → Type 0
-IsPlace count place = (place ≡ no_message) ⊎ (place < count)
-
--- the event's numbers are those of texts, and its places those of messages
-pub record AreWithin (texts : TextLists) (messages : MessageLists) (numbers : EventNumbers)
-    : Type 0 where
-  pub request : numbers.request < length texts.requests
-  pub machine : numbers.machine < length texts.machines
-  pub task : numbers.task < length texts.tasks
-  pub event : numbers.event < length texts.names
-  pub send : IsPlace (length messages.sends) numbers.send
-  pub recv : IsPlace (length messages.receipts) numbers.recv
-
--- events whose texts and messages are these; there are at most as many of each kind as events
-pub record IsTable (texts : TextLists) (messages : MessageLists) (events : List EventNumbers)
-    : Type 0 where
-  pub within : All (AreWithin texts messages) events
-  pub few : AreFewTexts (length events) texts
-  pub few_messages : AreFewMessages (length events) messages

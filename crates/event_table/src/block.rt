@@ -1,5 +1,5 @@
 ghost use Rattle.std.specs.Prelude.{length};
-ghost use Rattle.event_table.specs.Cuts.{AreStops, AreStops-prop};
+ghost use Rattle.event_table.specs.inner.Cuts.{AreStops, AreStops-prop};
 
 use crate::event_numbers::EventNumbers;
 

@@ -1,10 +1,11 @@
 ghost use Rattle.std.specs.Prelude.{◌≡◌, ◌↔◌, ◌-◌, ◌^◌, ◌<◌, ◌∷◌, [], ◌++◌, length, Some, slice_get};
 ghost use Rattle.std.specs.Prelude.{IfOk, IsTrue, OnErr, OnOk, ℕ};
-ghost use Rattle.event_table.specs.Numbers.{AreWithin, IsPlace, IsTable, event_of, event_under};
+ghost use Rattle.event_table.specs.Numbers.{event_of, event_under};
+ghost use Rattle.event_table.specs.inner.Tables.{AreWithin, IsPlace, IsTable};
 ghost use Rattle.event_table.specs.Numbers.{events_under, message_under};
 ghost use Rattle.event_table.specs.declared.event_numbers.EventNumbers.{EventNumbers};
-ghost use Rattle.event_table.specs.Texts.{AreFewMessages, AreFewTexts, MessagesGrowBy};
-ghost use Rattle.event_table.specs.Texts.{TextsGrowBy};
+ghost use Rattle.event_table.specs.inner.Growth.{AreFewMessages, AreFewTexts, MessagesGrowBy};
+ghost use Rattle.event_table.specs.inner.Growth.{TextsGrowBy};
 
 use crate::event_numbers::EventNumbers;
 use crate::messages::{Messages, add_message};
@@ -24,7 +25,8 @@ pub struct EventTable {
 impl Model for EventTable {
     ghost use Rattle.std.specs.Prelude.{List};
     ghost use Rattle.trace_types.specs.declared.event.Event.{Event};
-    ghost use Rattle.event_table.specs.Numbers.{IsTable, events_under};
+    ghost use Rattle.event_table.specs.Numbers.{events_under};
+    ghost use Rattle.event_table.specs.inner.Tables.{IsTable};
 
     ghost Value = { List Event };
 

@@ -19,7 +19,8 @@ pub struct GatheredEvents {
 }
 
 impl Model for GatheredEvents {
-    ghost use Rattle.event_table.specs.Gathered.{AreGathered, Gathered, traces_under};
+    ghost use Rattle.event_table.specs.Gathered.{Gathered, traces_under};
+    ghost use Rattle.event_table.specs.inner.Tables.{AreGathered};
     ghost use Rattle.event_table.specs.inner.Groups.{groups_of_blocks};
 
     ghost Value = { Gathered };

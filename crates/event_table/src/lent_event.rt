@@ -1,6 +1,7 @@
 ghost use Rattle.std.specs.Prelude.{◌≡◌, ◌<◌, length, Some, slice_get};
 ghost use Rattle.event_table.specs.LentEvents.{event_lent};
-ghost use Rattle.event_table.specs.Numbers.{AreWithin, event_under};
+ghost use Rattle.event_table.specs.Numbers.{event_under};
+ghost use Rattle.event_table.specs.inner.Tables.{AreWithin};
 
 use crate::event_numbers::EventNumbers;
 use crate::messages::Messages;

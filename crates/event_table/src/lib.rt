@@ -5,6 +5,7 @@
 
 mod block;
 mod counting;
+mod digests;
 mod event_fields;
 mod event_numbers;
 mod event_table;
@@ -26,9 +27,11 @@ mod renumbering;
 mod spreading;
 #[cfg(test)]
 mod tests;
+mod text_keys;
 mod text_table;
 mod texts;
 
+pub use digests::digest;
 pub use event_fields::EventFields;
 pub use event_numbers::EventNumbers;
 pub use event_table::EventTable;

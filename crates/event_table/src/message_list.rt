@@ -1,8 +1,9 @@
 ghost use Rattle.std.specs.Prelude.{◌≡◌, ◌+◌, ◌<◌, ◌≤◌, ◌++◌, ◌∷◌, [], ℕ, List, length, map};
 ghost use Rattle.std.specs.Prelude.{IfOk, OnErr, OnOk, Some, slice_get, slice_index, slice_range};
 ghost use Rattle.std.specs.Prelude.{option_copied};
-ghost use Rattle.event_table.specs.Cuts.{AreStops};
-ghost use Rattle.event_table.specs.Numbers.{IsPlace, message_under, no_message};
+ghost use Rattle.event_table.specs.inner.Cuts.{AreStops};
+ghost use Rattle.event_table.specs.Numbers.{message_under, no_message};
+ghost use Rattle.event_table.specs.inner.Tables.{IsPlace};
 
 use crate::event_numbers::NO_MESSAGE;
 use std::alloc::{AllocError, Global};
@@ -18,7 +19,7 @@ pub struct MessageList {
 
 impl Model for MessageList {
     ghost use Rattle.std.specs.Prelude.{List, ℕ, length};
-    ghost use Rattle.event_table.specs.Cuts.{AreStops, cut_at};
+    ghost use Rattle.event_table.specs.inner.Cuts.{AreStops, cut_at};
 
     ghost Value = { List (List ℕ) };
 

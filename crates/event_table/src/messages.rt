@@ -1,7 +1,9 @@
 ghost use Rattle.std.specs.Prelude.{◌≡◌, ◌+◌, ◌^◌, ◌<◌, ◌++◌, [], length, option_map};
 ghost use Rattle.std.specs.Prelude.{IfOk, OnErr, OnOk};
-ghost use Rattle.event_table.specs.Numbers.{IsPlace, message_under};
-ghost use Rattle.event_table.specs.Texts.{GrowsBy, MessageLists};
+ghost use Rattle.event_table.specs.Numbers.{message_under};
+ghost use Rattle.event_table.specs.inner.Tables.{IsPlace};
+ghost use Rattle.event_table.specs.Texts.{MessageLists};
+ghost use Rattle.event_table.specs.inner.Growth.{GrowsBy};
 
 use crate::MessageList;
 use crate::event_numbers::NO_MESSAGE;

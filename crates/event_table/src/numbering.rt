@@ -1,8 +1,9 @@
 ghost use Rattle.std.specs.Prelude.{◌≡◌, ◌+◌, ◌^◌, ◌<◌, ◌≤◌, ◌++◌, ℕ, List, length, All, IfOk, OnOk};
 ghost use Rattle.event_table.specs.Gathered.{events_of_tables};
-ghost use Rattle.event_table.specs.Numbers.{AreWithin, events_under};
-ghost use Rattle.event_table.specs.Texts.{AreFewMessages, AreFewTexts, GrowsBy, MessagesGrowBy};
-ghost use Rattle.event_table.specs.Texts.{TextsGrowBy};
+ghost use Rattle.event_table.specs.Numbers.{events_under};
+ghost use Rattle.event_table.specs.inner.Tables.{AreWithin};
+ghost use Rattle.event_table.specs.inner.Growth.{AreFewMessages, AreFewTexts, GrowsBy, MessagesGrowBy};
+ghost use Rattle.event_table.specs.inner.Growth.{TextsGrowBy};
 ghost use Rattle.event_table.specs.inner.Renumbering.{AreAllNumbersOf, AreNumbersOf, part_events};
 ghost use Rattle.event_table.specs.inner.Renumbering.{whole_events};
 
@@ -50,7 +51,7 @@ fn number_texts(
     }
     let mut numbers = Vec::with_capacity(alloc, texts.len())?;
     for text in texts.into_texts() {
-        numbers.push(whole.insert(text)?)?;
+        numbers.push(whole.insert(alloc, text)?)?;
     }
     Ok(numbers)
 }

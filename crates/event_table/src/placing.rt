@@ -2,7 +2,8 @@ ghost use Rattle.std.specs.Prelude.{◌≡◌, ◌+◌, ◌<◌, ◌≤◌, ◌+
 ghost use Rattle.std.specs.Prelude.{All, slice_index, sum_by};
 ghost use Rattle.event_table.specs.declared.event_numbers.EventNumbers.{EventNumbers};
 ghost use Rattle.event_table.specs.inner.Groups.{block_groups};
-ghost use Rattle.event_table.specs.inner.Placing.{AreApart, AreNowhere, AreSome, AreStarts};
+ghost use Rattle.event_table.specs.inner.Placing.{AreNowhere, AreSome, AreStarts};
+ghost use Rattle.event_table.specs.Texts.{AreDifferent};
 ghost use Rattle.event_table.specs.inner.Placing.{IsPlacing, ends_from, groups_of, no_place};
 ghost use Rattle.event_table.specs.inner.Renumbering.{IsOwn, part_events, renumbered, whole_events};
 
@@ -24,7 +25,7 @@ fn start_requests(
 ) -> Result<u32, AllocError>
     requires within { All (λ r. r < length counts.now) requests.now }
     requires long { length next.old ≡ length counts.now }
-    requires apart { AreApart requests.now }
+    requires apart { AreDifferent requests.now }
     requires few { sum_by (slice_index counts.now) requests.now ≤ no_place }
     requires nowhere { AreNowhere [] next.old }
     requires empty { ends.old.items ≡ [] }

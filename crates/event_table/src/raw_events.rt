@@ -1,7 +1,8 @@
 ghost use Rattle.std.specs.Prelude.{◌≡◌, ◌<◌, length, Some, slice_get, option_copied};
-ghost use Rattle.trace_types.specs.Events.{line_at, machine_at, name_at, task_at, time_at};
+ghost use Rattle.trace_types.specs.Events.{line_at, machine_at, event_name_at, task_at, time_at};
 ghost use Rattle.event_table.specs.Gathered.{receipt_at, send_at};
-ghost use Rattle.event_table.specs.Numbers.{AreWithin, event_under};
+ghost use Rattle.event_table.specs.Numbers.{event_under};
+ghost use Rattle.event_table.specs.inner.Tables.{AreWithin};
 ghost use Rattle.event_table.specs.declared.event_numbers.EventNumbers.{EventNumbers};
 
 use crate::Texts;
@@ -22,7 +23,7 @@ pub struct RawEvents<'a> {
 impl<'a> Model for RawEvents<'a> {
     ghost use Rattle.std.specs.Prelude.{◌<◌, All, length};
     ghost use Rattle.event_table.specs.Gathered.{NumberedTrace, trace_under};
-    ghost use Rattle.event_table.specs.Numbers.{AreWithin};
+    ghost use Rattle.event_table.specs.inner.Tables.{AreWithin};
 
     ghost Value = { NumberedTrace };
 
@@ -109,7 +110,7 @@ impl<'a> RawEvents<'a> {
     /// Gives the number of the name of the event at this index.
     pub fn event(&self, at: usize) -> u32
         requires { at < length self.now.trace.events }
-        ensures { slice_get self.now.texts.names result ≡ Some (name_at self.now.trace.events at) }
+        ensures { slice_get self.now.texts.names result ≡ Some (event_name_at self.now.trace.events at) }
     {
         event_at(self.events, at).event
     }

@@ -1,5 +1,5 @@
 ghost use Rattle.std.specs.Prelude.{◌≡◌, []};
-ghost use Rattle.event_table.specs.Texts.{AreAllDifferent};
+ghost use Rattle.event_table.specs.inner.Growth.{AreAllDifferent};
 
 use crate::TextTable;
 use std::alloc::Global;

@@ -4,7 +4,7 @@ use Rattle.std.proofs.lemmas.List.Sums.{sum_by-cons}
 use Rattle.forecast_rows.specs.inner.NumberedForecasts.{IsShort}
 use Rattle.weighted_dag.specs.Chains.{IsChain, IsLongestLength, chain_length}
 use Rattle.weighted_dag.specs.Graphs.{Graph, IsGraph, order_of, weight_of, with_weights}
-use Rattle.what_if.specs.ForecastLaws.{AreLesser, LosesNoMore}
+use Rattle.what_if.specs.ForecastLaws.{AreNoGreater, LosesNoMore}
 use Rattle.what_if.specs.declared.forecast.Forecast.{Forecast}
 
 -- each weight has 64 bits
@@ -37,7 +37,7 @@ chain_short g form fits (v ∷ c) h =
     omega arith
 
 -- the forecast is short
-pub short : (g : Graph) (weights : List ℕ) (f : Forecast) → IsGraph g → HasWords g → LosesNoMore → AreLesser g weights → IsLongestLength g f.before → IsLongestLength (with_weights g weights) f.after → IsShort f
+pub short : (g : Graph) (weights : List ℕ) (f : Forecast) → IsGraph g → HasWords g → LosesNoMore → AreNoGreater g weights → IsLongestLength g f.before → IsLongestLength (with_weights g weights) f.after → IsShort f
 short g weights f form fits loses lesser before after =
     let most = chain_short g form fits before.0 before.1.chain in
     let is : chain_length g before.0 ≡ f.before = before.2 in

@@ -10,7 +10,7 @@ use Rattle.segment_names.specs.Known.{Known, name_number}
 use Rattle.segment_names.specs.Limits.{IsKept}
 use Rattle.session_rules.specs.ForecastTexts.{IsForecastOf, time_under}
 use Rattle.session_rules.specs.KeptTraces.{Kept, by_kept}
-use Rattle.session_rules.specs.TraceTexts.{name_at}
+use Rattle.session_rules.specs.TraceTexts.{name_of_vertex}
 use Rattle.session_rules.specs.declared.named_change.NamedChange.{NamedChange}
 use Rattle.trace_graph.specs.TraceGraphs.{IsTraceGraph}
 use Rattle.trace_types.specs.Parts.{by_number}
@@ -44,14 +44,14 @@ time_by known change number name time (Some n) fits found here =
     ap (λ (b : Bool). if b then time * change.num / change.den else time) (number_tells known.names fits.names_differ change.name name n number found here)
 
 vertex_time : (known : Known) (change : NamedChange) (traces : List NamedTrace) (t : NamedTrace) (k : Kept) (order : List ℕ) (g : Graph) (weights : List ℕ) → IsKept known → AreNumbered known → IsShown known t k → IsTraceGraph by_number traces t order g
-    → AreChanged t.segments order (changes_of known change) g.weights weights → (v : ℕ) → v < order_of g → slice_index weights v ≡ time_under change (name_at k order v) (weight_of g v)
+    → AreChanged t.segments order (changes_of known change) g.weights weights → (v : ℕ) → v < order_of g → slice_index weights v ≡ time_under change (name_of_vertex k order v) (weight_of g v)
 vertex_time known change traces t k order g weights fits numbered shown graph changed v lt =
-    let within : v < length order = subst (λ n. v < n) graph.count lt in
+    let within : v < length order = subst (λ n. v < n) graph.has.count lt in
     let index = slice_get-get_or order v 0 within in
-    let placed : slice_index order v < length t.segments = (graph.vertices.all (get_or order v 0)).0 (v, within, get_or_from_slice_get order v (get_or order v 0) (get_or order v 0) index) in
+    let placed : slice_index order v < length t.segments = (graph.has.vertices.all (get_or order v 0)).0 (v, within, get_or_from_slice_get order v (get_or order v 0) (get_or order v 0) index) in
     let at = zip_at (IsSegmentRenamed by_number by_kept (enumerate_from 0 known.names) (enumerate_from 0 known.tasks) shown.renamed.elements) t.segments k.trace.segments (slice_index order v) shown.renamed.segments placed in
     let name : slice_get known.names at.0.name ≡ Some (name_of at.1) = (numbered at.0.name (name_of at.1)).0 at.4.name in
-    let called : name_at k order v ≡ name_of at.1 = ap (λ o. option_map_or name_of o ([], [], [])) at.3 in
+    let called : name_of_vertex k order v ≡ name_of at.1 = ap (λ o. option_map_or name_of o ([], [], [])) at.3 in
     changed.weights v (slice_index order v) at.0 index at.2
     ∙ (time_by known change at.0.name (name_of at.1) (weight_of g v) (name_number known change.name) fits refl name
     ∙ ap (λ n. time_under change n (weight_of g v)) (sym called))

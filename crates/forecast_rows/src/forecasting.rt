@@ -4,7 +4,7 @@ ghost use Rattle.std.specs.List.{AllZip};
 ghost use Rattle.forecast_rows.specs.inner.NumberedForecasts.{IsForecastUnder, changes_of};
 ghost use Rattle.refute_tests.specs.Clearing.{HaveNamesBelow};
 ghost use Rattle.trace_types.specs.declared.named_trace.NamedTrace.{NamedTrace};
-ghost use Rattle.what_if.specs.ForecastLaws.{IsLess};
+ghost use Rattle.what_if.specs.ForecastLaws.{IsNoGreater};
 
 use model_meet::{Exclusions, Model};
 use rayon::prelude::*;
@@ -14,7 +14,7 @@ use std::alloc::{AllocError, Global};
 use std::thread::Threads;
 use trace_graph::graph_by;
 use trace_types::NamedTrace;
-use what_if::laws::{changes_make_less, graph_has_segments, loses_no_more};
+use what_if::laws::{changes_raise_no_weight, graph_has_segments, loses_no_more};
 use what_if::{Change, Forecast, predict};
 
 /// How few traces are worth a thread of their own.
@@ -33,11 +33,11 @@ fn forecast_trace(
     changes: &[Change],
 ) -> Result<Forecast, AllocError>
     requires below { HaveNamesBelow exclusions.now.names trace.now }
-    requires less { All IsLess changes.now }
+    requires less { All IsNoGreater changes.now }
     ensures { IfOk result (IsForecastUnder exclusions.now.words changes.now trace.now) }
 {
     graph_has_segments();
-    changes_make_less();
+    changes_raise_no_weight();
     loses_no_more();
     let ordered = graph_by(alloc, trace, exclusions)?;
     weights_have_words(ordered.dag.weights());
@@ -54,7 +54,7 @@ fn forecast_by<R: Threads + Sync>(
 ) -> Result<Vec<Forecast>, AllocError>
     requires below { All (λ (t : Bor NamedTrace). HaveNamesBelow exclusions.now.names t.now)
         traces.now }
-    requires less { All IsLess changes.now }
+    requires less { All IsNoGreater changes.now }
     ensures { IfOk result (λ forecasts. AllZip (λ (t : Bor NamedTrace) f.
         IsForecastUnder exclusions.now.words changes.now t.now f) traces.now forecasts.items) }
 {
@@ -64,7 +64,7 @@ fn forecast_by<R: Threads + Sync>(
         .map(
             |trace: &&NamedTrace| -> Result<Forecast, AllocError>
                 requires below { HaveNamesBelow exclusions.now.names trace.now.now }
-                requires less { All IsLess changes.now }
+                requires less { All IsNoGreater changes.now }
                 ensures { IfOk result
                     (IsForecastUnder exclusions.entry.now.words changes.entry.now trace.now.now) }
             { forecast_trace(alloc, trace, exclusions, changes) },
@@ -82,7 +82,7 @@ fn forecast_each<R: Threads + Sync>(
     changes: &[Change],
 ) -> Result<Vec<Forecast>, AllocError>
     requires below { All (λ (t : Bor NamedTrace). HaveNamesBelow model.now.names t.now) traces.now }
-    requires less { All IsLess changes.now }
+    requires less { All IsNoGreater changes.now }
     ensures { IfOk result (λ forecasts. AllZip (λ (t : Bor NamedTrace) f.
         IsForecastUnder model.now.words changes.now t.now f) traces.now forecasts.items) }
 {

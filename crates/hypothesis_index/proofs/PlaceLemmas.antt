@@ -4,7 +4,7 @@ use Rattle.std.proofs.lemmas.Bool.{cases_order, cond-true, cond-false, lt-ltb, l
 use Rattle.hypothesis_index.specs.declared.relation.Relation.{Relation}
 use Rattle.hypothesis_index.specs.declared.relation.Relation.TheVariants.{Before, Exclusive, Apart, Pipe, Unshared}
 use Rattle.hypothesis_index.specs.declared.bit_place.BitPlace.{BitPlace}
-use Rattle.hypothesis_index.specs.Places.{pairs_below, pair_number, IsRelation, place_in, place_of, NamesBelow, width_of}
+use Rattle.hypothesis_index.specs.Places.{pairs_below, pair_number, IsRelation, pair_place, place_of, NamesBelow, width_of}
 use Rattle.hypothesis_index.proofs.PairLemmas.{pairs_below-64, pairs_below-512, pair-below, same_pair}
 
 abbrev pub relation_at : ℕ → ℕ → ℕ → ℕ → Relation
@@ -25,7 +25,7 @@ pub record PlaceParts (r : Relation) : Type 0 where
   pub small : high < 512
   pub begins : ((begin ≡ 0) × (high < 64) × (kind < 3)) ⊎ ((begin ≡ 126) × (kind < 4))
   pub is : r ≡ relation_at begin low high kind
-  pub place : place_of r ≡ place_in begin low high kind
+  pub place : place_of r ≡ pair_place begin low high kind
 
 pub parts_of : (r : Relation) → IsRelation r → PlaceParts r
 parts_of (Before a b) v = let apart = v.0 in let in_a = v.1 in let in_b = v.2 in ⊎_elim
@@ -76,7 +76,7 @@ module _ (r s : Relation) (a : PlaceParts r) (b : PlaceParts s) (word : a.begin 
       a.is ∙ (λ j. relation_at (same_begin j) (p.0 j) (p.1 j) (same_kind j)) ∙ sym b.is
 
 pub places_apart : (r s : Relation) → IsRelation r → IsRelation s → place_of r ≡ place_of s → r ≡ s
-places_apart r s v w e = let a = parts_of r v in let b = parts_of s w in let p : place_in a.begin a.low a.high a.kind ≡ place_in b.begin b.low b.high b.kind = sym a.place ∙ e ∙ b.place in
+places_apart r s v w e = let a = parts_of r v in let b = parts_of s w in let p : pair_place a.begin a.low a.high a.kind ≡ pair_place b.begin b.low b.high b.kind = sym a.place ∙ e ∙ b.place in
     same_relation r s a b (ap (λ (q : BitPlace). q.word) p) (ap (λ (q : BitPlace). q.bit) p)
 
 -- the bounds of a place
@@ -85,20 +85,20 @@ pub record Inside (p : BitPlace) : Type 0 where
   pub bit : p.bit < 64
   pub task : p.word < 126 → p.bit % 4 < 3
 
-inside_from : (r : Relation) (a : PlaceParts r) → Inside (place_in a.begin a.low a.high a.kind)
+inside_from : (r : Relation) (a : PlaceParts r) → Inside (pair_place a.begin a.low a.high a.kind)
 inside_from r a = let n = pair-below a.low a.high 512 a.rises a.small in let m = pairs_below-512 in ⊎_elim
-    (λ (p : (a.begin ≡ 0) × (a.high < 64) × (a.kind < 3)). let l = task_pair a.low a.high a.rises p.1 in let r : Inside (place_in a.begin a.low a.high a.kind) = record { word = omega arith; bit = omega arith; task = λ h. omega arith } in r)
-    (λ (p : (a.begin ≡ 126) × (a.kind < 4)). let r : Inside (place_in a.begin a.low a.high a.kind) = record { word = omega arith; bit = omega arith; task = λ h. absurd (omega arith) } in r)
+    (λ (p : (a.begin ≡ 0) × (a.high < 64) × (a.kind < 3)). let l = task_pair a.low a.high a.rises p.1 in let r : Inside (pair_place a.begin a.low a.high a.kind) = record { word = omega arith; bit = omega arith; task = λ h. omega arith } in r)
+    (λ (p : (a.begin ≡ 126) × (a.kind < 4)). let r : Inside (pair_place a.begin a.low a.high a.kind) = record { word = omega arith; bit = omega arith; task = λ h. absurd (omega arith) } in r)
     a.begins
 
 pub inside : (r : Relation) → IsRelation r → Inside (place_of r)
 inside r v = let a = parts_of r v in subst Inside (sym a.place) (inside_from r a)
 
 -- the place of a pair of names below n
-name_fits : (n i j k : ℕ) → i < j → j < n → n ≤ 512 → k < 4 → ((place_in 126 i j k).word < width_of n) × ((place_in 126 i j k).bit < 64)
+name_fits : (n i j k : ℕ) → i < j → j < n → n ≤ 512 → k < 4 → ((pair_place 126 i j k).word < width_of n) × ((pair_place 126 i j k).bit < 64)
 name_fits n i j k h l m f = let b = pair-below i j n h l in (omega arith, omega arith)
 
-task_fits : (n i j k : ℕ) → i < j → j < 64 → k < 4 → ((place_in 0 i j k).word < width_of n) × ((place_in 0 i j k).bit < 64)
+task_fits : (n i j k : ℕ) → i < j → j < 64 → k < 4 → ((pair_place 0 i j k).word < width_of n) × ((pair_place 0 i j k).bit < 64)
 task_fits n i j k h l f = let b = task_pair i j h l in (omega arith, omega arith)
 
 abbrev Fits : ℕ → BitPlace → Type 0
@@ -108,15 +108,15 @@ pub place_fits : (n : ℕ) (r : Relation) → n ≤ 512 → IsRelation r → Nam
 place_fits n (Before a b) m v w = let apart = v.0 in ⊎_elim
     (λ (e : a ≡ b). absurd (apart e))
     (⊎_elim
-    (λ (l : a < b). subst (Fits n) (sym (cond-true (nat_lt a b) (place_in 126 a b 0) (place_in 126 b a 1) (lt-ltb a b l))) (name_fits n a b 0 l w.1 m (omega arith)))
-    (λ (l : b < a). subst (Fits n) (sym (cond-false (nat_lt a b) (place_in 126 a b 0) (place_in 126 b a 1) (le-ltb a b (omega arith)))) (name_fits n b a 1 l w.0 m (omega arith))))
+    (λ (l : a < b). subst (Fits n) (sym (cond-true (nat_lt a b) (pair_place 126 a b 0) (pair_place 126 b a 1) (lt-ltb a b l))) (name_fits n a b 0 l w.1 m (omega arith)))
+    (λ (l : b < a). subst (Fits n) (sym (cond-false (nat_lt a b) (pair_place 126 a b 0) (pair_place 126 b a 1) (le-ltb a b (omega arith)))) (name_fits n b a 1 l w.0 m (omega arith))))
     (cases_order a b)
 place_fits n (Exclusive a b) m v w = name_fits n a b 2 v.0 w m (omega arith)
 place_fits n (Apart a b) m v w = name_fits n a b 3 v.0 w m (omega arith)
 place_fits n (Pipe a b) m v w = let apart = v.0 in ⊎_elim
     (λ (e : a ≡ b). absurd (apart e))
     (⊎_elim
-    (λ (l : a < b). subst (Fits n) (sym (cond-true (nat_lt a b) (place_in 0 a b 0) (place_in 0 b a 1) (lt-ltb a b l))) (task_fits n a b 0 l v.2 (omega arith)))
-    (λ (l : b < a). subst (Fits n) (sym (cond-false (nat_lt a b) (place_in 0 a b 0) (place_in 0 b a 1) (le-ltb a b (omega arith)))) (task_fits n b a 1 l v.1 (omega arith))))
+    (λ (l : a < b). subst (Fits n) (sym (cond-true (nat_lt a b) (pair_place 0 a b 0) (pair_place 0 b a 1) (lt-ltb a b l))) (task_fits n a b 0 l v.2 (omega arith)))
+    (λ (l : b < a). subst (Fits n) (sym (cond-false (nat_lt a b) (pair_place 0 a b 0) (pair_place 0 b a 1) (le-ltb a b (omega arith)))) (task_fits n b a 1 l v.1 (omega arith))))
     (cases_order a b)
 place_fits n (Unshared a b) m v w = task_fits n a b 2 v.0 v.1 (omega arith)

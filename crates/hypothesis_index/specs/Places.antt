@@ -32,18 +32,18 @@ abbrev pub pair_number : ℕ → ℕ → ℕ
 pair_number i j = pairs_below j + i
 
 -- each pair has four bits, one a kind, and sixteen pairs fill a word, from this word on
-abbrev pub place_in : ℕ → ℕ → ℕ → ℕ → BitPlace
-place_in begin i j kind =
+abbrev pub pair_place : ℕ → ℕ → ℕ → ℕ → BitPlace
+pair_place begin i j kind =
     record { word = begin + pair_number i j / 16; bit = 4 * (pair_number i j % 16) + kind }
 
 -- the pairs of tasks fill the words 0 to 125, and the pairs of names stand from word 126 on; the
 -- last bit of a pair of tasks is no relation's
 abbrev pub place_of : Relation → BitPlace
-place_of (Before a b) = if nat_lt a b then place_in 126 a b 0 else place_in 126 b a 1
-place_of (Exclusive a b) = place_in 126 a b 2
-place_of (Apart a b) = place_in 126 a b 3
-place_of (Pipe t u) = if nat_lt t u then place_in 0 t u 0 else place_in 0 u t 1
-place_of (Unshared t u) = place_in 0 t u 2
+place_of (Before a b) = if nat_lt a b then pair_place 126 a b 0 else pair_place 126 b a 1
+place_of (Exclusive a b) = pair_place 126 a b 2
+place_of (Apart a b) = pair_place 126 a b 3
+place_of (Pipe t u) = if nat_lt t u then pair_place 0 t u 0 else pair_place 0 u t 1
+place_of (Unshared t u) = pair_place 0 t u 2
 
 -- 126 words for the tasks, and one for each sixteen pairs of names, rounded up
 abbrev pub width_of : ℕ → ℕ

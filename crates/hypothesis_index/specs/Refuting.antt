@@ -1,6 +1,5 @@
 -- The statement that belongs to a relation: what a trace refutes whose names, tasks and elements
--- are
--- numbers.
+-- are numbers.
 use Rattle.std.specs.Prelude.{◌≡◌, ℕ}
 use Rattle.trace_types.specs.declared.named_trace.NamedTrace.{NamedTrace}
 use Rattle.trace_types.specs.Parts.{by_number}

@@ -1,6 +1,6 @@
 ghost use Rattle.std.specs.Prelude.{◌≡◌, ◌<◌, ◌≤◌};
 ghost use Rattle.hypothesis_index.specs.declared.relation.Relation.TheVariants.{Exclusive};
-ghost use Rattle.hypothesis_index.specs.Places.{IsRelation, place_in, place_of, width_of};
+ghost use Rattle.hypothesis_index.specs.Places.{IsRelation, pair_place, place_of, width_of};
 
 use crate::pairs::count_pairs;
 use crate::{BitPlace, Relation};
@@ -14,7 +14,7 @@ fn place_in(begin: u32, low: u32, high: u32, kind: u32) -> BitPlace
     requires small { high < 512 }
     requires first { begin ≤ 126 }
     requires one { kind < 4 }
-    ensures { result ≡ place_in begin low high kind }
+    ensures { result ≡ pair_place begin low high kind }
 {
     let number = count_pairs(high) + low;
     BitPlace {

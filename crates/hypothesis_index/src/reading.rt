@@ -1,6 +1,6 @@
 ghost use Rattle.std.specs.Prelude.{◌≡◌, ◌<◌, IfSome, MatchOption};
 ghost use Rattle.hypothesis_index.specs.declared.relation.Relation.{Relation};
-ghost use Rattle.hypothesis_index.specs.Places.{IsRelation, place_in, place_of};
+ghost use Rattle.hypothesis_index.specs.Places.{IsRelation, pair_place, place_of};
 
 use crate::layout::TASK_WORDS;
 use crate::pairs::unpair;
@@ -15,7 +15,7 @@ fn task_relation(low: u32, high: u32, kind: u32) -> Option<Relation>
     requires small { high < 64 }
     requires one { kind < 4 }
     ensures { MatchOption result (kind ≡ 3)
-        (λ r. IsRelation r × (place_of r ≡ place_in 0 low high kind)) }
+        (λ r. IsRelation r × (place_of r ≡ pair_place 0 low high kind)) }
 {
     match kind {
         0 => Some(Relation::Pipe {
@@ -36,7 +36,7 @@ fn name_relation(low: u32, high: u32, kind: u32) -> Relation
     requires rises { low < high }
     requires small { high < 512 }
     requires one { kind < 4 }
-    ensures { IsRelation result × (place_of result ≡ place_in 126 low high kind) }
+    ensures { IsRelation result × (place_of result ≡ pair_place 126 low high kind) }
 {
     match kind {
         0 => Relation::Before {

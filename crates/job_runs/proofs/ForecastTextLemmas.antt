@@ -4,7 +4,7 @@ use Rattle.std.specs.Prelude.{slice_index, sum_by}
 use Rattle.std.proofs.lemmas.List.{ext_get_or}
 use Rattle.session_rules.specs.ForecastTexts.{IsForecastHead, IsForecastOf, IsForecastText, time_under}
 use Rattle.session_rules.specs.KeptTraces.{Kept, by_kept}
-use Rattle.session_rules.specs.TraceTexts.{name_at}
+use Rattle.session_rules.specs.TraceTexts.{name_of_vertex}
 use Rattle.session_rules.specs.declared.named_change.NamedChange.{NamedChange}
 use Rattle.text_rows.specs.Rows.{figure, row_of}
 use Rattle.trace_graph.specs.TraceGraphs.{HasOneGraph}
@@ -23,9 +23,9 @@ module _ (graphs : HasOneGraph by_kept) (change : NamedChange) (kept : List Kept
       same : (p.order ≡ q.order) × (p.graph ≡ q.graph)
       same = of_one_graph graphs kept k p.order q.order p.graph q.graph p.is q.is
 
-      under : (v : ℕ) → v < order_of q.graph → slice_index p.weights v ≡ time_under change (name_at k q.order v) (weight_of q.graph v)
-      under = subst (λ (h : Graph). (v : ℕ) → v < order_of h → slice_index p.weights v ≡ time_under change (name_at k q.order v) (weight_of h v)) same.1
-          (subst (λ (o : List ℕ). (v : ℕ) → v < order_of p.graph → slice_index p.weights v ≡ time_under change (name_at k o v) (weight_of p.graph v)) same.0 p.changed)
+      under : (v : ℕ) → v < order_of q.graph → slice_index p.weights v ≡ time_under change (name_of_vertex k q.order v) (weight_of q.graph v)
+      under = subst (λ (h : Graph). (v : ℕ) → v < order_of h → slice_index p.weights v ≡ time_under change (name_of_vertex k q.order v) (weight_of h v)) same.1
+          (subst (λ (o : List ℕ). (v : ℕ) → v < order_of p.graph → slice_index p.weights v ≡ time_under change (name_of_vertex k o v) (weight_of p.graph v)) same.0 p.changed)
 
       count : length p.weights ≡ order_of q.graph
       count = p.count ∙ ap order_of same.1

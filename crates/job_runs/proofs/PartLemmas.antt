@@ -5,7 +5,7 @@ use Rattle.std.specs.Cmp.Lexicographic.{slice_cmp}
 use Rattle.std.specs.Ordering.{nat_cmp}
 use Rattle.model_meet.specs.Pipes.{IsPipeline}
 use Rattle.session_rules.specs.KeptTraces.{Kept, by_kept, day_of}
-use Rattle.session_rules.specs.ModelTexts.{AreFigures, Figures, IsModelHead, IsModelText, header_row, model_text}
+use Rattle.session_rules.specs.ModelTexts.{AreModelFigures, Figures, IsModelHead, IsModelText, header_row, model_text}
 use Rattle.session_rules.specs.Parts.{AreWatchRows, Part, IsPart, Refusals, Watched, Dropped, KeptNewest, ModelOf, Header, PathOf, SlacksOf, GraphOf, ModelHead, ReportHead, LatenciesOf, SegmentOf, TailHead, TailOf, ForecastHead, ForecastOf, WhyHead, RefutedOf, Verdict, Verified}
 use Rattle.slow_tail.specs.SlowLaws.{PathsAreOne}
 use Rattle.text_rows.specs.TextsOfParts.{AreTexts}
@@ -43,7 +43,7 @@ watch_one : (every workers day : ℕ) (traces : List Kept) (t u : List ℕ) → 
 watch_one every workers day traces t u h k = record { lines = h.lines; others = k.lines; text_is = h.text; other_is = k.text; marks = h.are.marks ∙ sym k.are.marks }
 
 module _ (told : OneTelling) where
-  figures_one : (kept : List Kept) (f g : Figures) → AreFigures kept f → AreFigures kept g → f ≡ g
+  figures_one : (kept : List Kept) (f g : Figures) → AreModelFigures kept f → AreModelFigures kept g → f ≡ g
   figures_one kept f g h k =
       ap (λ (x : ℕ). record { days = x; names = f.names; tasks = f.tasks; hb = f.hb; mx = f.mx; pipe = f.pipe }) days
       ∙ ap (λ (x : ℕ). record { days = g.days; names = x; tasks = f.tasks; hb = f.hb; mx = f.mx; pipe = f.pipe }) names

@@ -16,7 +16,7 @@ use Rattle.weighted_dag.specs.Graphs.{Graph, IsEdge, IsGraph, order_of, successo
 use Rattle.weighted_dag.specs.Reductions.{IsKeptEdge}
 use Rattle.weighted_dag.specs.Slacks.{IsSlack}
 use Rattle.session_rules.specs.KeptTraces.{Kept, by_kept}
-use Rattle.session_rules.specs.TraceTexts.{IsGraphOf, IsGraphText, IsPathText, IsSlackText, graph_text, name_at, path_text, slack_text, trace_row}
+use Rattle.session_rules.specs.TraceTexts.{IsGraphOf, IsGraphText, IsPathText, IsSlackText, graph_text, name_of_vertex, path_text, slack_text, trace_row}
 use Rattle.job_runs.proofs.JobLemmas.{OneRisingList}
 
 -- ---- chains, lengths and slacks
@@ -81,7 +81,7 @@ module _ (listed : OneRisingList ℕ) where
 
 -- the row of a vertex with its slack
 abbrev slack_row : Kept → List ℕ → Graph → List ℕ → ℕ → List ℕ
-slack_row k order graph slacks v = row_of (codes "segment" ∷ (name_at k order v).0 ∷ (name_at k order v).1 ∷ (name_at k order v).2 ∷ decimal (weight_of graph v) ∷ decimal (slice_index slacks v) ∷ [])
+slack_row k order graph slacks v = row_of (codes "segment" ∷ (name_of_vertex k order v).0 ∷ (name_of_vertex k order v).1 ∷ (name_of_vertex k order v).2 ∷ decimal (weight_of graph v) ∷ decimal (slice_index slacks v) ∷ [])
 
 module _ (graphs : HasOneGraph by_kept) where
   pub of_one_graph : (kept : List Kept) (k : Kept) (order other : List ℕ) (g h : Graph) → IsGraphOf kept k order g → IsGraphOf kept k other h → (order ≡ other) × (g ≡ h)
@@ -109,7 +109,7 @@ module _ (graphs : HasOneGraph by_kept) where
 
       rows : flat_map (slack_row k q.order q.graph p.slacks) (range_with_len 0 (order_of q.graph)) ≡ flat_map (slack_row k q.order q.graph q.slacks) (range_with_len 0 (order_of q.graph))
       rows = rows_agree (slack_row k q.order q.graph p.slacks) (slack_row k q.order q.graph q.slacks) 0 (order_of q.graph)
-          (λ v lt. ap (λ (n : ℕ). row_of (codes "segment" ∷ (name_at k q.order v).0 ∷ (name_at k q.order v).1 ∷ (name_at k q.order v).2 ∷ decimal (weight_of q.graph v) ∷ decimal n ∷ [])) (each v (omega (arith, lt))))
+          (λ v lt. ap (λ (n : ℕ). row_of (codes "segment" ∷ (name_of_vertex k q.order v).0 ∷ (name_of_vertex k q.order v).1 ∷ (name_of_vertex k q.order v).2 ∷ decimal (weight_of q.graph v) ∷ decimal n ∷ [])) (each v (omega (arith, lt))))
 
   module _ (listed : OneRisingList ℕ) where
     pub graph_one : (kept : List Kept) (k : Kept) (t u : List ℕ) → IsGraphText kept k t → IsGraphText kept k u → t ≡ u

@@ -6,7 +6,7 @@ use Rattle.std.proofs.lemmas.List.Elements.{All-nil, All-cons, All-head, All-tai
 use Rattle.std.specs.List.{AllZip, flat_map}
 use Rattle.trace_types.specs.declared.named_trace.NamedTrace.{NamedTrace}
 use Rattle.trace_types.specs.Firsts.{firsts_of}
-use Rattle.day_partitions.specs.Books.{BookState, KeptDay, kept_day, all_traces, traces_of, has_day, AreRising, HasTraces, AreOfDay, IsBook, with_traces, without_day, newest, with_added}
+use Rattle.day_partitions.specs.Books.{BookState, KeptDay, kept_day, all_traces, traces_kept_on, has_day, AreRising, HasTraces, AreOfDay, IsBook, with_day_traces, days_without, newest_days, with_added}
 use Rattle.day_partitions.specs.Batches.{with_all, new_days}
 use Rattle.day_partitions.specs.declared.dated_sheet.DatedSheet.{DatedSheet}
 use Rattle.kept_books.specs.Shown.{named_on}
@@ -74,19 +74,19 @@ passes p d ts h e = filter_all (λ (t : NamedTrace). p t.day) ts (All-weaker (λ
 fails : (p : ℕ → Bool) (d : ℕ) (ts : List NamedTrace) → AreOfDay d ts → p d ≡ false → filter (λ (t : NamedTrace). p t.day) ts ≡ []
 fails p d ts h e = filter_none (λ (t : NamedTrace). p t.day) ts (All-weaker (λ (t : NamedTrace). t.day ≡ d) (λ (t : NamedTrace). p t.day ≡ false) (λ t s. ap p s ∙ e) ts h)
 
-pub all_of_day : (d : ℕ) (ks : List KeptDay) → AreDays ks → filter (λ (t : NamedTrace). t.day == d) (all_traces ks) ≡ traces_of ks d
+pub all_of_day : (d : ℕ) (ks : List KeptDay) → AreDays ks → filter (λ (t : NamedTrace). t.day == d) (all_traces ks) ≡ traces_kept_on ks d
 all_of_day d [] h = refl
 all_of_day d (k ∷ ks) h =
     let rest = all_of_day d ks (days_tail k ks h) in
     filter-append (λ (t : NamedTrace). t.day == d) k.traces (all_traces ks) ∙ elim (cases_eq k.day d) [
       | inl is ↦
           let none : filter (has_key named_day d) (all_traces ks) ≡ [] = filter_above named_day d (all_traces ks) (subst (λ e. All (λ (t : NamedTrace). e < t.day) (all_traces ks)) is (later k ks h)) in
-          ap (λ l. l ++ filter (has_key named_day d) (all_traces ks)) (passes (λ e. e == d) k.day k.traces (own_day k ks h) (eq-eqb k.day d is)) ∙ ap (λ l. k.traces ++ l) none ∙ append-nil k.traces ∙ sym (cond-true (k.day == d) k.traces (traces_of ks d) (eq-eqb k.day d is))
-      | inr other ↦ ap (λ l. l ++ filter (has_key named_day d) (all_traces ks)) (fails (λ e. e == d) k.day k.traces (own_day k ks h) (ne_eqb k.day d other)) ∙ rest ∙ sym (cond-false (k.day == d) k.traces (traces_of ks d) (ne_eqb k.day d other))
+          ap (λ l. l ++ filter (has_key named_day d) (all_traces ks)) (passes (λ e. e == d) k.day k.traces (own_day k ks h) (eq-eqb k.day d is)) ∙ ap (λ l. k.traces ++ l) none ∙ append-nil k.traces ∙ sym (cond-true (k.day == d) k.traces (traces_kept_on ks d) (eq-eqb k.day d is))
+      | inr other ↦ ap (λ l. l ++ filter (has_key named_day d) (all_traces ks)) (fails (λ e. e == d) k.day k.traces (own_day k ks h) (ne_eqb k.day d other)) ∙ rest ∙ sym (cond-false (k.day == d) k.traces (traces_kept_on ks d) (ne_eqb k.day d other))
     ]
 
 -- ---- without a day
-pub all_without : (d : ℕ) (ks : List KeptDay) → AreDays ks → all_traces (without_day d ks) ≡ filter (λ (t : NamedTrace). not (t.day == d)) (all_traces ks)
+pub all_without : (d : ℕ) (ks : List KeptDay) → AreDays ks → all_traces (days_without d ks) ≡ filter (λ (t : NamedTrace). not (t.day == d)) (all_traces ks)
 all_without d [] h = refl
 all_without d (k ∷ ks) h =
     let rest = all_without d ks (days_tail k ks h) in
@@ -98,7 +98,7 @@ all_without d (k ∷ ks) h =
           ∙ sym (filter-append (λ (t : NamedTrace). p t.day) k.traces (all_traces ks) ∙ ap (λ l. l ++ filter (λ (t : NamedTrace). p t.day) (all_traces ks)) (passes p k.day k.traces (own_day k ks h) (not_from_false (k.day == d) (ne_eqb k.day d other))))
     ]
 
--- ---- the newest days
+-- ---- the newest_days days
 abbrev pub days_in : List KeptDay → List ℕ
 days_in ks = map (λ (k : KeptDay). k.day) ks
 
@@ -143,7 +143,7 @@ all_new n (k ∷ ks) l h =
     ∙ ap (λ m. m ++ filter (λ (t : NamedTrace). is_new (k ∷ ks) n t.day) (all_traces ks)) (passes (is_new (k ∷ ks) n) k.day k.traces (own_day k ks h) (lt-ltb (above (days_in (k ∷ ks)) k.day) n (omega (arith, own, l))))
     ∙ ap (λ m. k.traces ++ m) rest
 
-pub all_newest : (n : ℕ) (ks : List KeptDay) → AreDays ks → all_traces (newest n ks) ≡ filter (λ (t : NamedTrace). is_new ks n t.day) (all_traces ks)
+pub all_newest : (n : ℕ) (ks : List KeptDay) → AreDays ks → all_traces (newest_days n ks) ≡ filter (λ (t : NamedTrace). is_new ks n t.day) (all_traces ks)
 all_newest n [] h = nil_drop (0 - n)
   where
     nil_drop : (m : ℕ) → all_traces (drop m []) ≡ []
@@ -197,19 +197,19 @@ with_cases d ts k ks = elim (cases_order k.day d) [
   | inr (inr high) ↦ inr (inr high)
 ]
 
-pub with_below : (d : ℕ) (ts : List NamedTrace) (k : KeptDay) (ks : List KeptDay) → k.day < d → with_traces d ts (k ∷ ks) ≡ k ∷ with_traces d ts ks
+pub with_below : (d : ℕ) (ts : List NamedTrace) (k : KeptDay) (ks : List KeptDay) → k.day < d → with_day_traces d ts (k ∷ ks) ≡ k ∷ with_day_traces d ts ks
 with_below d ts k ks l = cond-true (nat_lt k.day d) _ _ (lt-ltb k.day d l)
 
-pub with_same : (d : ℕ) (ts : List NamedTrace) (k : KeptDay) (ks : List KeptDay) → k.day ≡ d → with_traces d ts (k ∷ ks) ≡ kept_day d (k.traces ++ ts) ∷ ks
+pub with_same : (d : ℕ) (ts : List NamedTrace) (k : KeptDay) (ks : List KeptDay) → k.day ≡ d → with_day_traces d ts (k ∷ ks) ≡ kept_day d (k.traces ++ ts) ∷ ks
 with_same d ts k ks e = cond-false (nat_lt k.day d) _ _ (le-ltb k.day d (omega (arith, e))) ∙ cond-true (k.day == d) _ _ (eq-eqb k.day d e)
 
-pub with_above : (d : ℕ) (ts : List NamedTrace) (k : KeptDay) (ks : List KeptDay) → d < k.day → with_traces d ts (k ∷ ks) ≡ kept_day d ts ∷ k ∷ ks
+pub with_above : (d : ℕ) (ts : List NamedTrace) (k : KeptDay) (ks : List KeptDay) → d < k.day → with_day_traces d ts (k ∷ ks) ≡ kept_day d ts ∷ k ∷ ks
 with_above d ts k ks l = cond-false (nat_lt k.day d) _ _ (le-ltb k.day d (omega (arith, l))) ∙ cond-false (k.day == d) _ _ (ne_eqb k.day d (λ e. omega (arith, l, e)))
 
 at_most_all : (d : ℕ) (ts : List NamedTrace) (e : ℕ) → AreOfDay e ts → e ≤ d → All (λ (t : NamedTrace). t.day ≤ d) ts
 at_most_all d ts e h l = All-weaker (λ (t : NamedTrace). t.day ≡ e) (λ (t : NamedTrace). t.day ≤ d) (λ t s. omega (arith, l, s)) ts h
 
-pub with_puts : (d : ℕ) (ts : List NamedTrace) (ks : List KeptDay) → AreDays ks → AreOfDay d ts → all_traces (with_traces d ts ks) ≡ put_all named_day (all_traces ks) ts
+pub with_puts : (d : ℕ) (ts : List NamedTrace) (ks : List KeptDay) → AreDays ks → AreOfDay d ts → all_traces (with_day_traces d ts ks) ≡ put_all named_day (all_traces ks) ts
 with_puts d ts [] h g = append-nil ts ∙ sym (put_all_before named_day d [] [] ts (All-nil (λ (t : NamedTrace). t.day ≤ d)) (All-nil (λ (t : NamedTrace). d < t.day)) g ∙ append-nil ts)
 with_puts d ts (k ∷ ks) h g =
     let rest = with_puts d ts ks (days_tail k ks h) g in
@@ -221,28 +221,28 @@ with_puts d ts (k ∷ ks) h g =
           ap all_traces (with_above d ts k ks high) ∙ sym (put_all_before named_day d [] (all_traces (k ∷ ks)) ts (All-nil (λ (t : NamedTrace). t.day ≤ d)) all_high g)
     ]
 
-with_above_all : (e d : ℕ) (ts : List NamedTrace) (ks : List KeptDay) → e < d → All (λ (k : KeptDay). e < k.day) ks → All (λ (k : KeptDay). e < k.day) (with_traces d ts ks)
+with_above_all : (e d : ℕ) (ts : List NamedTrace) (ks : List KeptDay) → e < d → All (λ (k : KeptDay). e < k.day) ks → All (λ (k : KeptDay). e < k.day) (with_day_traces d ts ks)
 with_above_all e d ts [] l h = All-cons (λ (k : KeptDay). e < k.day) (kept_day d ts) [] l (All-nil (λ (k : KeptDay). e < k.day))
 with_above_all e d ts (k ∷ ks) l h =
     let one = All-head (λ (j : KeptDay). e < j.day) k ks h in
     let tail = All-tail (λ (j : KeptDay). e < j.day) k ks h in
     let rest = with_above_all e d ts ks l tail in
     elim (with_cases d ts k ks) [
-      | inl low ↦ rw (with_below d ts k ks low) (All-cons (λ (j : KeptDay). e < j.day) k (with_traces d ts ks) one rest)
+      | inl low ↦ rw (with_below d ts k ks low) (All-cons (λ (j : KeptDay). e < j.day) k (with_day_traces d ts ks) one rest)
       | inr (inl same) ↦ rw (with_same d ts k ks same) (All-cons (λ (j : KeptDay). e < j.day) (kept_day d (k.traces ++ ts)) ks l tail)
       | inr (inr high) ↦ rw (with_above d ts k ks high) (All-cons (λ (j : KeptDay). e < j.day) (kept_day d ts) (k ∷ ks) l h)
     ]
 
-pub with_days : (d : ℕ) (ts : List NamedTrace) (ks : List KeptDay) → AreDays ks → AreOfDay d ts → 0 < length ts → AreDays (with_traces d ts ks)
+pub with_days : (d : ℕ) (ts : List NamedTrace) (ks : List KeptDay) → AreDays ks → AreOfDay d ts → 0 < length ts → AreDays (with_day_traces d ts ks)
 with_days d ts [] h g n = record { rising = pairs_cons (kept_day d ts) [] (All-nil (λ (j : KeptDay). d < j.day)) h.rising; some = All-cons HasTraces (kept_day d ts) [] n (All-nil HasTraces); dated = All-cons IsDated (kept_day d ts) [] g (All-nil IsDated) }
 with_days d ts (k ∷ ks) h g n =
     let rest = with_days d ts ks (days_tail k ks h) g n in
     let highs = pairs_head k ks h.rising in
     elim (with_cases d ts k ks) [
       | inl low ↦ rw (with_below d ts k ks low) (record {
-        rising = pairs_cons k (with_traces d ts ks) (with_above_all k.day d ts ks low highs) rest.rising;
-        some = All-cons HasTraces k (with_traces d ts ks) (All-head HasTraces k ks h.some) rest.some;
-        dated = All-cons IsDated k (with_traces d ts ks) (own_day k ks h) rest.dated;
+        rising = pairs_cons k (with_day_traces d ts ks) (with_above_all k.day d ts ks low highs) rest.rising;
+        some = All-cons HasTraces k (with_day_traces d ts ks) (All-head HasTraces k ks h.some) rest.some;
+        dated = All-cons IsDated k (with_day_traces d ts ks) (own_day k ks h) rest.dated;
       })
       | inr (inl same) ↦ rw (with_same d ts k ks same) (record {
         rising = pairs_cons (kept_day d (k.traces ++ ts)) ks (subst (λ e. All (λ (j : KeptDay). e < j.day) ks) same highs) (days_tail k ks h).rising;

@@ -4,7 +4,7 @@ use Rattle.std.proofs.lemmas.List.{length-map}
 use Rattle.std.specs.List.{AllZip}
 use Rattle.trace_types.specs.declared.named_trace.NamedTrace.{NamedTrace}
 use Rattle.trace_types.specs.Firsts.{firsts_of}
-use Rattle.day_partitions.specs.Books.{BookState, IsBook, KeptDay, all_traces, traces_of}
+use Rattle.day_partitions.specs.Books.{BookState, IsBook, KeptDay, all_traces, traces_kept_on}
 use Rattle.day_partitions.specs.Books as books
 use Rattle.day_partitions.specs.Batches.{with_all, new_days}
 use Rattle.day_partitions.specs.declared.dated_sheet.DatedSheet.{DatedSheet}
@@ -40,7 +40,7 @@ taken_is : (kept : List Kept) (t : Kept) → taken_in kept t ≡ put_in day_of k
 taken_is [] t = refl
 taken_is (k ∷ kept) t = ap (λ l. if nat_le (day_of k) (day_of t) then k ∷ l else t ∷ k ∷ kept) (taken_is kept t)
 
-with_is : (kept more : List Kept) → with_taken kept more ≡ put_all day_of kept more
+pub with_is : (kept more : List Kept) → with_taken kept more ≡ put_all day_of kept more
 with_is kept [] = refl
 with_is kept (t ∷ ts) = ap (λ l. with_taken l ts) (taken_is kept t) ∙ with_is (put_in day_of kept t) ts
 

@@ -3,6 +3,7 @@ mod GraphLemmas
 mod GrownLemmas
 mod LawLemmas
 mod NameLemmas
+mod PastLemmas
 mod SheetLemmas
 mod TakenLemmas
 mod ZipLemmas

@@ -6,7 +6,7 @@ use Rattle.std.proofs.lemmas.List.Sums.{sum_by-cons}
 use Rattle.std.proofs.lemmas.List.Elements.{All-nil, All-cons, All-head, All-tail, All-weaker, All-filter, filter-append, Contains-append_right}
 use Rattle.std.specs.List.{flat_map, list_any, count_by}
 use Rattle.trace_types.specs.declared.named_trace.NamedTrace.{NamedTrace}
-use Rattle.day_partitions.specs.Books.{BookState, KeptDay, kept_day, all_traces, has_day, AreOfDay, IsBook, with_traces, with_added}
+use Rattle.day_partitions.specs.Books.{BookState, KeptDay, kept_day, all_traces, has_day, AreOfDay, IsBook, with_day_traces, with_added}
 use Rattle.day_partitions.specs.Batches.{with_all, new_days}
 use Rattle.day_partitions.specs.declared.dated_sheet.DatedSheet.{DatedSheet}
 use Rattle.kept_books.specs.Shown.{named_on}
@@ -124,7 +124,7 @@ with_sheets b ss named h g =
     (λ k. filter_put_all named_day k (all_traces b.days) (traces_in ss) rise ∙ ap (λ m. filter (has_key named_day k) (all_traces b.days) ++ m) (sheets_have k ss named g) ∙ sym (filter_put_all named_day k (all_traces b.days) named rise))
 
 -- ---- how many days there are then
-has_next : (e d : ℕ) (ts : List NamedTrace) (ks : List KeptDay) → d ≢ e → has_day (with_traces d ts ks) e ≡ has_day ks e
+has_next : (e d : ℕ) (ts : List NamedTrace) (ks : List KeptDay) → d ≢ e → has_day (with_day_traces d ts ks) e ≡ has_day ks e
 has_next e d ts [] other = ap (λ b. b || false) (ne_eqb d e other)
 has_next e d ts (k ∷ ks) other =
     let rest = has_next e d ts ks other in
@@ -149,7 +149,7 @@ day_firsts k ks h i d l = h.rising 0 (suc i) d (omega arith) (omega arith)
 next_sum : (m n : ℕ) → suc (m + n) ≡ suc m + n
 next_sum m n = omega arith
 
-length_with : (d : ℕ) (ts : List NamedTrace) (ks : List KeptDay) → AreDays ks → length (with_traces d ts ks) ≡ length ks + one_if (has_day ks d)
+length_with : (d : ℕ) (ts : List NamedTrace) (ks : List KeptDay) → AreDays ks → length (with_day_traces d ts ks) ≡ length ks + one_if (has_day ks d)
 length_with d ts [] h = refl
 length_with d ts (k ∷ ks) h =
     let rest = length_with d ts ks (days_tail k ks h) in

@@ -1,7 +1,7 @@
 -- What each change of a book does to the kept traces that it has, over the definitions alone.
 use Rattle.std.specs.Prelude.{◌≡◌, ℕ, ◌<◌, ◌+◌, List, length, map, All, AllPairs, Contains}
 use Rattle.day_partitions.specs.Batches.{new_days, with_all}
-use Rattle.day_partitions.specs.Books.{BookState, IsBook, all_traces, traces_of}
+use Rattle.day_partitions.specs.Books.{BookState, IsBook, all_traces, traces_kept_on}
 use Rattle.day_partitions.specs.Books as books
 use Rattle.day_partitions.specs.declared.dated_sheet.DatedSheet.{DatedSheet}
 use Rattle.segment_names.specs.Known.{Known, with_traces}
@@ -16,14 +16,14 @@ use Rattle.kept_books.specs.Shown.{AreShown, named_on}
 abbrev pub DropShows : Type 0
 DropShows = (known : Known) (b : BookState) (kept : List Kept) (day : ℕ) → IsBook b
     → AreShown known (all_traces b.days) kept
-    → AreShown known (all_traces (books.without_day day b.days)) (without_day day kept)
-    × (length (traces_of b.days day) ≡ length (traces_on day kept))
+    → AreShown known (all_traces (books.days_without day b.days)) (without_day day kept)
+    × (length (traces_kept_on b.days day) ≡ length (traces_on day kept))
 
 -- the last days of the book have the kept traces of the last days
 abbrev pub NewestShow : Type 0
 NewestShow = (known : Known) (b : BookState) (kept : List Kept) (n : ℕ) → IsBook b
     → AreShown known (all_traces b.days) kept
-    → AreShown known (all_traces (books.newest n b.days)) (newest n kept)
+    → AreShown known (all_traces (books.newest_days n b.days)) (newest n kept)
 
 -- the sheets have exactly these traces, each those of its day in their order; their days rise, and
 -- none is empty

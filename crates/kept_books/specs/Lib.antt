@@ -1,4 +1,5 @@
 pub mod BookLaws
 pub mod GraphLaws
 pub mod NameLaws
+pub mod PastJobs
 pub mod Shown

@@ -3,6 +3,7 @@ ghost use Rattle.kept_books.specs.BookLaws.{DropShows, NewestShow, SheetsShow, D
 ghost use Rattle.kept_books.specs.BookLaws.{GrownShows};
 ghost use Rattle.kept_books.specs.GraphLaws.{GraphIsShown};
 ghost use Rattle.kept_books.specs.NameLaws.{NamesAreListed};
+ghost use Rattle.kept_books.specs.PastJobs.{KeptRemain, OneListRemains};
 
 use session_rules::KeptTrace;
 use trace_graph::laws::renamed_graph_is_the_same;
@@ -56,3 +57,14 @@ pub fn names_are_listed()
 {
     names_are_totally_ordered::<NameText>();
 }
+
+/// Whatever jobs a session carries out from its start, its kept traces are those that remain of all
+/// that the jobs took: a filter, by the jobs that come later.
+pub fn kept_traces_remain()
+    ensures { KeptRemain }
+{}
+
+/// The same jobs leave one list of traces.
+pub fn one_list_remains()
+    ensures { OneListRemains }
+{}

@@ -21,7 +21,8 @@ use Rattle.trace_paths.specs.NameOrders.{number_cmp}
 use Rattle.trace_paths.specs.Tables.{IsTableOf}
 use Rattle.trace_types.specs.Segments.{SegmentName}
 use Rattle.latency_report.specs.declared.segment_row.SegmentRow.{SegmentRow}
-use Rattle.latency_report.specs.inner.TableRows.{AreRowsFrom, IsRowFrom, IsShort, list_at}
+use Rattle.latency_report.specs.inner.TableRows.{AreRowsFrom, IsRowFrom}
+use Rattle.trace_paths.specs.Tables.{list_at}
 use Rattle.latency_report.specs.Numbers.{AreFigures}
 use Rattle.latency_report.specs.Reports.{IsRowOf}
 
@@ -149,18 +150,18 @@ paths_named model (t ∷ ts) [] all = absurd all
 paths_named model (t ∷ ts) (p ∷ ps) all = All-cons (IsNamedPath model.names) p ps all.0.named (paths_named model ts ps all.1)
 
 -- the lists of a table are short
-pub short_table : (names : ℕ) (xss : List (List Seg)) (xs : List Seg) (table : List (List ℕ)) → IsTableOf names xs table → xs ≡ joined xss → All (NamesDiffer number_of_name) xss → length xss < 2 ^ 32 → All IsShort table
+pub short_table : (names : ℕ) (xss : List (List Seg)) (xs : List Seg) (table : List (List ℕ)) → IsTableOf names xs table → xs ≡ joined xss → All (NamesDiffer number_of_name) xss → length xss < 2 ^ 32 → All (λ (ns : List ℕ). length ns < 2 ^ 32) table
 short_table names xss xs table t is differ few n d lt =
     let count = t.count in
     let list : get_or table n d ≡ lasts n (joined xss) = get_or_default table n d [] lt ∙ (t.lists n (omega arith) ∙ ap (lasts n) is) in
     let many = once_each n xss differ in
     let most = count_by-le-length (has_name by_number eqb n) xss in
-    subst IsShort (sym list) (omega arith)
+    subst (λ (ns : List ℕ). length ns < 2 ^ 32) (sym list) (omega arith)
 
-pub short_traces : (names : ℕ) (ts : List (Bor NamedTrace)) (table : List (List ℕ)) → IsTableOf names (segments_at ts) table → length ts < 2 ^ 32 → All IsShort table
+pub short_traces : (names : ℕ) (ts : List (Bor NamedTrace)) (table : List (List ℕ)) → IsTableOf names (segments_at ts) table → length ts < 2 ^ 32 → All (λ (ns : List ℕ). length ns < 2 ^ 32) table
 short_traces names ts table t few = short_table names (lists_at ts) (segments_at ts) table t (segments_joined ts) (lists_differ ts) (omega (arith, length-map ts (λ (x : Bor NamedTrace). x.now.segments)))
 
-pub short_paths : (names : ℕ) (paths : List (List Seg)) (table : List (List ℕ)) → IsTableOf names (joined paths) table → All (IsNamedPath names) paths → length paths < 2 ^ 32 → All IsShort table
+pub short_paths : (names : ℕ) (paths : List (List Seg)) (table : List (List ℕ)) → IsTableOf names (joined paths) table → All (IsNamedPath names) paths → length paths < 2 ^ 32 → All (λ (ns : List ℕ). length ns < 2 ^ 32) table
 short_paths names paths table t named few = short_table names paths (joined paths) table t refl (λ k d lt. (named k d lt).differ) few
 
 -- a row from the tables is a row of the name

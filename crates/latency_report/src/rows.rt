@@ -1,7 +1,9 @@
-ghost use Rattle.std.specs.Prelude.{◌≡◌, ◌<◌, ℕ, All, length, map, nat_lt, slice_index_or, IfOk};
+ghost use Rattle.std.specs.Prelude.{◌≡◌, ◌^◌, ◌<◌, ℕ, List, All, length, map, nat_lt, slice_index_or};
+ghost use Rattle.std.specs.Prelude.{IfOk};
 ghost use Rattle.latency_report.specs.Numbers.{AreFigures};
-ghost use Rattle.latency_report.specs.inner.TableRows.{AreRowsFrom, IsShort, list_at};
+ghost use Rattle.latency_report.specs.inner.TableRows.{AreRowsFrom};
 ghost use Rattle.latency_report.specs.declared.figures.Figures.{Figures};
+ghost use Rattle.trace_paths.specs.Tables.{list_at};
 
 use crate::measuring::{measure, sum_and_greatest};
 use crate::{Figures, SegmentRow};
@@ -11,7 +13,7 @@ use trace_paths::{DurationTable, names_in_order};
 
 /// Measures each list of a table, which it uses up.
 fn measure_each(alloc: Global, table: DurationTable) -> Result<Vec<Figures>, AllocError>
-    requires { All IsShort table }
+    requires { All (λ (ns : List ℕ). length ns < 2 ^ 32) table }
     ensures count { IfOk result (λ figures. length figures.items ≡ length table) }
     ensures figures { IfOk result (λ figures. (n : ℕ) (d : Figures) → n < length table
         → AreFigures (list_at table n) (slice_index_or figures.items n d)) }
@@ -52,8 +54,8 @@ pub(crate) fn make_rows(
 ) -> Result<Vec<SegmentRow>, AllocError>
     requires names { length durations ≡ length catalogue.now.names }
     requires steps { length on_paths.now ≡ length catalogue.now.names }
-    requires short { All IsShort durations }
-    requires short_steps { All IsShort on_paths.now }
+    requires short { All (λ (ns : List ℕ). length ns < 2 ^ 32) durations }
+    requires short_steps { All (λ (ns : List ℕ). length ns < 2 ^ 32) on_paths.now }
     ensures { IfOk result (λ rows. AreRowsFrom catalogue.now.names durations on_paths.now
         rows.items) }
 {

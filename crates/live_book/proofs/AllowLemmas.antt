@@ -13,10 +13,10 @@ use Rattle.live_journal.specs.Journals.{JournalState, journal}
 use Rattle.live_book.specs.declared.rule.Plan.{Plan}
 use Rattle.live_book.specs.declared.rule.Knowledge.{Knowledge}
 use Rattle.live_book.specs.declared.rule.Stage.TheVariants.{Resting, Waiting, InTurn, Seeing}
-use Rattle.live_book.specs.Plays.{CommitPlay, PassPlay, SeePlay, TakesBook, TellPlay, TicketPlay, WatchPlay}
+use Rattle.live_book.specs.Plays.{CommitPlay, PassPlay, SeePlay, TakesBook, TellTurnsPlay, TicketPlay, WatchPlay}
 use Rattle.live_book.specs.Histories.{AllStand}
-use Rattle.live_book.specs.Rule.{Each, IsLive, IsOpened, SeatState, TableState}
-use Rattle.live_book.specs.Views.{committed_view, empty_view, first_view, found_in, in_turn_view, joined_view, left_view, new_view, passed_view, seeing_view, ticket_in, told_view, waiting_view}
+use Rattle.live_book.specs.Rule.{EachCaller, IsLiveBook, IsOpened, CallerSeat, BookTable}
+use Rattle.live_book.specs.Views.{committed_view, empty_caller_view, first_caller_view, found_in, in_turn_view, joined_caller_view, left_caller_view, new_caller_view, passed_view, seeing_view, ticket_in, told_view, waiting_view}
 use Rattle.live_book.specs.inner.Seats.{HasHeard}
 use Rattle.live_book.proofs.PrefixLemmas.{all_shorter}
 use Rattle.live_book.proofs.SeatLemmas.{join_keeps, split_keeps}
@@ -30,33 +30,33 @@ one_home [] a e = absurd (omega arith)
 one_home (x ∷ []) a e = refl
 one_home (x ∷ y ∷ l) a e = absurd (omega arith)
 
-module _ (plan : Plan) (slots id : ℕ) (me : SeatState) (names : me.0.names ≡ plan.names) (all : me.0.all ≡ plan.turns) where
+module _ (plan : Plan) (slots id : ℕ) (me : CallerSeat) (names : me.0.names ≡ plan.names) (all : me.0.all ≡ plan.turns) where
   -- the table after a load
-  loaded : (s : TableState) (word : ℕ) (homes : List (Home (Option JournalState))) (w : Knowledge) → IsLive plan (record { words = s.words; homes = homes; views = set s.views id w })
-      → IsLive plan (record { words = set s.words word (slice_index s.words word); homes = homes; views = set s.views id w })
-  loaded s word homes w h = subst (λ (ws : List ℕ). IsLive plan (record { words = ws; homes = homes; views = set s.views id w })) (sym (set-get_or s.words word 0)) h
+  loaded : (s : BookTable) (word : ℕ) (homes : List (Home (Option JournalState))) (w : Knowledge) → IsLiveBook plan (record { words = s.words; homes = homes; views = set s.views id w })
+      → IsLiveBook plan (record { words = set s.words word (slice_index s.words word); homes = homes; views = set s.views id w })
+  loaded s word homes w h = subst (λ (ws : List ℕ). IsLiveBook plan (record { words = ws; homes = homes; views = set s.views id w })) (sym (set-get_or s.words word 0)) h
 
-  pub draw_allowed : me.0.stage ≡ Resting → 0 < me.0.turns → Allows (IsLive plan) slots id me 0 (λ n. (n + 1) % 2 ^ 64) (TicketPlay (base_step slots 0 1 0 none) me)
+  pub draw_allowed : me.0.stage ≡ Resting → 0 < me.0.turns → Allows (IsLiveBook plan) slots id me 0 (λ n. (n + 1) % 2 ^ 64) (TicketPlay (base_step slots 0 1 0 none) me)
   draw_allowed st some_turn s h homes at small =
       let value : ℕ = slice_index s.words 0 in
       let found : value ≡ h.drawn = ap (λ (ws : List ℕ). slice_index ws 0) h.words in
       let fits : h.drawn + 1 < 2 ^ 64 = (let most = turns_most plan s h id me.0 at in let f = h.fits in omega arith) in
       let words : set s.words 0 ((value + 1) % 2 ^ 64) ≡ (h.drawn + 1) ∷ h.served ∷ length h.longest ∷ [] =
       ap (λ (ws : List ℕ). set ws 0 ((slice_index ws 0 + 1) % 2 ^ 64)) h.words ∙ ap (λ (n : ℕ). n ∷ h.served ∷ length h.longest ∷ []) (mod_small h.drawn fits) in
-      let now : IsLive plan (record { words = set s.words 0 ((value + 1) % 2 ^ 64); homes = s.homes; views = set s.views id (waiting_view me.0 value) }) =
-      subst (λ (ws : List ℕ). IsLive plan (record { words = ws; homes = s.homes; views = set s.views id (waiting_view me.0 value) })) (sym words)
-      (subst (λ (n : ℕ). IsLive plan (record { words = (h.drawn + 1) ∷ h.served ∷ length h.longest ∷ []; homes = s.homes; views = set s.views id (waiting_view me.0 n) })) (sym found)
+      let now : IsLiveBook plan (record { words = set s.words 0 ((value + 1) % 2 ^ 64); homes = s.homes; views = set s.views id (waiting_view me.0 value) }) =
+      subst (λ (ws : List ℕ). IsLiveBook plan (record { words = ws; homes = s.homes; views = set s.views id (waiting_view me.0 value) })) (sym words)
+      (subst (λ (n : ℕ). IsLiveBook plan (record { words = (h.drawn + 1) ∷ h.served ∷ length h.longest ∷ []; homes = s.homes; views = set s.views id (waiting_view me.0 n) })) (sym found)
       (draw_keeps plan s h id me.0 at st some_turn names all)) in
       (waiting_view me.0 value, keeps, tt, now, refl)
 
-  pub watch_allowed : me.0.stage ≡ Waiting (ticket_in me.0.stage) → Allows (IsLive plan) slots id me 1 (λ n. n) (WatchPlay (base_step slots 1 0 0 none) me)
+  pub watch_allowed : me.0.stage ≡ Waiting (ticket_in me.0.stage) → Allows (IsLiveBook plan) slots id me 1 (λ n. n) (WatchPlay (base_step slots 1 0 0 none) me)
   watch_allowed st s h homes at small = by_test (value == ticket_in me.0.stage) refl
     where
       value : ℕ
       value = slice_index s.words 1
 
       by_test : (b : Bool) → (value == ticket_in me.0.stage) ≡ b
-          → (w : Knowledge) × (a : Act (Option JournalState)) × Valid s.homes me.1 a × IsLive plan (stepped s 1 value id me.1 w a) × WatchPlay (base_step slots 1 0 0 none) me value (w, carried_after me.1 a)
+          → (w : Knowledge) × (a : Act (Option JournalState)) × Valid s.homes me.1 a × IsLiveBook plan (stepped s 1 value id me.1 w a) × WatchPlay (base_step slots 1 0 0 none) me value (w, carried_after me.1 a)
       by_test true t =
           let found : value ≡ h.served = ap (λ (ws : List ℕ). slice_index ws 1) h.words in
           let served : ticket_in me.0.stage ≡ h.served = sym (eqb-true value (ticket_in me.0.stage) t) ∙ found in
@@ -66,32 +66,32 @@ module _ (plan : Plan) (slots id : ℕ) (me : SeatState) (names : me.0.names ≡
             takes 0 book,
             ap (λ (hs : List (Home (Option JournalState))). get_elem? hs 0) (slot_home plan s h id me.0 at st served names all) ∙ (λ j. some (some (Some (journal (sym names j) h.longest)))),
             loaded s 1 (set s.homes 0 none) w (come_keeps plan s h id me.0 at st served names all (set s.homes 0 none)),
-            subst (λ (b : Bool). MatchBool b (TakesBook me (w, (0, book) ∷ me.1)) (◌≡◌ {A = SeatState} (w, (0, book) ∷ me.1) me)) (sym t) (record { found = h.longest; seat = refl; begins = h.fronts id me.0 at }),
+            subst (λ (b : Bool). MatchBool b (TakesBook me (w, (0, book) ∷ me.1)) (◌≡◌ {A = CallerSeat} (w, (0, book) ∷ me.1) me)) (sym t) (record { found = h.longest; seat = refl; begins = h.fronts id me.0 at }),
           )
       by_test false t = (
         me.0,
         keeps,
         tt,
-        subst (IsLive plan) (sym (unchanged s 1 id me.0 at)) h,
+        subst (IsLiveBook plan) (sym (unchanged s 1 id me.0 at)) h,
         subst (λ (b : Bool). MatchBool b (TakesBook me me) (me ≡ me)) (sym t) refl,
       )
 
-  pub see_allowed : me.0.stage ≡ InTurn (ticket_in me.0.stage) (found_in me.0.stage) → Allows (IsLive plan) slots id me 2 (λ n. n) (SeePlay (base_step slots 2 0 0 none) me)
+  pub see_allowed : me.0.stage ≡ InTurn (ticket_in me.0.stage) (found_in me.0.stage) → Allows (IsLiveBook plan) slots id me 2 (λ n. n) (SeePlay (base_step slots 2 0 0 none) me)
   see_allowed st s h homes at small =
       (seeing_view me.0, keeps, tt, loaded s 2 s.homes (seeing_view me.0) (see_keeps plan s h id me.0 at st names all), refl)
 
   module _ (st : me.0.stage ≡ Seeing (ticket_in me.0.stage) (found_in me.0.stage)) where
     pub commit_allowed : found_in me.0.stage ≡ me.0.front → (entries : List Entry) → IsPrefix me.0.front entries → length entries ≡ length me.0.front + 1 → length entries ≤ 10000
-        → Allows (IsLive plan) slots id me 2 (λ n. (n + 1) % 2 ^ 64) (CommitPlay entries (base_step slots 2 1 0 none) me)
+        → Allows (IsLiveBook plan) slots id me 2 (λ n. (n + 1) % 2 ^ 64) (CommitPlay entries (base_step slots 2 1 0 none) me)
     commit_allowed fresh entries more one few s h homes at small =
         let long : length me.0.front ≡ length h.longest = ap (λ (l : List Entry). length l) (seeing_stage plan s h id me.0 at st names all).3 in
         let next : (length h.longest + 1) % 2 ^ 64 ≡ length entries = mod_small (length h.longest) (omega arith) ∙ omega arith in
         let words : set s.words 2 ((slice_index s.words 2 + 1) % 2 ^ 64) ≡ h.drawn ∷ h.served ∷ length entries ∷ [] =
         ap (λ (ws : List ℕ). set ws 2 ((slice_index ws 2 + 1) % 2 ^ 64)) h.words ∙ ap (λ (n : ℕ). h.drawn ∷ h.served ∷ n ∷ []) next in
         let w : Knowledge = committed_view me.0 entries in
-        (w, keeps, tt, subst (λ (ws : List ℕ). IsLive plan (record { words = ws; homes = s.homes; views = set s.views id w })) (sym words) (commit_keeps plan s h id me.0 at st names all fresh entries more one), refl)
+        (w, keeps, tt, subst (λ (ws : List ℕ). IsLiveBook plan (record { words = ws; homes = s.homes; views = set s.views id w })) (sym words) (commit_keeps plan s h id me.0 at st names all fresh entries more one), refl)
 
-    pub pass_allowed : slots ≡ 1 → me.1 ≡ (0, Some (journal me.0.names me.0.front)) ∷ [] → Allows (IsLive plan) slots id me 1 (λ n. (n + 1) % 2 ^ 64) (PassPlay (base_step slots 1 1 0 none) me)
+    pub pass_allowed : slots ≡ 1 → me.1 ≡ (0, Some (journal me.0.names me.0.front)) ∷ [] → Allows (IsLiveBook plan) slots id me 1 (λ n. (n + 1) % 2 ^ 64) (PassPlay (base_step slots 1 1 0 none) me)
     pass_allowed one slot s h homes at small =
         let book : Option JournalState = Some (journal me.0.names me.0.front) in
         let stage = seeing_stage plan s h id me.0 at st names all in
@@ -103,8 +103,8 @@ module _ (plan : Plan) (slots id : ℕ) (me : SeatState) (names : me.0.names ≡
           w,
           gives,
           tt,
-          subst (λ (ws : List ℕ). IsLive plan (record { words = ws; homes = put_back s.homes me.1; views = set s.views id w })) (sym words)
-              (subst (λ (hs : List (Home (Option JournalState))). IsLive plan (record { words = h.drawn ∷ (h.served + 1) ∷ length h.longest ∷ []; homes = hs; views = set s.views id w })) (sym home)
+          subst (λ (ws : List ℕ). IsLiveBook plan (record { words = ws; homes = put_back s.homes me.1; views = set s.views id w })) (sym words)
+              (subst (λ (hs : List (Home (Option JournalState))). IsLiveBook plan (record { words = h.drawn ∷ (h.served + 1) ∷ length h.longest ∷ []; homes = hs; views = set s.views id w })) (sym home)
               (pass_keeps plan s h id me.0 at st names all)),
           record {
             served = ap (λ (ws : List ℕ). slice_index ws 1) h.words ∙ sym stage.0;
@@ -112,7 +112,7 @@ module _ (plan : Plan) (slots id : ℕ) (me : SeatState) (names : me.0.names ≡
           },
         )
 
-  pub tell_allowed : HasHeard me.0 → Allows (IsLive plan) slots id me 0 (λ n. n) (TellPlay (base_step slots 0 0 0 none) me)
+  pub tell_allowed : HasHeard me.0 → Allows (IsLiveBook plan) slots id me 0 (λ n. n) (TellTurnsPlay (base_step slots 0 0 0 none) me)
   tell_allowed short s h homes at small = (
     told_view me.0,
     keeps,
@@ -129,20 +129,20 @@ module _ (plan : Plan) (slots id : ℕ) (me : SeatState) (names : me.0.names ≡
   )
 
 module _ (plan : Plan) (id : ℕ) (k : Knowledge) (names : k.names ≡ plan.names) (all : k.all ≡ plan.turns) (st : k.stage ≡ Resting) where
-  pub split_allowed : (n : ℕ) → n ≤ k.turns → Splits (IsLive plan) id k (left_view n k) (new_view n k)
+  pub split_allowed : (n : ℕ) → n ≤ k.turns → Splits (IsLiveBook plan) id k (left_caller_view n k) (new_caller_view n k)
   split_allowed n most s h at = split_keeps plan s h id k at st names all n most
 
-  pub join_allowed : (other : ℕ) (l : Knowledge) → l.stage ≡ Resting → Joins (IsLive plan) id k other l (joined_view k l) empty_view
+  pub join_allowed : (other : ℕ) (l : Knowledge) → l.stage ≡ Resting → Joins (IsLiveBook plan) id k other l (joined_caller_view k l) empty_caller_view
   join_allowed other l st' s h at apart there =
-      let there' : get_elem? s.views other ≡ some l = ⊎_elim (λ (t : (other ≡ id) × (joined_view k l ≡ l)). absurd (apart t.0)) (λ (t : (other ≢ id) × (get_elem? s.views other ≡ some l)). t.1) (at_set s.views id other (joined_view k l) l there) in
+      let there' : get_elem? s.views other ≡ some l = ⊎_elim (λ (t : (other ≡ id) × (joined_caller_view k l ≡ l)). absurd (apart t.0)) (λ (t : (other ≢ id) × (get_elem? s.views other ≡ some l)). t.1) (at_set s.views id other (joined_caller_view k l) l there) in
       join_keeps plan s h id k at st names all other l there' apart st'
 
 -- ---- the table as it opens
-only : (F : Knowledge → Type 0) (u : Knowledge) → F u → Each F (u ∷ [])
+only : (F : Knowledge → Type 0) (u : Knowledge) → F u → EachCaller F (u ∷ [])
 only F u f zero v e = subst F (some-injective u v e) f
 only F u f (suc j) v e = absurd (some-ne-none v (sym e))
 
-pub book_opens : (plan : Plan) → plan.turns < 2 ^ 64 → IsLive plan (opening (0 ∷ 0 ∷ 0 ∷ []) (Some (journal plan.names []) ∷ []) (first_view plan))
+pub book_opens : (plan : Plan) → plan.turns < 2 ^ 64 → IsLiveBook plan (opening (0 ∷ 0 ∷ 0 ∷ []) (Some (journal plan.names []) ∷ []) (first_caller_view plan))
 book_opens plan fits = record {
   drawn = 0;
   served = 0;
@@ -153,20 +153,20 @@ book_opens plan fits = record {
     history = [];
     leads = refl;
     count = refl;
-    stand = only (λ x. AllStand [] x.history) (first_view plan) tt;
+    stand = only (λ x. AllStand [] x.history) (first_caller_view plan) tt;
     once = λ n. ap (λ (b : Bool). cond b 1 0) (sym (le-ltb n 0 (omega arith)));
   };
   quiet = λ _. refl;
   turns = omega arith;
   fits = fits;
-  opened = only (IsOpened plan) (first_view plan) (inl (refl, refl));
+  opened = only (IsOpened plan) (first_caller_view plan) (inl (refl, refl));
   passes = refl;
   differ = λ n. omega arith;
   held = refl;
-  stages = only _ (first_view plan) tt;
-  fronts = only (λ x. IsPrefix x.front []) (first_view plan) ([], refl);
-  heard = only _ (first_view plan) tt;
-  is_front = record { id = 0; caller = first_view plan; has = refl; front = refl };
+  stages = only _ (first_caller_view plan) tt;
+  fronts = only (λ x. IsPrefix x.front []) (first_caller_view plan) ([], refl);
+  heard = only _ (first_caller_view plan) tt;
+  is_front = record { id = 0; caller = first_caller_view plan; has = refl; front = refl };
   once = λ p. omega arith;
   below = λ p l. refl;
   home = λ _. refl;

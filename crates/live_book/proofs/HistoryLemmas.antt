@@ -9,13 +9,13 @@ use lib.ListN.{get_elem?}
 use Rattle.live_journal.specs.declared.entry.Entry.{Entry}
 use Rattle.live_book.specs.declared.rule.Knowledge.{Knowledge}
 use Rattle.live_book.specs.declared.rule.Turn.{Turn}
-use Rattle.live_book.specs.Histories.{AddsAtMostOne, AllStand, AreOfOneHistory, Leads, turns_with}
-use Rattle.live_book.specs.Rule.{HasHistory, total}
-use Rattle.live_book.specs.Views.{empty_view, had}
+use Rattle.live_book.specs.Histories.{AddsAtMostOne, AllStand, AreOfOneHistory, TurnsLead, turns_with}
+use Rattle.live_book.specs.Rule.{HasTurnHistory, total}
+use Rattle.live_book.specs.Views.{empty_caller_view, had}
 use Rattle.live_book.proofs.TotalLemmas.{each_set, each_snoc, total_at, total_same, total_set, total_snoc}
 
 -- one turn more, which found what the last one left
-leads_more : (n : ℕ) (a : List Entry) (ts : List Turn) (b : List Entry) (t : Turn) → Leads n a ts b → t.ticket ≡ n + length ts → t.found ≡ b → AddsAtMostOne t.found t.left → Leads n a (ts ++ t ∷ []) t.left
+leads_more : (n : ℕ) (a : List Entry) (ts : List Turn) (b : List Entry) (t : Turn) → TurnsLead n a ts b → t.ticket ≡ n + length ts → t.found ≡ b → AddsAtMostOne t.found t.left → TurnsLead n a (ts ++ t ∷ []) t.left
 leads_more n a [] b t h at found one = (omega arith, found ∙ sym h, one, refl)
 leads_more n a (x ∷ ts) b t h at found one = (h.0, h.1, h.2, leads_more (n + 1) x.left ts b t h.3 (omega arith) found one)
 
@@ -55,9 +55,9 @@ lt_next n s = ⊎_elim
     (cases_eq s n))
     (cases_lt n s)
 
-module _ (served : ℕ) (settled : List Entry) (ks : List Knowledge) (h : HasHistory served settled ks) where
+module _ (served : ℕ) (settled : List Entry) (ks : List Knowledge) (h : HasTurnHistory served settled ks) where
   -- a step that changes no history
-  pub history_set : (id : ℕ) (k l : Knowledge) → get_elem? ks id ≡ some k → l.history ≡ k.history → HasHistory served settled (set ks id l)
+  pub history_set : (id : ℕ) (k l : Knowledge) → get_elem? ks id ≡ some k → l.history ≡ k.history → HasTurnHistory served settled (set ks id l)
   history_set id k l at same = record {
     history = h.history;
     leads = h.leads;
@@ -67,7 +67,7 @@ module _ (served : ℕ) (settled : List Entry) (ks : List Knowledge) (h : HasHis
   }
 
   -- a caller without turns
-  pub history_new : (l : Knowledge) → l.history ≡ [] → HasHistory served settled (ks ++ l ∷ [])
+  pub history_new : (l : Knowledge) → l.history ≡ [] → HasTurnHistory served settled (ks ++ l ∷ [])
   history_new l none = record {
     history = h.history;
     leads = h.leads;
@@ -81,7 +81,7 @@ module _ (served : ℕ) (settled : List Entry) (ks : List Knowledge) (h : HasHis
 
   -- a turn is passed on
   pub history_pass : (id : ℕ) (k l : Knowledge) (t : Turn) → get_elem? ks id ≡ some k → l.history ≡ k.history ++ t ∷ [] → t.ticket ≡ served → t.found ≡ settled → AddsAtMostOne t.found t.left
-      → HasHistory (served + 1) t.left (set ks id l)
+      → HasTurnHistory (served + 1) t.left (set ks id l)
   history_pass id k l t at is ticket found one = record {
     history = h.history ++ t ∷ [];
     leads = leads_more 0 [] h.history settled t h.leads (let c = h.count in omega arith) found one;
@@ -102,20 +102,20 @@ module _ (served : ℕ) (settled : List Entry) (ks : List Knowledge) (h : HasHis
 
   -- two callers become one
   pub history_join : (id other : ℕ) (k l both : Knowledge) → get_elem? ks id ≡ some k → get_elem? ks other ≡ some l → get_elem? (set ks id both) other ≡ some l
-      → both.history ≡ k.history ++ l.history → HasHistory served settled (set (set ks id both) other empty_view)
+      → both.history ≡ k.history ++ l.history → HasTurnHistory served settled (set (set ks id both) other empty_caller_view)
   history_join id other k l both at there still is = record {
     history = h.history;
     leads = h.leads;
     count = h.count;
-    stand = each_set (λ x. AllStand h.history x.history) (set ks id both) other empty_view tt
+    stand = each_set (λ x. AllStand h.history x.history) (set ks id both) other empty_caller_view tt
         (λ j u o _. each_set (λ x. AllStand h.history x.history) ks id both
         (subst (AllStand h.history) (sym is) (stand_both h.history k.history l.history (h.stand id k at) (h.stand other l there)))
         (λ i v p _. h.stand i v p) j u o);
     once = λ n.
         let a : total (had n) (set ks id both) + had n k ≡ total (had n) ks + had n both = total_set (had n) ks id k both at in
-        let b : total (had n) (set (set ks id both) other empty_view) + had n l ≡ total (had n) (set ks id both) + 0 = total_set (had n) (set ks id both) other l empty_view still in
+        let b : total (had n) (set (set ks id both) other empty_caller_view) + had n l ≡ total (had n) (set ks id both) + 0 = total_set (had n) (set ks id both) other l empty_caller_view still in
         let c : had n both ≡ had n k + had n l = ap (turns_with n) is ∙ had_both n k.history l.history in
-        let d : total (had n) (set (set ks id both) other empty_view) ≡ total (had n) ks = omega arith in
+        let d : total (had n) (set (set ks id both) other empty_caller_view) ≡ total (had n) ks = omega arith in
         d ∙ h.once n;
   }
 

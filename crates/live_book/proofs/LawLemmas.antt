@@ -7,10 +7,10 @@ use lib.ListN.{get_elem?}
 use Rattle.atomic_table.proofs.Lists.{set_else}
 use Rattle.live_journal.specs.declared.entry.Entry.{Entry}
 use Rattle.live_book.specs.declared.rule.Turn.{Turn}
-use Rattle.live_book.specs.Histories.{AllStand, Leads}
+use Rattle.live_book.specs.Histories.{AllStand, TurnsLead}
 use Rattle.live_book.specs.Laws.{FrontsAgree, LaterFindsMore, OneIsInTurn, PositionsDiffer, PositionsStand, TicketsDiffer, TurnsAgree}
 use Rattle.live_book.specs.Rule.{total}
-use Rattle.live_book.specs.Views.{empty_view, had, times}
+use Rattle.live_book.specs.Views.{empty_caller_view, had, position_count}
 use Rattle.live_book.proofs.HistoryLemmas.{had_both, one_if, one_most, stand_both}
 use Rattle.live_book.proofs.PrefixLemmas.{begins_longer, begins_other, begins_same}
 use Rattle.live_book.proofs.StageLemmas.{stage_served}
@@ -38,15 +38,15 @@ pub positions_differ : PositionsDiffer
 positions_differ plan s i j p k l h a b = ⊎_elim
     (λ (t : j ≡ i). t)
     (λ (t : j ≢ i).
-    let one : total (times p) s.views ≤ 1 = h.live.once p in
-    let less : total (times p) (set s.views i empty_view) + times p k ≡ total (times p) s.views + 0 = total_set (times p) s.views i k empty_view h.first in
-    let most = total_at (times p) (set s.views i empty_view) j l (set_else s.views i j empty_view t ∙ h.second) in absurd (omega arith))
+    let one : total (position_count p) s.views ≤ 1 = h.live.once p in
+    let less : total (position_count p) (set s.views i empty_caller_view) + position_count p k ≡ total (position_count p) s.views + 0 = total_set (position_count p) s.views i k empty_caller_view h.first in
+    let most = total_at (position_count p) (set s.views i empty_caller_view) j l (set_else s.views i j empty_caller_view t ∙ h.second) in absurd (omega arith))
     (cases_eq j i)
 
 pub positions_stand : PositionsStand
 positions_stand plan s i p k rule at a = ⊎_elim
     (λ (t : p < length rule.longest). t)
-    (λ (t : length rule.longest ≤ p). let none = rule.below p t in let most = total_at (times p) s.views i k at in absurd (omega arith))
+    (λ (t : length rule.longest ≤ p). let none = rule.below p t in let most = total_at (position_count p) s.views i k at in absurd (omega arith))
     (cases_lt p (length rule.longest))
 
 pub turns_agree : TurnsAgree
@@ -58,18 +58,18 @@ turns_agree plan s i j k l h apart = let r = h.live.history in record {
   once = λ n.
       let one : total (had n) s.views ≡ one_if (nat_lt n h.live.served) = r.once n in
       let most : one_if (nat_lt n h.live.served) ≤ 1 = one_most (nat_lt n h.live.served) in
-      let less : total (had n) (set s.views i empty_view) + had n k ≡ total (had n) s.views + 0 = total_set (had n) s.views i k empty_view h.first in
-      let other : had n l ≤ total (had n) (set s.views i empty_view) = total_at (had n) (set s.views i empty_view) j l (set_else s.views i j empty_view apart ∙ h.second) in
+      let less : total (had n) (set s.views i empty_caller_view) + had n k ≡ total (had n) s.views + 0 = total_set (had n) s.views i k empty_caller_view h.first in
+      let other : had n l ≤ total (had n) (set s.views i empty_caller_view) = total_at (had n) (set s.views i empty_caller_view) j l (set_else s.views i j empty_caller_view apart ∙ h.second) in
       let both = had_both n k.history l.history in omega arith;
 }
 
 -- ---- turns of one history
-later : (n : ℕ) (a : List Entry) (ts : List Turn) (b : List Entry) (j : ℕ) (u : Turn) → Leads n a ts b → get_elem? ts j ≡ some u → IsPrefix a u.found
+later : (n : ℕ) (a : List Entry) (ts : List Turn) (b : List Entry) (j : ℕ) (u : Turn) → TurnsLead n a ts b → get_elem? ts j ≡ some u → IsPrefix a u.found
 later n a [] b j u h e = absurd (some-ne-none u (sym e))
 later n a (x ∷ ts) b zero u h e = begins_same a u.found (sym h.1 ∙ ap (λ (t : Turn). t.found) (some-injective x u e))
 later n a (x ∷ ts) b (suc j) u h e = begins_longer a x.left u.found (subst (λ (l : List Entry). IsPrefix l x.left) h.1 h.2.begins) (later (n + 1) x.left ts b j u h.3 e)
 
-follows : (n : ℕ) (a : List Entry) (ts : List Turn) (b : List Entry) (i j : ℕ) (t u : Turn) → Leads n a ts b → get_elem? ts i ≡ some t → get_elem? ts j ≡ some u → i < j → IsPrefix t.left u.found
+follows : (n : ℕ) (a : List Entry) (ts : List Turn) (b : List Entry) (i j : ℕ) (t u : Turn) → TurnsLead n a ts b → get_elem? ts i ≡ some t → get_elem? ts j ≡ some u → i < j → IsPrefix t.left u.found
 follows n a [] b i j t u h d e l = absurd (some-ne-none t (sym d))
 follows n a (x ∷ ts) b zero zero t u h d e l = absurd (omega arith)
 follows n a (x ∷ ts) b zero (suc j) t u h d e l = subst (λ (y : Turn). IsPrefix y.left u.found) (some-injective x t d) (later (n + 1) x.left ts b j u h.3 e)

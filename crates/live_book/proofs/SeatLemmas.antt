@@ -11,8 +11,8 @@ use Rattle.live_book.specs.declared.rule.Plan.{Plan}
 use Rattle.live_book.specs.declared.rule.Knowledge.{Knowledge}
 use Rattle.live_book.specs.declared.rule.Stage.{Stage}
 use Rattle.live_book.specs.declared.rule.Stage.TheVariants.{Resting}
-use Rattle.live_book.specs.Rule.{AllBegin, Each, IsFront, IsLive, IsOpened, IsStage, TableState, total}
-use Rattle.live_book.specs.Views.{empty_view, has_ticket, holds, is_in_turn, joined_view, left_view, longer, new_view, times}
+use Rattle.live_book.specs.Rule.{AllBegin, EachCaller, IsFront, IsLiveBook, IsOpened, IsStage, BookTable, total}
+use Rattle.live_book.specs.Views.{empty_caller_view, has_ticket, holds, is_in_turn, joined_caller_view, left_caller_view, longer, new_caller_view, position_count}
 use Rattle.live_book.proofs.HistoryLemmas.{history_join, history_new, history_set}
 use Rattle.live_book.proofs.PrefixLemmas.{longer_either, longer_is}
 use Rattle.live_book.proofs.TotalLemmas.{at_inside, at_one, each_back, each_set, each_snoc, front_set, total_same, total_set, total_snoc}
@@ -32,17 +32,17 @@ ticketed k = cond (has_ticket k.stage) 1 0
 abbrev rests : Knowledge → Type 0
 rests k = is_in_turn k.stage ≡ false
 
-module _ (plan : Plan) (s : TableState) (h : IsLive plan s) (id : ℕ) (k : Knowledge) (at : get_elem? s.views id ≡ some k) where
+module _ (plan : Plan) (s : BookTable) (h : IsLiveBook plan s) (id : ℕ) (k : Knowledge) (at : get_elem? s.views id ≡ some k) where
   abbrev views : List Knowledge
   views = s.views
 
   -- ---- turns are split off
   module _ (st : k.stage ≡ Resting) (names : k.names ≡ plan.names) (all : k.all ≡ plan.turns) (n : ℕ) (most : n ≤ k.turns) where
     abbrev left : Knowledge
-    left = left_view n k
+    left = left_caller_view n k
 
     abbrev new : Knowledge
-    new = new_view n k
+    new = new_caller_view n k
 
     abbrev split_seats : List Knowledge
     split_seats = set views id left ++ new ∷ []
@@ -51,13 +51,13 @@ module _ (plan : Plan) (s : TableState) (h : IsLive plan s) (id : ℕ) (k : Know
     split_same : (f : Knowledge → ℕ) → f left ≡ f k → f new ≡ 0 → total f split_seats ≡ total f views
     split_same f a b = let t = total_same f views id k left at a in let u = total_snoc f (set views id left) new in omega arith
 
-    split_each : (F : Knowledge → Type 0) → F left → F new → Each F views → Each F split_seats
+    split_each : (F : Knowledge → Type 0) → F left → F new → EachCaller F views → EachCaller F split_seats
     split_each F a b c = each_snoc F (set views id left) new (each_set F views id left a (λ j u o _. c j u o)) b
 
-    split_rest : Each rests split_seats → Each rests views
+    split_rest : EachCaller rests split_seats → EachCaller rests views
     split_rest all_rest = each_back rests views id k left at (ap is_in_turn st) (λ j u o. all_rest j u (at_longer (set views id left) (new ∷ []) j u o))
 
-    pub split_keeps : IsLive plan (record { words = s.words; homes = s.homes; views = split_seats })
+    pub split_keeps : IsLiveBook plan (record { words = s.words; homes = s.homes; views = split_seats })
     split_keeps = record {
       drawn = h.drawn;
       served = h.served;
@@ -79,8 +79,8 @@ module _ (plan : Plan) (s : TableState) (h : IsLive plan s) (id : ℕ) (k : Know
       fronts = split_each (λ x. IsPrefix x.front h.longest) (h.fronts id k at) (h.fronts id k at) h.fronts;
       heard = split_each (λ x. AllBegin x.heard h.longest) (h.heard id k at) tt h.heard;
       is_front = let f = front_set views h.longest id k left at (λ e. e) h.is_front in record { id = f.id; caller = f.caller; has = at_longer (set views id left) (new ∷ []) f.id f.caller f.has; front = f.front };
-      once = λ p. subst (λ (m : ℕ). m ≤ 1) (sym (split_same (times p) refl refl)) (h.once p);
-      below = λ p l. split_same (times p) refl refl ∙ h.below p l;
+      once = λ p. subst (λ (m : ℕ). m ≤ 1) (sym (split_same (position_count p) refl refl)) (h.once p);
+      below = λ p l. split_same (position_count p) refl refl ∙ h.below p l;
       home = λ all_rest. h.home (split_rest all_rest);
     }
 
@@ -88,27 +88,27 @@ module _ (plan : Plan) (s : TableState) (h : IsLive plan s) (id : ℕ) (k : Know
   module _ (st : k.stage ≡ Resting) (names : k.names ≡ plan.names) (all : k.all ≡ plan.turns)
       (other : ℕ) (l : Knowledge) (there : get_elem? views other ≡ some l) (apart : other ≢ id) (st' : l.stage ≡ Resting) where
     abbrev both : Knowledge
-    both = joined_view k l
+    both = joined_caller_view k l
 
     abbrev joined_seats : List Knowledge
-    joined_seats = set (set views id both) other empty_view
+    joined_seats = set (set views id both) other empty_caller_view
 
     there_still : get_elem? (set views id both) other ≡ some l
     there_still = set_else views id other both apart ∙ there
 
-    joined_sum : (f : Knowledge → ℕ) → f both ≡ f k + f l → f empty_view ≡ 0 → total f joined_seats ≡ total f views
+    joined_sum : (f : Knowledge → ℕ) → f both ≡ f k + f l → f empty_caller_view ≡ 0 → total f joined_seats ≡ total f views
     joined_sum f a b =
         let t = total_set f views id k both at in
-        let u = total_set f (set views id both) other l empty_view there_still in omega arith
+        let u = total_set f (set views id both) other l empty_caller_view there_still in omega arith
 
-    joined_each : (F : Knowledge → Type 0) → F both → F empty_view → Each F views → Each F joined_seats
-    joined_each F a b c = each_set F (set views id both) other empty_view b (λ j u o _. each_set F views id both a (λ i v p _. c i v p) j u o)
+    joined_each : (F : Knowledge → Type 0) → F both → F empty_caller_view → EachCaller F views → EachCaller F joined_seats
+    joined_each F a b c = each_set F (set views id both) other empty_caller_view b (λ j u o _. each_set F views id both a (λ i v p _. c i v p) j u o)
 
     kept_front : longer k.front l.front ≡ h.longest → IsFront joined_seats h.longest
     kept_front e = record {
       id = id;
       caller = both;
-      has = set_else (set views id both) other id empty_view (λ (t : id ≡ other). apart (sym t)) ∙ set_here views id both (at_inside views id k at);
+      has = set_else (set views id both) other id empty_caller_view (λ (t : id ≡ other). apart (sym t)) ∙ set_here views id both (at_inside views id k at);
       front = e;
     }
 
@@ -118,17 +118,17 @@ module _ (plan : Plan) (s : TableState) (h : IsLive plan s) (id : ℕ) (k : Know
         (λ (t : f.id ≡ id). kept_front (is (inl (ap (λ (x : Knowledge). x.front) (sym (at_one views id f.id k f.caller at f.has t)) ∙ f.front))))
         (λ (t : f.id ≢ id). ⊎_elim
         (λ (q : f.id ≡ other). kept_front (is (inr (ap (λ (x : Knowledge). x.front) (sym (at_one views other f.id l f.caller there f.has q)) ∙ f.front))))
-        (λ (q : f.id ≢ other). record { id = f.id; caller = f.caller; has = set_else (set views id both) other f.id empty_view q ∙ set_else views id f.id both t ∙ f.has; front = f.front })
+        (λ (q : f.id ≢ other). record { id = f.id; caller = f.caller; has = set_else (set views id both) other f.id empty_caller_view q ∙ set_else views id f.id both t ∙ f.has; front = f.front })
         (cases_eq f.id other))
         (cases_eq f.id id)
 
-    joined_rest : Each rests joined_seats → Each rests views
-    joined_rest all_rest = each_back rests views id k both at (ap is_in_turn st) (each_back rests (set views id both) other l empty_view there_still (ap is_in_turn st') all_rest)
+    joined_rest : EachCaller rests joined_seats → EachCaller rests views
+    joined_rest all_rest = each_back rests views id k both at (ap is_in_turn st) (each_back rests (set views id both) other l empty_caller_view there_still (ap is_in_turn st') all_rest)
 
-    joined_times : (p : ℕ) → times p both ≡ times p k + times p l
+    joined_times : (p : ℕ) → position_count p both ≡ position_count p k + position_count p l
     joined_times p = sum_by-append (λ (q : ℕ). cond (q == p) 1 0) k.positions l.positions
 
-    pub join_keeps : IsLive plan (record { words = s.words; homes = s.homes; views = joined_seats })
+    pub join_keeps : IsLiveBook plan (record { words = s.words; homes = s.homes; views = joined_seats })
     join_keeps = record {
       drawn = h.drawn;
       served = h.served;
@@ -147,7 +147,7 @@ module _ (plan : Plan) (s : TableState) (h : IsLive plan s) (id : ℕ) (k : Know
       fronts = joined_each (λ x. IsPrefix x.front h.longest) (longer_either k.front l.front (λ f. IsPrefix f h.longest) (h.fronts id k at) (h.fronts other l there)) (h.longest, refl) h.fronts;
       heard = joined_each (λ x. AllBegin x.heard h.longest) (h.fronts id k at, (h.fronts other l there, tt)) tt h.heard;
       is_front = joined_front;
-      once = λ p. subst (λ (m : ℕ). m ≤ 1) (sym (joined_sum (times p) (joined_times p) refl)) (h.once p);
-      below = λ p m. joined_sum (times p) (joined_times p) refl ∙ h.below p m;
+      once = λ p. subst (λ (m : ℕ). m ≤ 1) (sym (joined_sum (position_count p) (joined_times p) refl)) (h.once p);
+      below = λ p m. joined_sum (position_count p) (joined_times p) refl ∙ h.below p m;
       home = λ all_rest. h.home (joined_rest all_rest);
     }

@@ -1,4 +1,4 @@
--- Each step of a seat keeps the rule.
+-- EachCaller step of a seat keeps the rule.
 use Rattle.std.proofs.Common.{◌≡◌, ◌≢◌, ℕ, ◌+◌, ◌-◌, ◌<◌, ◌≤◌, Bool, true, false, ◌==◌, List, [], ◌∷◌, length, set, slice_index, sym, refl, ap, ◌∙◌, subst, ⊎_elim, inl, arith}
 use Rattle.std.specs.Prelude.{Option, Some, cond, count_by}
 use Rattle.std.proofs.lemmas.Bool.{cases_Bool, cases_eq, eq-eqb, eqb-true}
@@ -15,8 +15,8 @@ use Rattle.live_book.specs.declared.rule.Knowledge.{Knowledge}
 use Rattle.live_book.specs.declared.rule.Stage.{Stage}
 use Rattle.live_book.specs.declared.rule.Stage.TheVariants.{Resting, Waiting, InTurn, Seeing}
 use Rattle.live_book.specs.Histories.{AddsAtMostOne, AreOfOneHistory}
-use Rattle.live_book.specs.Rule.{AllBegin, Each, HasHistory, IsLive, IsOpened, IsStage, TableState, callers_with, total}
-use Rattle.live_book.specs.Views.{committed_view, found_in, has_ticket, holds, in_turn_view, is_in_turn, passed_view, seeing_view, ticket_in, times, turn_in, told_view, waiting_view}
+use Rattle.live_book.specs.Rule.{AllBegin, EachCaller, HasTurnHistory, IsLiveBook, IsOpened, IsStage, BookTable, callers_with, total}
+use Rattle.live_book.specs.Views.{committed_view, found_in, has_ticket, holds, in_turn_view, is_in_turn, passed_view, seeing_view, ticket_in, position_count, turn_in, told_view, waiting_view}
 use Rattle.live_book.proofs.HistoryLemmas.{history_pass, history_set, of_one_history}
 use Rattle.live_book.proofs.PrefixLemmas.{all_longer, begins_itself, begins_longer, begins_same}
 use Rattle.live_book.proofs.StageLemmas.{rests_if, stage_below, stage_drawn, stage_else, stage_next}
@@ -42,10 +42,10 @@ adds_none : (found : List Entry) → AddsAtMostOne found found
 adds_none found = record { begins = begins_itself found; one = omega arith }
 
 -- a load that leaves the seat as it is leaves the table as it is
-pub unchanged : (s : TableState) (word id : ℕ) (k : Knowledge) → get_elem? s.views id ≡ some k → record { words = set s.words word (slice_index s.words word); homes = s.homes; views = set s.views id k } ≡ s
+pub unchanged : (s : BookTable) (word id : ℕ) (k : Knowledge) → get_elem? s.views id ≡ some k → record { words = set s.words word (slice_index s.words word); homes = s.homes; views = set s.views id k } ≡ s
 unchanged s word id k at i = record { words = set-get_or s.words word 0 i; homes = s.homes; views = set_again s.views id k at i }
 
-module _ (plan : Plan) (s : TableState) (h : IsLive plan s) (id : ℕ) (k : Knowledge) (at : get_elem? s.views id ≡ some k) where
+module _ (plan : Plan) (s : BookTable) (h : IsLiveBook plan s) (id : ℕ) (k : Knowledge) (at : get_elem? s.views id ≡ some k) where
   abbrev views : List Knowledge
   views = s.views
 
@@ -70,7 +70,7 @@ module _ (plan : Plan) (s : TableState) (h : IsLive plan s) (id : ℕ) (k : Know
         (λ (e : (h.drawn == n) ≡ false). let now : holder n drawn_next ≡ 0 = ap (λ (b : Bool). cond b 1 0) e in omega arith)
         (cases_Bool (h.drawn == n))
 
-    pub draw_keeps : IsLive plan (record { words = (h.drawn + 1) ∷ h.served ∷ length h.longest ∷ []; homes = s.homes; views = set views id drawn_next })
+    pub draw_keeps : IsLiveBook plan (record { words = (h.drawn + 1) ∷ h.served ∷ length h.longest ∷ []; homes = s.homes; views = set views id drawn_next })
     draw_keeps = record {
       drawn = h.drawn + 1;
       served = h.served;
@@ -94,8 +94,8 @@ module _ (plan : Plan) (s : TableState) (h : IsLive plan s) (id : ℕ) (k : Know
       fronts = each_set (λ x. IsPrefix x.front h.longest) views id drawn_next (h.fronts id k at) (λ j u o _. h.fronts j u o);
       heard = each_set (λ x. AllBegin x.heard h.longest) views id drawn_next (h.heard id k at) (λ j u o _. h.heard j u o);
       is_front = front_set views h.longest id k drawn_next at (λ e. e) h.is_front;
-      once = λ p. subst (λ (n : ℕ). n ≤ 1) (sym (total_same (times p) views id k drawn_next at refl)) (h.once p);
-      below = λ p l. total_same (times p) views id k drawn_next at refl ∙ h.below p l;
+      once = λ p. subst (λ (n : ℕ). n ≤ 1) (sym (total_same (position_count p) views id k drawn_next at refl)) (h.once p);
+      below = λ p l. total_same (position_count p) views id k drawn_next at refl ∙ h.below p l;
       home = λ all_rest. h.home (each_back rests views id k drawn_next at (ap is_in_turn st) all_rest);
     }
 
@@ -104,8 +104,8 @@ module _ (plan : Plan) (s : TableState) (h : IsLive plan s) (id : ℕ) (k : Know
       (same_names : l.names ≡ plan.names) (same_all : l.all ≡ plan.turns) (same_heard : l.heard ≡ k.heard) (same_history : l.history ≡ k.history)
       (same_holds : (n : ℕ) → holds n l.stage ≡ holds n k.stage) (same_has : has_ticket l.stage ≡ has_ticket k.stage)
       (stage : IsStage h.drawn h.served h.settled h.longest l.front l.stage) (begins : IsPrefix l.front h.longest) (front : k.front ≡ h.longest → l.front ≡ h.longest) where
-    pub moved_keeps : (homes : List (Home (Option JournalState))) → (Each rests (set views id l) → h.settled ≡ h.longest) → (Each rests (set views id l) → homes ≡ some (Some (journal plan.names h.longest)) ∷ [])
-        → IsLive plan (record { words = s.words; homes = homes; views = set views id l })
+    pub moved_keeps : (homes : List (Home (Option JournalState))) → (EachCaller rests (set views id l) → h.settled ≡ h.longest) → (EachCaller rests (set views id l) → homes ≡ some (Some (journal plan.names h.longest)) ∷ [])
+        → IsLiveBook plan (record { words = s.words; homes = homes; views = set views id l })
     moved_keeps homes quiet home = record {
       drawn = h.drawn;
       served = h.served;
@@ -124,8 +124,8 @@ module _ (plan : Plan) (s : TableState) (h : IsLive plan s) (id : ℕ) (k : Know
       fronts = each_set (λ x. IsPrefix x.front h.longest) views id l begins (λ j u o _. h.fronts j u o);
       heard = each_set (λ x. AllBegin x.heard h.longest) views id l (subst (λ (fs : List (List Entry)). AllBegin fs h.longest) (sym same_heard) (h.heard id k at)) (λ j u o _. h.heard j u o);
       is_front = front_set views h.longest id k l at front h.is_front;
-      once = λ p. subst (λ (n : ℕ). n ≤ 1) (sym (total_same (times p) views id k l at (ap (λ (ps : List ℕ). count_by (λ (q : ℕ). q == p) ps) same_positions))) (h.once p);
-      below = λ p m. total_same (times p) views id k l at (ap (λ (ps : List ℕ). count_by (λ (q : ℕ). q == p) ps) same_positions) ∙ h.below p m;
+      once = λ p. subst (λ (n : ℕ). n ≤ 1) (sym (total_same (position_count p) views id k l at (ap (λ (ps : List ℕ). count_by (λ (q : ℕ). q == p) ps) same_positions))) (h.once p);
+      below = λ p m. total_same (position_count p) views id k l at (ap (λ (ps : List ℕ). count_by (λ (q : ℕ). q == p) ps) same_positions) ∙ h.below p m;
       home = home;
     }
 
@@ -135,7 +135,7 @@ module _ (plan : Plan) (s : TableState) (h : IsLive plan s) (id : ℕ) (k : Know
     others_else j u o apart t = alone h.served views (h.differ h.served) id j k u at o apart mine t
 
     -- where this view is not in its turn, nobody is
-    pub all_rest : is_in_turn k.stage ≡ false → Each rests views
+    pub all_rest : is_in_turn k.stage ≡ false → EachCaller rests views
     all_rest me j u o = ⊎_elim
         (λ (t : j ≡ id). subst rests (sym (at_one views id j k u at o t)) me)
         (λ (t : j ≢ id). rests_if h.drawn h.served h.settled h.longest u.front u.stage (h.stages j u o) (others_else j u o t))
@@ -143,7 +143,7 @@ module _ (plan : Plan) (s : TableState) (h : IsLive plan s) (id : ℕ) (k : Know
 
     -- a view in its turn
     module _ (l : Knowledge) (turn : is_in_turn l.stage ≡ true) where
-      pub not_home : {A : Type 0} → Each rests (set views id l) → A
+      pub not_home : {A : Type 0} → EachCaller rests (set views id l) → A
       not_home rest = let rest_here : is_in_turn l.stage ≡ false = rest id l (set_here views id l (at_inside views id k at)) in absurd (let e : true ≡ false = sym turn ∙ rest_here in cc)
 
   -- ---- the turn has come
@@ -160,7 +160,7 @@ module _ (plan : Plan) (s : TableState) (h : IsLive plan s) (id : ℕ) (k : Know
     waits_stage : IsStage h.drawn h.served h.settled h.longest k.front (Waiting (ticket_in k.stage))
     waits_stage = subst (IsStage h.drawn h.served h.settled h.longest k.front) st (h.stages id k at)
 
-    pub come_keeps : (homes : List (Home (Option JournalState))) → IsLive plan (record { words = s.words; homes = homes; views = set views id come })
+    pub come_keeps : (homes : List (Home (Option JournalState))) → IsLiveBook plan (record { words = s.words; homes = homes; views = set views id come })
     come_keeps homes = moved_keeps come refl refl refl names all refl refl (λ n. sym (ap (holds n) st)) (sym (ap has_ticket st))
         (served, waits_stage.1, sym (h.quiet (all_rest waits_served (ap is_in_turn st))), refl) (h.fronts id k at) (λ e. e) homes (not_home waits_served come refl) (not_home waits_served come refl)
 
@@ -175,7 +175,7 @@ module _ (plan : Plan) (s : TableState) (h : IsLive plan s) (id : ℕ) (k : Know
     turn_served : holds h.served k.stage ≡ true
     turn_served = ap (holds h.served) st ∙ eq-eqb (ticket_in k.stage) h.served turn_stage.0
 
-    pub see_keeps : IsLive plan (record { words = s.words; homes = s.homes; views = set views id seen })
+    pub see_keeps : IsLiveBook plan (record { words = s.words; homes = s.homes; views = set views id seen })
     see_keeps = moved_keeps seen refl refl refl names all refl refl (λ n. sym (ap (holds n) st)) (sym (ap has_ticket st))
         (turn_stage.0, turn_stage.1, turn_stage.2, turn_stage.3, adds_none (found_in k.stage)) (begins_same (found_in k.stage) h.longest turn_stage.3) (λ _. turn_stage.3) s.homes (not_home turn_served seen refl) (not_home turn_served seen refl)
 
@@ -198,13 +198,13 @@ module _ (plan : Plan) (s : TableState) (h : IsLive plan s) (id : ℕ) (k : Know
       adds_one : AddsAtMostOne (found_in k.stage) entries
       adds_one = subst (λ (l : List Entry). AddsAtMostOne l entries) (sym fresh) (record { begins = more; one = omega arith })
 
-      now_times : (p : ℕ) → times p committed ≡ times p k + cond (length k.front == p) 1 0
+      now_times : (p : ℕ) → position_count p committed ≡ position_count p k + cond (length k.front == p) 1 0
       now_times p = sum_by_push (λ (q : ℕ). cond (q == p) 1 0) k.positions (length k.front)
 
-      commit_times : (p : ℕ) → total (times p) (set views id committed) + times p k ≡ total (times p) views + times p committed
-      commit_times p = total_set (times p) views id k committed at
+      commit_times : (p : ℕ) → total (position_count p) (set views id committed) + position_count p k ≡ total (position_count p) views + position_count p committed
+      commit_times p = total_set (position_count p) views id k committed at
 
-      pub commit_keeps : IsLive plan (record { words = h.drawn ∷ h.served ∷ length entries ∷ []; homes = s.homes; views = set views id committed })
+      pub commit_keeps : IsLiveBook plan (record { words = h.drawn ∷ h.served ∷ length entries ∷ []; homes = s.homes; views = set views id committed })
       commit_keeps =
           let long : length k.front ≡ length h.longest = ap (λ (l : List Entry). length l) seeing_stage.3 in record {
             drawn = h.drawn;
@@ -227,21 +227,21 @@ module _ (plan : Plan) (s : TableState) (h : IsLive plan s) (id : ℕ) (k : Know
             heard = each_set (λ x. AllBegin x.heard entries) views id committed (all_longer k.heard h.longest entries longest_more (h.heard id k at)) (λ j u o _. all_longer u.heard h.longest entries longest_more (h.heard j u o));
             is_front = record { id = id; caller = committed; has = set_here views id committed (at_inside views id k at); front = refl };
             once = λ p.
-                let a : total (times p) (set views id committed) + times p k ≡ total (times p) views + times p committed = commit_times p in
-                let b : times p committed ≡ times p k + cond (length k.front == p) 1 0 = now_times p in
-                let c : total (times p) views ≤ 1 = h.once p in ⊎_elim
+                let a : total (position_count p) (set views id committed) + position_count p k ≡ total (position_count p) views + position_count p committed = commit_times p in
+                let b : position_count p committed ≡ position_count p k + cond (length k.front == p) 1 0 = now_times p in
+                let c : total (position_count p) views ≤ 1 = h.once p in ⊎_elim
                 (λ (e : (length k.front == p) ≡ true).
                 let here = eqb-true (length k.front) p e in
-                let none : total (times p) views ≡ 0 = h.below p (omega arith) in
-                let d : times p committed ≡ times p k + 1 = b ∙ ap (λ (x : Bool). times p k + cond x 1 0) e in omega arith)
-                (λ (e : (length k.front == p) ≡ false). let d : times p committed ≡ times p k + 0 = b ∙ ap (λ (x : Bool). times p k + cond x 1 0) e in omega arith)
+                let none : total (position_count p) views ≡ 0 = h.below p (omega arith) in
+                let d : position_count p committed ≡ position_count p k + 1 = b ∙ ap (λ (x : Bool). position_count p k + cond x 1 0) e in omega arith)
+                (λ (e : (length k.front == p) ≡ false). let d : position_count p committed ≡ position_count p k + 0 = b ∙ ap (λ (x : Bool). position_count p k + cond x 1 0) e in omega arith)
                 (cases_Bool (length k.front == p));
             below = λ p past.
-                let a : total (times p) (set views id committed) + times p k ≡ total (times p) views + times p committed = commit_times p in
-                let b : times p committed ≡ times p k + cond (length k.front == p) 1 0 = now_times p in
-                let none : total (times p) views ≡ 0 = h.below p (omega arith) in ⊎_elim
+                let a : total (position_count p) (set views id committed) + position_count p k ≡ total (position_count p) views + position_count p committed = commit_times p in
+                let b : position_count p committed ≡ position_count p k + cond (length k.front == p) 1 0 = now_times p in
+                let none : total (position_count p) views ≡ 0 = h.below p (omega arith) in ⊎_elim
                 (λ (e : (length k.front == p) ≡ true). let here = eqb-true (length k.front) p e in absurd (omega arith))
-                (λ (e : (length k.front == p) ≡ false). let d : times p committed ≡ times p k + 0 = b ∙ ap (λ (x : Bool). times p k + cond x 1 0) e in omega arith)
+                (λ (e : (length k.front == p) ≡ false). let d : position_count p committed ≡ position_count p k + 0 = b ∙ ap (λ (x : Bool). position_count p k + cond x 1 0) e in omega arith)
                 (cases_Bool (length k.front == p));
             home = not_home seeing_served committed (ap is_in_turn st);
           }
@@ -250,10 +250,10 @@ module _ (plan : Plan) (s : TableState) (h : IsLive plan s) (id : ℕ) (k : Know
     abbrev passed : Knowledge
     passed = passed_view k
 
-    pass_history : HasHistory (h.served + 1) k.front (set views id passed)
+    pass_history : HasTurnHistory (h.served + 1) k.front (set views id passed)
     pass_history = history_pass h.served h.settled views h.history id k passed (turn_in k.stage k.front) at refl seeing_stage.0 seeing_stage.2 seeing_stage.4
 
-    pub pass_keeps : IsLive plan (record { words = h.drawn ∷ (h.served + 1) ∷ length h.longest ∷ []; homes = some (Some (journal k.names k.front)) ∷ []; views = set views id passed })
+    pub pass_keeps : IsLiveBook plan (record { words = h.drawn ∷ (h.served + 1) ∷ length h.longest ∷ []; homes = some (Some (journal k.names k.front)) ∷ []; views = set views id passed })
     pass_keeps = record {
       drawn = h.drawn;
       served = h.served + 1;
@@ -276,8 +276,8 @@ module _ (plan : Plan) (s : TableState) (h : IsLive plan s) (id : ℕ) (k : Know
       fronts = each_set (λ x. IsPrefix x.front h.longest) views id passed (h.fronts id k at) (λ j u o _. h.fronts j u o);
       heard = each_set (λ x. AllBegin x.heard h.longest) views id passed (h.heard id k at) (λ j u o _. h.heard j u o);
       is_front = front_set views h.longest id k passed at (λ e. e) h.is_front;
-      once = λ p. subst (λ (n : ℕ). n ≤ 1) (sym (total_same (times p) views id k passed at refl)) (h.once p);
-      below = λ p l. total_same (times p) views id k passed at refl ∙ h.below p l;
+      once = λ p. subst (λ (n : ℕ). n ≤ 1) (sym (total_same (position_count p) views id k passed at refl)) (h.once p);
+      below = λ p l. total_same (position_count p) views id k passed at refl ∙ h.below p l;
       home = λ _. λ j. some (Some (journal (names j) (seeing_stage.3 j))) ∷ [];
     }
 
@@ -290,7 +290,7 @@ module _ (plan : Plan) (s : TableState) (h : IsLive plan s) (id : ℕ) (k : Know
     abbrev told : Knowledge
     told = told_view k
 
-    pub tell_keeps : IsLive plan (record { words = s.words; homes = s.homes; views = set views id told })
+    pub tell_keeps : IsLiveBook plan (record { words = s.words; homes = s.homes; views = set views id told })
     tell_keeps = record {
       drawn = h.drawn;
       served = h.served;
@@ -309,13 +309,13 @@ module _ (plan : Plan) (s : TableState) (h : IsLive plan s) (id : ℕ) (k : Know
       fronts = each_set (λ x. IsPrefix x.front h.longest) views id told (h.fronts id k at) (λ j u o _. h.fronts j u o);
       heard = each_set (λ x. AllBegin x.heard h.longest) views id told tt (λ j u o _. h.heard j u o);
       is_front = front_set views h.longest id k told at (λ e. e) h.is_front;
-      once = λ p. subst (λ (n : ℕ). n ≤ 1) (sym (total_same (times p) views id k told at refl)) (h.once p);
-      below = λ p l. total_same (times p) views id k told at refl ∙ h.below p l;
+      once = λ p. subst (λ (n : ℕ). n ≤ 1) (sym (total_same (position_count p) views id k told at refl)) (h.once p);
+      below = λ p l. total_same (position_count p) views id k told at refl ∙ h.below p l;
       home = λ all_rest. h.home (each_back rests views id k told at (all_rest id told (set_here views id told (at_inside views id k at))) all_rest);
     }
 
     pub tell_history : AreOfOneHistory k.history
     tell_history = of_one_history h.served h.settled views h.history id k at
 
-    pub tell_once : (p : ℕ) → times p k ≤ 1
-    tell_once p = let a = total_at (times p) views id k at in let b : total (times p) views ≤ 1 = h.once p in omega arith
+    pub tell_once : (p : ℕ) → position_count p k ≤ 1
+    tell_once p = let a = total_at (position_count p) views id k at in let b : total (position_count p) views ≤ 1 = h.once p in omega arith

@@ -8,8 +8,8 @@ use mathlib.Core.Option.{some, some-injective, some-ne-none}
 use lib.ListN.{get_elem?}
 use Rattle.live_journal.specs.declared.entry.Entry.{Entry}
 use Rattle.live_book.specs.declared.rule.Knowledge.{Knowledge}
-use Rattle.live_book.specs.Rule.{Each, IsFront, callers_with, total}
-use Rattle.live_book.specs.Views.{empty_view, holds}
+use Rattle.live_book.specs.Rule.{EachCaller, IsFront, callers_with, total}
+use Rattle.live_book.specs.Views.{empty_caller_view, holds}
 
 pub at_or : (l : List Knowledge) (i : ℕ) (a d : Knowledge) → get_elem? l i ≡ some a → get_or l i d ≡ a
 at_or [] i a d e = absurd (some-ne-none a (sym e))
@@ -38,7 +38,7 @@ module _ (f : Knowledge → ℕ) (ks : List Knowledge) where
   pub total_at : (id : ℕ) (k : Knowledge) → get_elem? ks id ≡ some k → f k ≤ total f ks
   total_at id k at = subst (λ (x : Knowledge). f x ≤ total f ks) (at_or ks id k k at) (get_or-le-sum_by f ks id k (at_inside ks id k at))
 
-pub total_none : (f : Knowledge → ℕ) (ks : List Knowledge) → Each (λ k. f k ≡ 0) ks → total f ks ≡ 0
+pub total_none : (f : Knowledge → ℕ) (ks : List Knowledge) → EachCaller (λ k. f k ≡ 0) ks → total f ks ≡ 0
 total_none f [] h = refl
 total_none f (k ∷ ks) h = let a = h 0 k refl in let b = total_none f ks (λ i l e. h (suc i) l e) in omega (arith, sum_by-cons f k ks)
 
@@ -49,21 +49,21 @@ alone n ks one i j k l at there apart held also =
     let f : Knowledge → ℕ = λ x. cond (holds n x.stage) 1 0 in
     let mine : f k ≡ 1 = ap (λ (b : Bool). cond b 1 0) held in
     let other : f l ≡ 1 = ap (λ (b : Bool). cond b 1 0) also in
-    let less : total f (set ks i empty_view) + f k ≡ total f ks + 0 = total_set f ks i k empty_view at in
-    let most : f l ≤ total f (set ks i empty_view) = total_at f (set ks i empty_view) j l (set_else ks i j empty_view apart ∙ there) in
+    let less : total f (set ks i empty_caller_view) + f k ≡ total f ks + 0 = total_set f ks i k empty_caller_view at in
+    let most : f l ≤ total f (set ks i empty_caller_view) = total_at f (set ks i empty_caller_view) j l (set_else ks i j empty_caller_view apart ∙ there) in
     let only : total f ks ≤ 1 = one in
     omega arith
 
 -- ---- a fact of each caller
 module _ (F : Knowledge → Type 0) (ks : List Knowledge) where
-  pub each_set : (id : ℕ) (l : Knowledge) → F l → ((j : ℕ) (u : Knowledge) → get_elem? ks j ≡ some u → j ≢ id → F u) → Each F (set ks id l)
+  pub each_set : (id : ℕ) (l : Knowledge) → F l → ((j : ℕ) (u : Knowledge) → get_elem? ks j ≡ some u → j ≢ id → F u) → EachCaller F (set ks id l)
   each_set id l mine others j u e = ⊎_elim (λ (t : (j ≡ id) × (l ≡ u)). subst F t.1 mine) (λ (t : (j ≢ id) × (get_elem? ks j ≡ some u)). others j u t.1 t.0) (at_set ks id j l u e)
 
-  pub each_snoc : (l : Knowledge) → Each F ks → F l → Each F (ks ++ l ∷ [])
+  pub each_snoc : (l : Knowledge) → EachCaller F ks → F l → EachCaller F (ks ++ l ∷ [])
   each_snoc l others mine j u e = ⊎_elim (λ (t : get_elem? ks j ≡ some u). others j u t) (λ (t : l ≡ u). subst F t mine) (at_snoc ks l u j e)
 
   -- and back
-  pub each_back : (id : ℕ) (k l : Knowledge) → get_elem? ks id ≡ some k → F k → Each F (set ks id l) → Each F ks
+  pub each_back : (id : ℕ) (k l : Knowledge) → get_elem? ks id ≡ some k → F k → EachCaller F (set ks id l) → EachCaller F ks
   each_back id k l at mine others j u e = ⊎_elim
       (λ (t : j ≡ id). subst F (sym (at_one ks id j k u at e t)) mine)
       (λ (t : j ≢ id). others j u (set_else ks id j l t ∙ e)) (cases_eq j id)

@@ -11,8 +11,8 @@ use Rattle.live_book.specs.declared.rule.Knowledge.{Knowledge}
 use Rattle.live_book.specs.Callers.{AddsEntry, AddsNothing, CallerState, HasTurn, TakesIn, all_but_last, caller_of}
 use Rattle.live_book.specs.Histories.{AreOfOneHistory, turn}
 use Rattle.live_book.specs.Plays.{Tells}
-use Rattle.live_book.specs.Rule.{SeatState}
-use Rattle.live_book.specs.Views.{committed_view, joined_view, passed_view, told_view}
+use Rattle.live_book.specs.Rule.{CallerSeat}
+use Rattle.live_book.specs.Views.{committed_view, joined_caller_view, passed_view, told_view}
 use Rattle.live_book.specs.inner.Turns.{IsInTurn, turn_view}
 use Rattle.live_book.proofs.PrefixLemmas.{begins_longer}
 
@@ -47,12 +47,12 @@ module _ (t : TableId) (k : Knowledge) (ticket : ℕ) (found entries : List Entr
     found_is = last;
   }
 
-pub commits : (e : Entry) (found entries : List Entry) (before now : CallerState) (t u : TableId) (k : Knowledge) (seat me : SeatState)
+pub commits : (e : Entry) (found entries : List Entry) (before now : CallerState) (t u : TableId) (k : Knowledge) (seat me : CallerSeat)
     → before ≡ caller_of t k → now ≡ caller_of u me.0 → u ≡ t → IsInTurn k seat found → me ≡ (passed_view (committed_view seat.0 entries), []) → 0 < k.turns → entries ≡ found ++ e ∷ [] → IsJournal entries
     → AreOfOneHistory me.0.history → Commits e found before now
 commits e found entries before now t u k seat me was here same in_turn then some_turn is journal one =
     let knows : me.0 ≡ then_knows t k in_turn.ticket found entries e some_turn in_turn.begins is journal =
-    ap (λ (x : SeatState). x.0) then ∙ ap (λ (x : SeatState). passed_view (committed_view x.0 entries)) in_turn.seat in
+    ap (λ (x : CallerSeat). x.0) then ∙ ap (λ (x : CallerSeat). passed_view (committed_view x.0 entries)) in_turn.seat in
     let now_is : now ≡ caller_of t (then_knows t k in_turn.ticket found entries e some_turn in_turn.begins is journal) = here ∙ (λ j. caller_of (same j) (knows j)) in
     subst (λ (x : CallerState). Commits e found x now) (sym was) (subst (λ (x : CallerState). Commits e found (caller_of t k) x) (sym now_is)
     (commits_here t k in_turn.ticket found entries e some_turn in_turn.begins is journal (subst (λ (x : Knowledge). AreOfOneHistory x.history) knows one)))
@@ -74,24 +74,24 @@ module _ (t : TableId) (k : Knowledge) (ticket : ℕ) (found : List Entry) (some
     found_is = refl;
   }
 
-pub refuses : (found : List Entry) (before now : CallerState) (t u : TableId) (k : Knowledge) (seat me : SeatState)
+pub refuses : (found : List Entry) (before now : CallerState) (t u : TableId) (k : Knowledge) (seat me : CallerSeat)
     → before ≡ caller_of t k → now ≡ caller_of u me.0 → u ≡ t → IsInTurn k seat found → me ≡ (passed_view seat.0, []) → 0 < k.turns
     → AreOfOneHistory me.0.history → Refuses found before now
 refuses found before now t u k seat me was here same in_turn then some_turn one =
     let knows : me.0 ≡ still_knows t k in_turn.ticket found some_turn in_turn.begins in_turn.journal =
-    ap (λ (x : SeatState). x.0) then ∙ ap (λ (x : SeatState). passed_view x.0) in_turn.seat in
+    ap (λ (x : CallerSeat). x.0) then ∙ ap (λ (x : CallerSeat). passed_view x.0) in_turn.seat in
     let now_is : now ≡ caller_of t (still_knows t k in_turn.ticket found some_turn in_turn.begins in_turn.journal) = here ∙ (λ j. caller_of (same j) (knows j)) in
     subst (λ (x : CallerState). Refuses found x now) (sym was) (subst (λ (x : CallerState). Refuses found (caller_of t k) x) (sym now_is)
     (refuses_here t k in_turn.ticket found some_turn in_turn.begins in_turn.journal (subst (λ (x : Knowledge). AreOfOneHistory x.history) knows one)))
 
 -- ---- a caller that takes in another
-takes_in_here : (t v : TableId) (k l : Knowledge) (slots : List (ℕ × Option JournalState)) (me : SeatState) → Tells (joined_view k l, slots) me → TakesIn (caller_of t k) (caller_of v l) (caller_of t (told_view (joined_view k l)))
+takes_in_here : (t v : TableId) (k l : Knowledge) (slots : List (ℕ × Option JournalState)) (me : CallerSeat) → Tells (joined_caller_view k l, slots) me → TakesIn (caller_of t k) (caller_of v l) (caller_of t (told_view (joined_caller_view k l)))
 takes_in_here t v k l slots me told = record { seat = refl; own = told.heard.0; others = told.heard.1.0; once = told.once; most = told.turns; one_history = told.history }
 
-pub takes_in : (before other now : CallerState) (t u v : TableId) (k l : Knowledge) (slots : List (ℕ × Option JournalState)) (middle me : SeatState)
-    → before ≡ caller_of t k → other ≡ caller_of v l → now ≡ caller_of u me.0 → u ≡ t → middle ≡ (joined_view k l, slots) → Tells middle me → TakesIn before other now
+pub takes_in : (before other now : CallerState) (t u v : TableId) (k l : Knowledge) (slots : List (ℕ × Option JournalState)) (middle me : CallerSeat)
+    → before ≡ caller_of t k → other ≡ caller_of v l → now ≡ caller_of u me.0 → u ≡ t → middle ≡ (joined_caller_view k l, slots) → Tells middle me → TakesIn before other now
 takes_in before other now t u v k l slots middle me was joins here same is tells =
-    let told : Tells (joined_view k l, slots) me = subst (λ (x : SeatState). Tells x me) is tells in
-    let knows : me.0 ≡ told_view (joined_view k l) = ap (λ (x : SeatState). x.0) told.seat in
-    let now_is : now ≡ caller_of t (told_view (joined_view k l)) = here ∙ (λ j. caller_of (same j) (knows j)) in
+    let told : Tells (joined_caller_view k l, slots) me = subst (λ (x : CallerSeat). Tells x me) is tells in
+    let knows : me.0 ≡ told_view (joined_caller_view k l) = ap (λ (x : CallerSeat). x.0) told.seat in
+    let now_is : now ≡ caller_of t (told_view (joined_caller_view k l)) = here ∙ (λ j. caller_of (same j) (knows j)) in
     subst (λ (x : CallerState). TakesIn x other now) (sym was) (subst (λ (x : CallerState). TakesIn (caller_of t k) x now) (sym joins) (subst (λ (x : CallerState). TakesIn (caller_of t k) (caller_of v l) x) (sym now_is) (takes_in_here t v k l slots me told)))

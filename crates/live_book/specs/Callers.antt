@@ -56,7 +56,7 @@ first_caller book = record {
 }
 
 -- the caller is of this book
-pub record IsOf (book : OpenBook) (caller : CallerState) : Type 0 where
+pub record IsOfBook (book : OpenBook) (caller : CallerState) : Type 0 where
   pub table_id : caller.table_id ≡ book.table_id
   pub names : caller.names ≡ book.names
   pub all : caller.all ≡ book.turns

@@ -17,10 +17,10 @@ pub record AddsAtMostOne (found left : List Entry) : Type 0 where
 
 -- these turns, one for each ticket from this one on, lead from one journal to another: the first
 -- found the one, each other found what the turn before it left, and the last left the other
-abbrev pub Leads : ℕ → List Entry → List Turn → List Entry → Type 0
-Leads ticket from [] to = from ≡ to
-Leads ticket from (t ∷ ts) to = (t.ticket ≡ ticket) × (t.found ≡ from)
-    × AddsAtMostOne t.found t.left × Leads (ticket + 1) t.left ts to
+abbrev pub TurnsLead : ℕ → List Entry → List Turn → List Entry → Type 0
+TurnsLead ticket from [] to = from ≡ to
+TurnsLead ticket from (t ∷ ts) to = (t.ticket ≡ ticket) × (t.found ≡ from)
+    × AddsAtMostOne t.found t.left × TurnsLead (ticket + 1) t.left ts to
 
 -- each of these turns stands in the history, at the place of its ticket
 abbrev pub AllStand : List Turn → List Turn → Type 0
@@ -36,6 +36,6 @@ turns_with ticket turns = count_by (λ (t : Turn). t.ticket == ticket) turns
 pub record AreOfOneHistory (turns : List Turn) : Type 0 where
   pub history : List Turn
   pub last : List Entry
-  pub leads : Leads 0 [] history last
+  pub leads : TurnsLead 0 [] history last
   pub stand : AllStand history turns
   pub once : (ticket : ℕ) → turns_with ticket turns ≤ 1

@@ -10,8 +10,8 @@ use Rattle.live_book.specs.declared.rule.Turn.{Turn}
 use Rattle.live_book.specs.Histories.{turn, turns_with}
 
 -- the caller of a new book: it has all turns
-abbrev pub first_view : Plan → Knowledge
-first_view plan = record {
+abbrev pub first_caller_view : Plan → Knowledge
+first_caller_view plan = record {
   names = plan.names;
   all = plan.turns;
   turns = plan.turns;
@@ -24,8 +24,8 @@ first_view plan = record {
 }
 
 -- what is left of a caller that was joined to another
-abbrev pub empty_view : Knowledge
-empty_view = first_view (record { names = 0; turns = 0 })
+abbrev pub empty_caller_view : Knowledge
+empty_caller_view = first_caller_view (record { names = 0; turns = 0 })
 
 -- this stage holds this ticket
 abbrev pub holds : ℕ → Stage → Bool
@@ -67,8 +67,8 @@ abbrev pub had : ℕ → Knowledge → ℕ
 had ticket k = turns_with ticket k.history
 
 -- how often the position stands among the caller's
-abbrev pub times : ℕ → Knowledge → ℕ
-times position k = count_by (λ (p : ℕ). p == position) k.positions
+abbrev pub position_count : ℕ → Knowledge → ℕ
+position_count position k = count_by (λ (p : ℕ). p == position) k.positions
 
 -- ticket: a turn less, and a ticket
 abbrev pub waiting_view : Knowledge → ℕ → Knowledge
@@ -104,12 +104,12 @@ passed_view k = record k {
 }
 
 -- split: so many turns less
-abbrev pub left_view : ℕ → Knowledge → Knowledge
-left_view turns k = record k { turns = k.turns - turns }
+abbrev pub left_caller_view : ℕ → Knowledge → Knowledge
+left_caller_view turns k = record k { turns = k.turns - turns }
 
 -- split: the new caller has them and the same front
-abbrev pub new_view : ℕ → Knowledge → Knowledge
-new_view turns k = record {
+abbrev pub new_caller_view : ℕ → Knowledge → Knowledge
+new_caller_view turns k = record {
   names = k.names;
   all = k.all;
   turns = turns;
@@ -126,8 +126,8 @@ abbrev pub longer : List Entry → List Entry → List Entry
 longer front other = if nat_lt (length front) (length other) then other else front
 
 -- join: turns and passes add up, positions and histories follow, and the front is the longer one
-abbrev pub joined_view : Knowledge → Knowledge → Knowledge
-joined_view k l = record k {
+abbrev pub joined_caller_view : Knowledge → Knowledge → Knowledge
+joined_caller_view k l = record k {
   turns = k.turns + l.turns;
   front = longer k.front l.front;
   positions = k.positions ++ l.positions;

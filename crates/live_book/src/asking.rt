@@ -3,7 +3,7 @@ ghost use Rattle.hypothesis_index.specs.Places.{width_of};
 ghost use Rattle.refute_tests.specs.Survivors.{AreSurvivors};
 ghost use Rattle.day_partitions.specs.Books.{all_traces};
 ghost use Rattle.live_journal.specs.Replays.{replay};
-ghost use Rattle.live_book.specs.Callers.{AddsNothing, HasTurn, IsOf};
+ghost use Rattle.live_book.specs.Callers.{AddsNothing, HasTurn, IsOfBook};
 
 use crate::callers::Caller;
 use crate::live_book::LiveBook;
@@ -15,7 +15,7 @@ impl LiveBook {
     /// relation that some trace refutes which the replay of the caller's front then keeps. It takes
     /// no memory.
     pub fn ask<R: Wait>(&self, rt: &R, caller: &mut Caller, into: &mut [u64])
-        requires book { IsOf self.now caller.old }
+        requires book { IsOfBook self.now caller.old }
         requires turn { 0 < caller.old.turns }
         requires width { length into.old ≡ width_of self.now.names }
         ensures turn { HasTurn caller.old caller.new }

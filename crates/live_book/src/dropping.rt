@@ -2,7 +2,7 @@ ghost use Rattle.std.specs.Prelude.{◌≡◌, ◌<◌, IfErr, IfOk};
 ghost use Rattle.live_journal.specs.declared.entry.Entry.TheVariants.{Dropped, Kept};
 ghost use Rattle.live_journal.specs.Faults.{IsDeedFault};
 ghost use Rattle.live_journal.specs.Replays.{dropped_by};
-ghost use Rattle.live_book.specs.Callers.{AddsEntry, AddsNothing, HasTurn, IsOf, all_but_last};
+ghost use Rattle.live_book.specs.Callers.{AddsEntry, AddsNothing, HasTurn, IsOfBook, all_but_last};
 
 use crate::callers::Caller;
 use crate::live_book::LiveBook;
@@ -13,7 +13,7 @@ use std::sync::Wait;
 impl LiveBook {
     /// Waits for a turn and drops a day with all its traces. It answers how many there were.
     pub fn drop_day<R: Wait>(&self, rt: &R, caller: &mut Caller, day: u32) -> Result<u32, DeedFault>
-        requires book { IsOf self.now caller.old }
+        requires book { IsOfBook self.now caller.old }
         requires turn { 0 < caller.old.turns }
         ensures turn { HasTurn caller.old caller.new }
         ensures added { IfOk result (λ _. AddsEntry (Dropped day) caller.old caller.new) }
@@ -44,7 +44,7 @@ impl LiveBook {
         caller: &mut Caller,
         days: u32,
     ) -> Result<u32, DeedFault>
-        requires book { IsOf self.now caller.old }
+        requires book { IsOfBook self.now caller.old }
         requires turn { 0 < caller.old.turns }
         ensures turn { HasTurn caller.old caller.new }
         ensures added { IfOk result (λ _. AddsEntry (Kept days) caller.old caller.new) }

@@ -1,5 +1,5 @@
 ghost use Rattle.std.specs.Prelude.{◌≡◌, ◌<◌, drop, IfOk};
-ghost use Rattle.live_book.specs.Callers.{AddsNothing, HasTurn, IsOf};
+ghost use Rattle.live_book.specs.Callers.{AddsNothing, HasTurn, IsOfBook};
 
 use crate::callers::Caller;
 use crate::live_book::LiveBook;
@@ -17,7 +17,7 @@ impl LiveBook {
         caller: &mut Caller,
         from: u32,
     ) -> Result<Vec<Entry>, AllocError>
-        requires book { IsOf self.now caller.old }
+        requires book { IsOfBook self.now caller.old }
         requires turn { 0 < caller.old.turns }
         ensures turn { HasTurn caller.old caller.new }
         ensures nothing { AddsNothing caller.old caller.new }

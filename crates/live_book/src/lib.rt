@@ -12,6 +12,14 @@
 //! book, in which each turn found what the turn before it left (specs/Histories.antt), and what the
 //! caller is told is the replay of its front.
 //!
+//! Example: a program records the traces of a day, while it rolls others:
+//!
+//! 1. `trace_pass::Recorder::open` with the book's number of names; `Recorder::offer` for each
+//!    trace of the day, by one recording or, after `split`, by one on each thread;
+//! 2. `Recorder::close`: the `DaySheet` of exactly these traces;
+//! 3. `LiveBook::roll` with the day and this sheet: the journal has one entry more, with these
+//!    traces, and `ask` gives the relations that all traces of the kept days leave.
+//!
 //! What a program has to know:
 //!
 //! - Dropping a caller does not return its turns: no other caller can make those calls.

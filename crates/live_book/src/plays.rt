@@ -2,8 +2,8 @@
 ghost use Rattle.std.specs.Prelude.{ℕ, List, []};
 ghost use Rattle.live_journal.specs.declared.entry.Entry.{Entry};
 ghost use Rattle.live_book.specs.Plays.{CommitPlay, PassPlay, SeePlay};
-ghost use Rattle.live_book.specs.Plays.{TellPlay, TicketPlay, WatchPlay};
-ghost use Rattle.live_book.specs.Views.{empty_view, joined_view, left_view, new_view};
+ghost use Rattle.live_book.specs.Plays.{TellTurnsPlay, TicketPlay, WatchPlay};
+ghost use Rattle.live_book.specs.Views.{empty_caller_view, joined_caller_view, left_caller_view, new_caller_view};
 
 use crate::rule::Knowledge;
 use atomic_table::{Join, Play, Split};
@@ -62,7 +62,7 @@ impl Play<Option<JournaledBook>, Knowledge> for Pass {
 pub struct Tell;
 
 impl Play<Option<JournaledBook>, Knowledge> for Tell {
-    ghost then = { TellPlay };
+    ghost then = { TellTurnsPlay };
 }
 
 /// How many turns are split off. Each call picks it.
@@ -80,16 +80,16 @@ pub struct SplitOff<N> {
 }
 
 impl<N: Counted> Split<Knowledge> for SplitOff<N> {
-    ghost left = { left_view N.count };
+    ghost left = { left_caller_view N.count };
 
-    ghost right = { new_view N.count };
+    ghost right = { new_caller_view N.count };
 }
 
 /// Two seats become one.
 pub struct JoinUp;
 
 impl Join<Knowledge> for JoinUp {
-    ghost both = { joined_view };
+    ghost both = { joined_caller_view };
 
-    ghost spent = { empty_view };
+    ghost spent = { empty_caller_view };
 }

@@ -3,7 +3,7 @@ ghost use Rattle.day_partitions.specs.Books.{IsSheetOf};
 ghost use Rattle.live_journal.specs.declared.entry.Entry.TheVariants.{Rolled};
 ghost use Rattle.live_journal.specs.Faults.{IsOneTooMany, IsRollFault};
 ghost use Rattle.live_journal.specs.Replays.{replay};
-ghost use Rattle.live_book.specs.Callers.{AddsEntry, AddsNothing, HasTurn, IsOf, all_but_last};
+ghost use Rattle.live_book.specs.Callers.{AddsEntry, AddsNothing, HasTurn, IsOfBook, all_but_last};
 
 use crate::callers::Caller;
 use crate::live_book::LiveBook;
@@ -22,7 +22,7 @@ impl LiveBook {
         day: u32,
         sheet: DaySheet,
     ) -> Result<u32, RollFault>
-        requires book { IsOf self.now caller.old }
+        requires book { IsOfBook self.now caller.old }
         requires turn { 0 < caller.old.turns }
         requires sheet { IsSheetOf self.now.names day sheet }
         requires most { length sheet.traces ≤ 429496 }

@@ -68,10 +68,10 @@ pub struct Knowledge {
 pub struct OneJournal;
 
 impl TableRule<Option<JournaledBook>, Knowledge, Plan> for OneJournal {
-    ghost use Rattle.live_book.specs.Rule.{IsLive};
-    ghost use Rattle.live_book.specs.Views.{first_view};
+    ghost use Rattle.live_book.specs.Rule.{IsLiveBook};
+    ghost use Rattle.live_book.specs.Views.{first_caller_view};
 
-    ghost holds = { IsLive };
+    ghost holds = { IsLiveBook };
 
-    ghost first = { first_view };
+    ghost first = { first_caller_view };
 }

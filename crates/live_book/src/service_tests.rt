@@ -3,9 +3,9 @@
 //! for each trace.
 ghost use Rattle.std.specs.Prelude.{◌≡◌};
 ghost use Rattle.std.specs.Thread.{IsSync};
-ghost use Rattle.live_book.specs.Callers.{IsOf};
+ghost use Rattle.live_book.specs.Callers.{IsOfBook};
 
-use crate::tests::{FULL, TOUCHED, ask, drop_day, keep, read, roll, row_of};
+use crate::tests::{FULL, TOUCHED, ask, ask_full, drop_day, keep, read, roll, row_of};
 use crate::{Caller, Entry, LiveBook};
 use std::alloc::Global;
 use std::sync::Wait;
@@ -21,8 +21,8 @@ fn record<R: Wait>(
     first: u32,
 ) -> (Caller, u32)
     requires names { book.now.names ≡ 2 }
-    requires of { IsOf book.now caller }
-    ensures { IsOf book.now result.0 }
+    requires of { IsOfBook book.now caller }
+    ensures { IsOfBook book.now result.0 }
 {
     let mut rolled = 0u32;
     'days: for place in 0..4u32 {
@@ -46,8 +46,8 @@ struct Watched {
 /// Asks and then drops a day, for each of eight days in order.
 fn watch<R: Wait>(rt: &R, alloc: Global, book: &LiveBook, mut caller: Caller) -> (Caller, Watched)
     requires names { book.now.names ≡ 2 }
-    requires of { IsOf book.now caller }
-    ensures { IsOf book.now result.0 }
+    requires of { IsOfBook book.now caller }
+    ensures { IsOfBook book.now result.0 }
 {
     let mut watched = Watched {
         dropped: 0,
@@ -75,19 +75,19 @@ fn record_beside<R: Threads + Wait + Sync>(
     odd: Caller,
 ) -> (Caller, u32)
     requires names { book.now.names ≡ 2 }
-    requires even { IsOf book.now even }
-    requires odd { IsOf book.now odd }
-    ensures { IsOf book.now result.0 }
+    requires even { IsOfBook book.now even }
+    requires odd { IsOfBook book.now odd }
+    ensures { IsOfBook book.now result.0 }
 {
     let ((mut even, first), (odd, second)) = thread::join(
         rt,
         move || -> (Caller, u32)
-            requires { IsSync R.row × IsOf book.now even × (book.now.names ≡ 2) }
-            ensures { IsOf book.entry.now result.0 }
+            requires { IsSync R.row × IsOfBook book.now even × (book.now.names ≡ 2) }
+            ensures { IsOfBook book.entry.now result.0 }
         { record(rt, alloc, book, even, 0) },
         move || -> (Caller, u32)
-            requires { IsSync R.row × IsOf book.now odd × (book.now.names ≡ 2) }
-            ensures { IsOf book.entry.now result.0 }
+            requires { IsSync R.row × IsOfBook book.now odd × (book.now.names ≡ 2) }
+            ensures { IsOfBook book.entry.now result.0 }
         { record(rt, alloc, book, odd, 1) },
     );
     book.join(&mut even, odd);
@@ -105,21 +105,21 @@ fn serve<R: Threads + Wait + Sync>(
     watcher: Caller,
 ) -> (Caller, u32, Watched)
     requires names { book.now.names ≡ 2 }
-    requires even { IsOf book.now even }
-    requires odd { IsOf book.now odd }
-    requires watcher { IsOf book.now watcher }
-    ensures { IsOf book.now result.0 }
+    requires even { IsOfBook book.now even }
+    requires odd { IsOfBook book.now odd }
+    requires watcher { IsOfBook book.now watcher }
+    ensures { IsOfBook book.now result.0 }
 {
     let ((mut caller, rolled), (watcher, watched)) = thread::join(
         rt,
         move || -> (Caller, u32)
-            requires { IsSync R.row × IsOf book.now even × IsOf book.now odd
+            requires { IsSync R.row × IsOfBook book.now even × IsOfBook book.now odd
                 × (book.now.names ≡ 2) }
-            ensures { IsOf book.entry.now result.0 }
+            ensures { IsOfBook book.entry.now result.0 }
         { record_beside(rt, alloc, book, even, odd) },
         move || -> (Caller, Watched)
-            requires { IsSync R.row × IsOf book.now watcher × (book.now.names ≡ 2) }
-            ensures { IsOf book.entry.now result.0 }
+            requires { IsSync R.row × IsOfBook book.now watcher × (book.now.names ≡ 2) }
+            ensures { IsOfBook book.entry.now result.0 }
         { watch(rt, alloc, book, watcher) },
     );
     book.join(&mut caller, watcher);
@@ -141,6 +141,32 @@ fn days_rise(entries: &[Entry], kind: char, remainder: u32) -> bool {
     true
 }
 
+/// How many entries are of this kind.
+fn count_kind(entries: &[Entry], kind: char) -> usize {
+    entries
+        .iter()
+        .filter(|entry| row_of(entry).0 == kind)
+        .count()
+}
+
+/// Reads the journal, and tells whether it has eight rolls and eight drops, whose days rise in each
+/// thread, and one keep.
+fn accounts<R: Wait>(rt: &R, book: &LiveBook, caller: &mut Caller) -> Option<bool>
+    requires of { IsOfBook book.now caller.old }
+    ensures of { IsOfBook book.now caller.new }
+{
+    let list = read(rt, book, caller, 0)?;
+    let entries = list.as_slice();
+    let kinds = (
+        count_kind(entries, 'r'),
+        count_kind(entries, 'd'),
+        count_kind(entries, 'k'),
+    );
+    let rolls = days_rise(entries, 'r', 0) && days_rise(entries, 'r', 1);
+    let drops = days_rise(entries, 'd', 0) && days_rise(entries, 'd', 1);
+    Some(kinds == (8, 8, 1) && rolls && drops)
+}
+
 #[test]
 fn a_service_accounts_for_each_trace(rt: HostRuntime) -> Result<(), Fail> {
     let alloc = rt.alloc();
@@ -156,19 +182,8 @@ fn a_service_accounts_for_each_trace(rt: HostRuntime) -> Result<(), Fail> {
         .expect(&rt, "left");
     assert!(rt; watched.sound);
     assert_eq!(rt; (rolled, watched.dropped.wrapping_add(left)), (8, 8));
-    let words = ask(&rt, alloc, &book, &mut caller).expect(&rt, "words");
-    assert!(rt; words.iter().all(|word| *word == FULL));
-    let entries = read(&rt, &book, &mut caller, 0).expect(&rt, "entries");
-    let kinds = |kind: char| -> usize {
-        entries
-            .iter()
-            .filter(|entry| row_of(entry).0 == kind)
-            .count()
-    };
-    assert_eq!(rt; (kinds('r'), kinds('d'), kinds('k')), (8, 8, 1));
-    let entries = entries.as_slice();
-    assert!(rt; days_rise(entries, 'r', 0) && days_rise(entries, 'r', 1));
-    assert!(rt; days_rise(entries, 'd', 0) && days_rise(entries, 'd', 1));
+    assert_eq!(rt; ask_full(&rt, alloc, &book, &mut caller), Some(127));
+    assert_eq!(rt; accounts(&rt, &book, &mut caller), Some(true));
     assert_eq!(rt; caller.turns(), 0);
     Ok(())
 }

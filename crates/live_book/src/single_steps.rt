@@ -4,7 +4,7 @@ ghost use mathlib.Core.List.{IsPrefix};
 ghost use Rattle.live_book.specs.declared.rule.Stage.TheVariants.{Resting, Waiting, InTurn};
 ghost use Rattle.live_book.specs.Histories.{AreOfOneHistory};
 ghost use Rattle.live_book.specs.Plays.{TakesBook, Tells};
-ghost use Rattle.live_book.specs.Views.{committed_view, joined_view, left_view, new_view};
+ghost use Rattle.live_book.specs.Views.{committed_view, joined_caller_view, left_caller_view, new_caller_view};
 ghost use Rattle.live_book.specs.Views.{passed_view, seeing_view, waiting_view};
 ghost use Rattle.live_book.specs.Views.{found_in, ticket_in};
 ghost use Rattle.live_book.specs.inner.Seats.{IsSeated, IsSeeing, HasHeard};
@@ -90,9 +90,9 @@ pub(crate) fn split_turns<N: Counted>(
     requires count { (N.count ≡ count) × (count ≤ seat.old.me.0.turns) }
     requires rests { seat.old.me.0.stage ≡ Resting }
     ensures old { (seat.new.table_id ≡ seat.old.table_id)
-        × (seat.new.me ≡ (left_view count seat.old.me.0, seat.old.me.1)) }
+        × (seat.new.me ≡ (left_caller_view count seat.old.me.0, seat.old.me.1)) }
     ensures new { (result.table_id ≡ seat.old.table_id)
-        × (result.me ≡ (new_view count seat.old.me.0, [])) }
+        × (result.me ≡ (new_caller_view count seat.old.me.0, [])) }
 {
     shared.split_seat::<SplitOff<N>>(seat)
 }
@@ -104,7 +104,7 @@ pub(crate) fn join_seats(shared: &SharedBook, seat: &mut BookSeat, other: BookSe
     requires same_table { other.table_id ≡ shared.now.table_id }
     requires other { (other.me.0.stage ≡ Resting) × (other.me.1 ≡ []) }
     ensures table { seat.new.table_id ≡ seat.old.table_id }
-    ensures seat { seat.new.me ≡ (joined_view seat.old.me.0 other.me.0, seat.old.me.1) }
+    ensures seat { seat.new.me ≡ (joined_caller_view seat.old.me.0 other.me.0, seat.old.me.1) }
 {
     shared.join_seat::<JoinUp>(seat, other);
 }

@@ -1,19 +1,18 @@
 ghost use Rattle.std.specs.Prelude.{◌≡◌, ◌≤◌};
 ghost use Rattle.std.specs.Thread.{IsSync};
-ghost use Rattle.live_book.specs.Callers.{IsOf};
+ghost use Rattle.live_book.specs.Callers.{IsOfBook};
 
-use crate::tests::{FULL, SWAPPED, TOUCHED, ask, drop_day, keep, read, roll, row_of, sheet_of};
+use crate::tests::{
+    BOTH, FULL, SWAPPED, TOUCHED, ask, drop_day, keep, read, read_two, roll, sheet_of,
+};
 use crate::{Caller, Entry, LiveBook};
 use live_journal::JournaledBook;
-use std::alloc::Global;
+use std::alloc::{AllocError, Global};
 use std::sync::Wait;
 use std::sync::atomic::{AtomicU64, Ordering};
 use std::test::Fail;
 use std::thread::{self, Threads};
 use trace_types::NamedTrace;
-
-/// The last word of two names when a touching and a swapped trace are kept.
-const BOTH: u64 = 0xffff_ffff_ffff_fff4;
 
 /// Says that one thread is here, and waits for the other for so many turns. Answers whether the
 /// other came.
@@ -40,8 +39,8 @@ fn roll_meet_and_ask<R: Wait>(
     other: &AtomicU64,
 ) -> (Caller, u64)
     requires names { book.now.names ≡ 2 }
-    requires of { IsOf book.now caller }
-    ensures { IsOf book.now result.0 }
+    requires of { IsOfBook book.now caller }
+    ensures { IsOfBook book.now result.0 }
 {
     let Some(Ok(_)) = roll(rt, alloc, book, &mut caller, day, day == 0) else {
         return (caller, 0);
@@ -66,21 +65,19 @@ fn two_threads_see_what_both_rolled(rt: HostRuntime) -> Result<(), Fail> {
     let ((mut first, left), (second, right)) = thread::join(
         &rt,
         || -> (Caller, u64)
-            requires { IsOf shared.now first × (shared.now.names ≡ 2) }
-            ensures { IsOf shared.entry.now result.0 }
+            requires { IsOfBook shared.now first × (shared.now.names ≡ 2) }
+            ensures { IsOfBook shared.entry.now result.0 }
         { roll_meet_and_ask(runtime, alloc, shared, first, 0, here, there) },
         || -> (Caller, u64)
-            requires { IsOf shared.now second × (shared.now.names ≡ 2) }
-            ensures { IsOf shared.entry.now result.0 }
+            requires { IsOfBook shared.now second × (shared.now.names ≡ 2) }
+            ensures { IsOfBook shared.entry.now result.0 }
         { roll_meet_and_ask(runtime, alloc, shared, second, 1, there, here) },
     );
     assert_eq!(rt; (left, right), (BOTH, BOTH));
     book.join(&mut first, second);
-    let entries = read(&rt, &book, &mut first, 0).expect(&rt, "entries");
-    assert_eq!(rt; entries.len(), 2);
-    let (one, other) = (row_of(&entries[0]), row_of(&entries[1]));
-    assert!(rt; (one.1 == 0 && other.1 == 1) || (one.1 == 1 && other.1 == 0));
-    assert_eq!(rt; ((one.0, one.2), (other.0, other.2)), (('r', 1), ('r', 1)));
+    let rows = read_two(&rt, &book, &mut first, 0);
+    let both = (('r', 0, 1), ('r', 1, 1));
+    assert!(rt; rows == Some(both) || rows == Some((both.1, both.0)));
     assert_eq!(rt; first.turns(), 0);
     Ok(())
 }
@@ -89,8 +86,8 @@ fn two_threads_see_what_both_rolled(rt: HostRuntime) -> Result<(), Fail> {
 /// or asks.
 fn work<R: Wait>(rt: &R, alloc: Global, book: &LiveBook, mut caller: Caller, seed: u32) -> Caller
     requires names { book.now.names ≡ 2 }
-    requires of { IsOf book.now caller }
-    ensures { IsOf book.now result }
+    requires of { IsOfBook book.now caller }
+    ensures { IsOfBook book.now result }
 {
     let mut seed = seed;
     'calls: for _ in 0..100u32 {
@@ -120,8 +117,8 @@ fn work_beside<R: Threads + Wait + Sync>(
     seed: u32,
 ) -> Caller
     requires names { book.now.names ≡ 2 }
-    requires of { IsOf book.now caller }
-    ensures { IsOf book.now result }
+    requires of { IsOfBook book.now caller }
+    ensures { IsOfBook book.now result }
 {
     if power == 0 {
         return work(rt, alloc, book, caller, seed);
@@ -133,12 +130,12 @@ fn work_beside<R: Threads + Wait + Sync>(
     let (mut caller, other) = thread::join(
         rt,
         move || -> Caller
-            requires { IsSync R.row × IsOf book.now caller × (book.now.names ≡ 2) }
-            ensures { IsOf book.entry.now result }
+            requires { IsSync R.row × IsOfBook book.now caller × (book.now.names ≡ 2) }
+            ensures { IsOfBook book.entry.now result }
         { work_beside(rt, alloc, book, caller, less, left) },
         move || -> Caller
-            requires { IsSync R.row × IsOf book.now other × (book.now.names ≡ 2) }
-            ensures { IsOf book.entry.now result }
+            requires { IsSync R.row × IsOfBook book.now other × (book.now.names ≡ 2) }
+            ensures { IsOfBook book.entry.now result }
         { work_beside(rt, alloc, book, other, less, right) },
     );
     book.join(&mut caller, other);
@@ -244,6 +241,32 @@ fn plain_word(counts: &Counts) -> u64 {
     }
 }
 
+/// Does what the entries say to a fresh book and to plain counts. Answers whether all agree with
+/// each other and with these words.
+fn redo_all(alloc: Global, entries: &[Entry], words: &[u64]) -> Result<bool, AllocError> {
+    let mut fresh = JournaledBook::new(alloc, 2)?;
+    let mut counts = [(0u64, 0u64); 6];
+    'entries: for entry in entries {
+        if !redo(alloc, &mut fresh, &mut counts, entry) {
+            return Ok(false);
+        }
+    }
+    Ok(words.get(126).copied() == Some(plain_word(&counts)) && fresh.words() == words)
+}
+
+/// Asks and reads, and tells whether the words are those of the journal, which has over 400
+/// entries.
+fn agrees<R: Wait>(rt: &R, alloc: Global, book: &LiveBook, caller: &mut Caller) -> Option<bool>
+    requires names { book.now.names ≡ 2 }
+    requires of { IsOfBook book.now caller.old }
+    ensures of { IsOfBook book.now caller.new }
+{
+    let words = ask(rt, alloc, book, caller)?;
+    let entries = read(rt, book, caller, 0)?;
+    let same = redo_all(alloc, entries.as_slice(), words.as_slice()).ok()?;
+    Some(same && entries.len() > 400)
+}
+
 #[test]
 fn eight_threads_leave_one_journal(rt: HostRuntime) -> Result<(), Fail> {
     let alloc = rt.alloc();
@@ -252,15 +275,6 @@ fn eight_threads_leave_one_journal(rt: HostRuntime) -> Result<(), Fail> {
     let mut caller = work_beside(&rt, alloc, &book, caller, 3, 1);
     assert_eq!(rt; caller.turns(), 0);
     book.join(&mut caller, last);
-    let words = ask(&rt, alloc, &book, &mut caller).expect(&rt, "words");
-    let entries = read(&rt, &book, &mut caller, 0).expect(&rt, "entries");
-    let mut fresh = JournaledBook::new(alloc, 2)?;
-    let mut counts = [(0u64, 0u64); 6];
-    'entries: for entry in &entries {
-        assert!(rt; redo(alloc, &mut fresh, &mut counts, entry));
-    }
-    assert!(rt; entries.len() > 400);
-    assert_eq!(rt; words.get(126).copied(), Some(plain_word(&counts)));
-    assert!(rt; fresh.words() == words.as_slice());
+    assert_eq!(rt; agrees(&rt, alloc, &book, &mut caller), Some(true));
     Ok(())
 }

@@ -7,7 +7,7 @@ use Rattle.std.proofs.lemmas.List.Elements.{All-append}
 use Rattle.std.proofs.lemmas.List.Filters.{sum_by-filter_both}
 use Rattle.std.proofs.lemmas.List.Sums.{sum_by-take-drop}
 use Rattle.trace_types.specs.declared.named_trace.NamedTrace.{NamedTrace}
-use Rattle.day_partitions.specs.Books.{KeptDay, all_traces, kept_day, with_traces, without_day, newest}
+use Rattle.day_partitions.specs.Books.{KeptDay, all_traces, kept_day, with_day_traces, days_without, newest_days}
 use Rattle.day_partitions.specs.Kept.{DayCommand, AddsSome, AreKept, CallsKeep, NothingIsKept, days_after}
 use Rattle.live_journal.specs.declared.entry.Entry.{Entry}
 use Rattle.live_journal.specs.declared.entry.Entry.TheVariants.{Rolled, Dropped, Kept}
@@ -38,23 +38,23 @@ traces_in k = length k.traces
 pub traces_sum : (ks : List KeptDay) → length (all_traces ks) ≡ sum_by traces_in ks
 traces_sum ks = length-flat_map (λ (k : KeptDay). k.traces) ks
 
-with_count : (day : ℕ) (ts : List NamedTrace) (ks : List KeptDay) → length (all_traces (with_traces day ts ks)) ≡ length (all_traces ks) + length ts
+with_count : (day : ℕ) (ts : List NamedTrace) (ks : List KeptDay) → length (all_traces (with_day_traces day ts ks)) ≡ length (all_traces ks) + length ts
 with_count day ts [] = omega (arith, length-append ts [])
 with_count day ts (k ∷ ks) =
     let P : List KeptDay → Type 0 = λ l. length (all_traces l) ≡ length (all_traces (k ∷ ks)) + length ts in
-    cond_both (nat_lt k.day day) (k ∷ with_traces day ts ks) (if k.day == day then kept_day day (k.traces ++ ts) ∷ ks else kept_day day ts ∷ k ∷ ks) P
-    (λ _. let h = with_count day ts ks in omega (arith, length-append k.traces (all_traces (with_traces day ts ks)), length-append k.traces (all_traces ks)))
+    cond_both (nat_lt k.day day) (k ∷ with_day_traces day ts ks) (if k.day == day then kept_day day (k.traces ++ ts) ∷ ks else kept_day day ts ∷ k ∷ ks) P
+    (λ _. let h = with_count day ts ks in omega (arith, length-append k.traces (all_traces (with_day_traces day ts ks)), length-append k.traces (all_traces ks)))
     (λ _. cond_both (k.day == day) (kept_day day (k.traces ++ ts) ∷ ks) (kept_day day ts ∷ k ∷ ks) P
     (λ _. omega (arith, length-append (k.traces ++ ts) (all_traces ks), length-append k.traces ts, length-append k.traces (all_traces ks)))
     (λ _. omega (arith, length-append ts (k.traces ++ all_traces ks), length-append k.traces (all_traces ks))))
 
-without_count : (day : ℕ) (ks : List KeptDay) → length (all_traces (without_day day ks)) ≤ length (all_traces ks)
+without_count : (day : ℕ) (ks : List KeptDay) → length (all_traces (days_without day ks)) ≤ length (all_traces ks)
 without_count day ks =
     let both = sum_by-filter_both (λ (k : KeptDay). not (k.day == day)) (λ (k : KeptDay). not (not (k.day == day))) (λ _. refl) traces_in ks in
-    omega (arith, traces_sum (without_day day ks), traces_sum ks, both)
+    omega (arith, traces_sum (days_without day ks), traces_sum ks, both)
 
-newest_count : (n : ℕ) (ks : List KeptDay) → length (all_traces (newest n ks)) ≤ length (all_traces ks)
-newest_count n ks = omega (arith, traces_sum (newest n ks), traces_sum ks, sum_by-take-drop traces_in ks (length ks - n))
+newest_count : (n : ℕ) (ks : List KeptDay) → length (all_traces (newest_days n ks)) ≤ length (all_traces ks)
+newest_count n ks = omega (arith, traces_sum (newest_days n ks), traces_sum ks, sum_by-take-drop traces_in ks (length ks - n))
 
 after_count : (ks : List KeptDay) (e : Entry) → HasTraceCount e → length (all_traces (days_after ks (command_of e))) ≤ length (all_traces ks) + 429496
 after_count ks (Rolled day ts) h = omega (arith, with_count day ts ks)

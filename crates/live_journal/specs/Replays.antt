@@ -1,6 +1,6 @@
 -- What a journal makes of a book of days.
 use Rattle.std.specs.Prelude.{ℕ, ◌-◌, ◌<◌, ◌≤◌, List, [], ◌∷◌, ◌++◌, length, All}
-use Rattle.day_partitions.specs.Books.{KeptDay, all_traces, traces_of}
+use Rattle.day_partitions.specs.Books.{KeptDay, all_traces, traces_kept_on}
 use Rattle.day_partitions.specs.Kept.{DayCommand, Add, Drop, Keep, AreKept, days_after}
 use Rattle.live_journal.specs.declared.entry.Entry.{Entry}
 use Rattle.live_journal.specs.declared.entry.Entry.TheVariants.{Rolled, Dropped, Kept}
@@ -24,7 +24,7 @@ replay entries = days_from [] entries
 -- how many traces an entry drops that comes after these
 abbrev pub dropped_by : List Entry → Entry → ℕ
 dropped_by before (Rolled day traces) = 0
-dropped_by before (Dropped day) = length (traces_of (replay before) day)
+dropped_by before (Dropped day) = length (traces_kept_on (replay before) day)
 dropped_by before (Kept days) =
     length (all_traces (replay before)) - length (all_traces (replay (before ++ Kept days ∷ [])))
 

@@ -9,7 +9,7 @@ use Rattle.std.proofs.lemmas.List.Elements.{All-contains}
 use Rattle.std.proofs.lemmas.Option.{get_or_from_slice_get, slice_get_within}
 use Rattle.trace_types.specs.declared.named_segment.NamedSegment.{NamedSegment}
 use Rattle.trace_types.specs.declared.named_trace.NamedTrace.{NamedTrace}
-use Rattle.trace_types.specs.Listing.{CountsDistinct}
+use Rattle.trace_types.specs.Listing.{AreExactly, CountsDistinct}
 use Rattle.trace_types.specs.Parts.{by_number}
 use Rattle.trace_types.specs.Pipelines.{HandlesAt, RefutesUnshared}
 use Rattle.trace_types.specs.Refuting.{RefutesApart}
@@ -17,7 +17,7 @@ use Rattle.trace_types.specs.Relations.{ExcludesUnordered, HappensBefore}
 use Rattle.trace_types.specs.Surviving.{IsRefuted}
 use Rattle.refute_tests.specs.Clearing.{HaveNamesBelow}
 use Rattle.model_meet.specs.CountLaws.{CountsAreOne, HaveTasksBelow, NoLineIsLeftOut, NumbersAreOrdered}
-use Rattle.model_meet.specs.Counting.{AreExactly, CountsPairs}
+use Rattle.model_meet.specs.Counting.{CountsPairs}
 use Rattle.model_meet.specs.Pipes.{IsPipeline}
 use Rattle.model_meet.specs.declared.counts.Counts.{Counts}
 use Rattle.model_meet.proofs.CountingLemmas.{exactly_alike}
@@ -42,11 +42,11 @@ numbers_are_ordered limit = record {
 exactly_one : {X : Type 0} (P : X → Type 0) (m n : ℕ) → ((i j : ℕ) (xs : List X) → CountsDistinct i xs → CountsDistinct j xs → i ≡ j) → AreExactly P m → AreExactly P n → m ≡ n
 exactly_one P m n one a b =
     one m n a.all
-    (record { once = a.all; differ = a.differ; same = λ x. ((λ c. c), (λ c. c)); count = a.count })
+    (record { all = a.all; differ = a.differ; exactly = λ x. ((λ c. c), (λ c. c)); count = a.count })
     (record {
-      once = b.all;
+      all = b.all;
       differ = b.differ;
-      same = λ x. ((λ c. (a.exactly x).1 ((b.exactly x).0 c)), (λ c. (b.exactly x).1 ((a.exactly x).0 c)));
+      exactly = λ x. ((λ c. (a.exactly x).1 ((b.exactly x).0 c)), (λ c. (b.exactly x).1 ((a.exactly x).0 c)));
       count = b.count;
     })
 

@@ -5,7 +5,8 @@ use Rattle.std.specs.List.{Contains}
 use Rattle.std.proofs.lemmas.Bool.{cases_eq, false≢true}
 use Rattle.std.proofs.lemmas.List.{length-append}
 use Rattle.std.proofs.lemmas.List.Elements.{Contains-append_left, Contains-append_right, Contains-append_cases}
-use Rattle.model_meet.specs.Counting.{AreExactly, CountsPairs}
+use Rattle.model_meet.specs.Counting.{CountsPairs}
+use Rattle.trace_types.specs.Listing.{AreExactly}
 use Rattle.model_meet.specs.inner.Beside.{IsBeside, CountsBeside}
 use Rattle.model_meet.proofs.JoinLemmas.{AllPairs-append, AllPairs-nil, Contains-itself, Contains-nil, Contains-one}
 

@@ -1,13 +1,19 @@
 -- What the bit of a relation tells.
-use Rattle.std.proofs.Common.{◌≡◌, ℕ, ◌<◌, ◌≤◌, ◌↔◌, min, max, nat_eq, List, length, get_or, IsTrue, refl, sym, ◌∙◌, subst, ⊎_elim, arith}
+use Rattle.std.proofs.Common.{◌≡◌, ◌≢◌, ℕ, ◌<◌, ◌≤◌, ◌↔◌, min, max, nat_eq, List, length, get_or, IsTrue, refl, sym, ◌∙◌, subst, ⊎_elim, arith}
 use Rattle.std.proofs.lemmas.Bool.{cases_lt, eq-eqb, eqb-true}
 use Rattle.std.proofs.lemmas.List.{get_or_default}
 use Rattle.std.proofs.lemmas.List.Elements.{All-contains}
 use Rattle.std.proofs.lemmas.Nat.Bits.{bit_at-lt}
 use Rattle.hypothesis_index.specs.declared.relation.Relation.{Relation}
+use Rattle.hypothesis_index.specs.declared.relation.Relation.TheVariants.{Exclusive}
 use Rattle.hypothesis_index.specs.Places.{IsRelation, NamesBelow, place_of, width_of}
 use Rattle.hypothesis_index.specs.Refuting.{Refutes}
+use Rattle.trace_types.specs.Parts.{by_number}
+use Rattle.trace_types.specs.Refuting.{RefutesExclusive}
 use Rattle.trace_types.specs.Surviving.{Survives, IsRefuted}
+use Rattle.trace_types.specs.declared.named_trace.NamedTrace.{NamedTrace}
+use Rattle.model_meet.specs.ExclusionTables.{TellsExclusions}
+use Rattle.model_meet.specs.ModelStates.{ModelState}
 use Rattle.model_meet.specs.RelationBits.{relation_bit}
 use Rattle.model_meet.specs.Telling.{WordsTell}
 
@@ -73,3 +79,11 @@ module _ {A : Type 0} (R : ℕ → ℕ → A → Type 0) (symmetric : (a b : ℕ
 
   pub refuted_unordered : (low high a b : ℕ) → low ≡ min a b → high ≡ max a b → (traces : List A) → IsRefuted (R low high) traces ↔ IsRefuted (R a b) traces
   refuted_unordered low high a b e f traces = refuted_alike (R low high) (R a b) (unordered low high a b e f) traces
+
+-- the bits of mutual exclusions tell which of them survive
+pub exclusions_told : (model : ModelState) → WordsTell → model.names ≤ 512 → length model.words ≡ width_of model.names → ((a b : ℕ) (t : NamedTrace) → RefutesExclusive by_number a b t ↔ RefutesExclusive by_number b a t) → TellsExclusions model
+exclusions_told model tell few wide symmetric traces s a b differ first second =
+    let rises : min a b < max a b = omega (arith, differ) in
+    let below : max a b < model.names = omega arith in
+    let told = tell traces model.words model.names few wide s (Exclusive (min a b) (max a b)) (rises, omega arith) below in
+    iff_then told.survives (survive_unordered (RefutesExclusive by_number) symmetric (min a b) (max a b) a b refl refl traces)

@@ -1,14 +1,8 @@
--- How many things have a property.
-use Rattle.std.specs.Prelude.{◌≡◌, ◌≢◌, ◌⊎◌, ◌↔◌, ℕ, ◌<◌, List, length, Contains, AllPairs}
+-- How many pairs of numbers are in a relation.
+use Rattle.std.specs.Prelude.{◌≡◌, ◌≢◌, ◌⊎◌, ℕ, ◌<◌}
 use Rattle.std.specs.declared.cmp.Ordering.{Ordering}
 use Rattle.std.specs.declared.cmp.Ordering.TheVariants.{Less}
-
--- exactly n have the property P: some list has just these, each once, and its length is n
-pub record AreExactly {X : Type 0} (P : X → Type 0) (n : ℕ) : Type 0 where
-  pub all : List X
-  pub differ : AllPairs (λ x y. x ≢ y) all
-  pub exactly : (x : X) → Contains all x ↔ P x
-  pub count : length all ≡ n
+use Rattle.trace_types.specs.Listing.{AreExactly}
 
 -- exactly n ordered pairs of numbers below the limit are in the relation
 abbrev pub CountsPairs : ℕ → (ℕ → ℕ → Type 0) → ℕ → Type 0

@@ -14,6 +14,10 @@ relation_bit words r = bit_of words (place_of r).word (place_of r).bit
 abbrev pub bit_between : List ℕ → (ℕ → ℕ → Relation) → ℕ → ℕ → ℕ
 bit_between words R a b = relation_bit words (R (min a b) (max a b))
 
+-- the bit of the mutual exclusion of two names is 1
+abbrev pub KeepsExclusion : List ℕ → ℕ → ℕ → Type 0
+KeepsExclusion words a b = bit_between words Exclusive a b ≡ 1
+
 -- of two names, apart is refuted, and A before B survives
 pub record HasOrder (words : List ℕ) (a b : ℕ) : Type 0 where
   pub differ : a ≢ b

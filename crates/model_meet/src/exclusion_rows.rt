@@ -15,8 +15,8 @@ pub struct ExclusionRows<'a> {
 
 impl<'a> ExclusionRows<'a> {
     ghost use Rattle.std.specs.Prelude.{◌≡◌, ◌≢◌, ◌<◌, ◌↔◌, List, IsTrue};
-    ghost use Rattle.hypothesis_index.specs.declared.relation.Relation.TheVariants.{Exclusive};
-    ghost use Rattle.model_meet.specs.RelationBits.{bit_between};
+    ghost use Rattle.model_meet.specs.ExclusionTables.{TellsExclusions};
+    ghost use Rattle.model_meet.specs.RelationBits.{KeepsExclusion};
     ghost use Rattle.refute_tests.specs.Survivors.{AreSurvivors};
     ghost use Rattle.trace_types.specs.Parts.{by_number};
     ghost use Rattle.trace_types.specs.Refuting.{RefutesExclusive};
@@ -28,11 +28,17 @@ impl<'a> ExclusionRows<'a> {
         requires differ { a ≢ b }
         requires first { a < self.names }
         requires second { b < self.names }
-        ensures bit { IsTrue result ↔ (bit_between self.entry.words.now Exclusive a b ≡ 1) }
+        ensures bit { IsTrue result ↔ KeepsExclusion self.entry.words.now a b }
         ensures told { (traces : List NamedTrace) → AreSurvivors traces self.entry.words.now
             → IsTrue result ↔ Survives (RefutesExclusive by_number a b) traces }
     {
         let row = a as usize * self.names as usize;
         self.table[row + b as usize]
     }
+
+    /// Does nothing: whichever traces the words tell of, the bits tell which mutual exclusions of
+    /// the model's names no trace refutes.
+    pub fn tells_exclusions(self)
+        ensures { TellsExclusions (record { words = self.entry.words.now; names = self.entry.names }) }
+    {}
 }

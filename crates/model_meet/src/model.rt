@@ -46,7 +46,8 @@ impl<'a> Model<'a> {
     ghost use Rattle.std.specs.declared.cmp.Ordering.TheVariants.{Less};
     ghost use Rattle.model_meet.specs.LineCounts.{AreCounts, AreCountsOfBits};
     ghost use Rattle.model_meet.specs.Pipes.{IsPipeline};
-    ghost use Rattle.model_meet.specs.RelationBits.{bit_between, relation_bit};
+    ghost use Rattle.model_meet.specs.ExclusionTables.{TellsExclusions};
+    ghost use Rattle.model_meet.specs.RelationBits.{KeepsExclusion, bit_between, relation_bit};
     ghost use Rattle.model_meet.specs.RelationBits.{HasExclusion, HasOrder, HasPipe};
     ghost use Rattle.model_meet.specs.Telling.{TellsOf};
     ghost use Rattle.refute_tests.specs.Survivors.{AreSurvivors};
@@ -154,13 +155,23 @@ impl<'a> Model<'a> {
         requires differ { a ≢ b }
         requires first { a < self.now.names }
         requires second { b < self.now.names }
-        ensures bit { IsTrue result ↔ (bit_between self.now.words Exclusive a b ≡ 1) }
+        ensures bit { IsTrue result ↔ KeepsExclusion self.now.words a b }
         ensures told { (traces : List NamedTrace) → AreSurvivors traces self.now.words
             → IsTrue result ↔ Survives (RefutesExclusive by_number a b) traces }
     {
         relations_are_symmetric::<NamedTrace, NamedSegment, u32, u32, u32>();
         let (low, high) = rising(a, b);
         self.exclusion_bit(low, high) == 1
+    }
+
+    /// Does nothing: whichever traces the words tell of, the bits tell which mutual exclusions of
+    /// the model's names no trace refutes. It takes no memory.
+    pub fn tells_exclusions(&self)
+        ensures { TellsExclusions self.now }
+    {
+        let _names = self.names;
+        words_tell();
+        relations_are_symmetric::<NamedTrace, NamedSegment, u32, u32, u32>();
     }
 
     /// Tells whether some trace has both names. It takes no memory.

@@ -10,7 +10,7 @@ use Rattle.std.proofs.lemmas.List.Elements.{Contains-get_or, Contains-append_lef
 use Rattle.std.proofs.lemmas.List.Quantifiers.{all_pairs_push}
 use Rattle.std.proofs.lemmas.List.Sorted.{Contains-permutation, IsPermutation-sym}
 use Rattle.std.proofs.lemmas.Option.{slice_get-get_or, slice_get_within, get_or_from_slice_get}
-use Rattle.model_rows.specs.inner.Listings.{AreListed, HoldsOfTexts, ListsMarked, StandsAt}
+use Rattle.model_rows.specs.inner.Listings.{AreItemsBelow, HoldsOfTexts, ListsMarked, HasNumber}
 use Rattle.model_rows.specs.inner.Marking.{IsMarked}
 use Rattle.model_rows.proofs.ElementLemmas.{Contains-nil, Contains-one, Contains-itself, Contains-map}
 use Rattle.model_rows.proofs.OrderLemmas.{less_differs, not_both_less, not_less_itself, rising_from_sort}
@@ -36,7 +36,7 @@ one_place texts differ a b x p q =
 
 -- the marked texts with numbers below n, none twice
 pub record Collects {X : Type 0} (texts : List X) (marks : List Bool) (n : ℕ) (items : List (X × ℕ)) : Type 0 where
-  pub exactly : (item : X × ℕ) → Contains items item ↔ ((item.1 < n) × StandsAt texts item × IsMarked marks item.1)
+  pub exactly : (item : X × ℕ) → Contains items item ↔ ((item.1 < n) × HasNumber texts item × IsMarked marks item.1)
   pub apart : AllPairs (λ (i j : X × ℕ). i.1 ≢ j.1) items
   pub few : length items ≤ n
 
@@ -68,7 +68,7 @@ module _ {X : Type 0} (texts : List X) (marks : List Bool) where
           (λ (d : Contains items item). let e = (h.exactly item).0 d in let lt : item.1 < n = e.0 in (omega arith, e.1, e.2))
           (λ (d : Contains ((text, n) ∷ []) item).
           let e : (text, n) ≡ item = Contains-one (text, n) item d in
-          subst (λ (i : X × ℕ). (i.1 < n + 1) × StandsAt texts i × IsMarked marks i.1) e (omega arith, at, on))
+          subst (λ (i : X × ℕ). (i.1 < n + 1) × HasNumber texts i × IsMarked marks i.1) e (omega arith, at, on))
           (Contains-append_cases items ((text, n) ∷ []) item c)),
       (λ e. ⊎_elim
           (λ (lt : item.1 < n). Contains-append_left items ((text, n) ∷ []) item ((h.exactly item).1 (lt, e.1, e.2)))
@@ -94,7 +94,7 @@ module _ {X : Type 0} (texts : List X) (marks : List Bool) where
   module _ (cmp : X → X → Ordering) (total : IsTotalOrder cmp) (exact : (x y : X) → cmp x y ≡ Equal → x ≡ y) (differ : AllPairs (λ (x y : X). x ≢ y) texts)
       (n : ℕ) (all : length texts ≤ n) (items sorted : List (X × ℕ)) (so_far : Collects texts marks n items)
       (moved : IsPermutation items sorted) (up : IsSorted (λ (i j : X × ℕ). cmp i.0 j.0) sorted) where
-    stands : (item : X × ℕ) → Contains sorted item → StandsAt texts item × IsMarked marks item.1
+    stands : (item : X × ℕ) → Contains sorted item → HasNumber texts item × IsMarked marks item.1
     stands item c = let e = (so_far.exactly item).0 (Contains-permutation sorted items item (IsPermutation-sym items sorted moved) c) in (e.1, e.2)
 
     pub collected : ListsMarked cmp texts marks sorted
@@ -115,7 +115,7 @@ module _ {X : Type 0} (texts : List X) (marks : List Bool) where
     }
 
 -- marked texts that are listed have different numbers, below what bounds those of all texts
-pub are_listed : {X : Type 0} (cmp : X → X → Ordering) → IsTotalOrder cmp → (texts : List X) (marks : List Bool) (limit : ℕ) → length texts ≤ limit → (items : List (X × ℕ)) → ListsMarked cmp texts marks items → AreListed cmp limit items
+pub are_listed : {X : Type 0} (cmp : X → X → Ordering) → IsTotalOrder cmp → (texts : List X) (marks : List Bool) (limit : ℕ) → length texts ≤ limit → (items : List (X × ℕ)) → ListsMarked cmp texts marks items → AreItemsBelow cmp limit items
 are_listed {X} cmp total texts marks limit few items h = record {
   rising = h.rising;
   apart = λ i j d lt inside e.
@@ -188,7 +188,7 @@ pub texts_long : {X : Type 0} (items : List (X × ℕ)) → length (texts_of ite
 texts_long {X} items = length-map items (λ (i : X × ℕ). i.0)
 
 -- what is told of two numbers, where their texts rise
-pub told_of_rising : {X : Type 0} (cmp : X → X → Ordering) → IsTotalOrder cmp → (limit : ℕ) (items : List (X × ℕ)) → AreListed cmp limit items → (R : ℕ → ℕ → Type 0) (p q : ℕ) (i j : X × ℕ)
+pub told_of_rising : {X : Type 0} (cmp : X → X → Ordering) → IsTotalOrder cmp → (limit : ℕ) (items : List (X × ℕ)) → AreItemsBelow cmp limit items → (R : ℕ → ℕ → Type 0) (p q : ℕ) (i j : X × ℕ)
     → p < length items → i ≡ get_or items p i → q < length items → j ≡ get_or items q j → (wanted : Bool) → (wanted ≡ true) ↔ ((nat_lt p q ≡ true) × (i.1 ≢ j.1) × R i.1 j.1)
     → (wanted ≡ true) ↔ ((cmp i.0 j.0 ≡ Less) × HoldsOfTexts items R i.0 j.0)
 told_of_rising {X} cmp total limit items listed R p q i j lp ep lq eq wanted told =

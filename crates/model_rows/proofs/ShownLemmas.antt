@@ -12,7 +12,7 @@ use Rattle.model_meet.specs.Pipes.{IsPipeline}
 use Rattle.segment_names.specs.Known.{Known}
 use Rattle.segment_names.specs.Limits.{IsKept}
 use Rattle.session_rules.specs.KeptTraces.{Kept, by_kept, day_of}
-use Rattle.session_rules.specs.ModelTexts.{AreFigures}
+use Rattle.session_rules.specs.ModelTexts.{AreModelFigures}
 use Rattle.trace_types.specs.declared.named_segment.NamedSegment.{NamedSegment}
 use Rattle.trace_types.specs.declared.named_trace.NamedTrace.{NamedTrace}
 use Rattle.trace_types.specs.declared.segment.Segment.{Segment}
@@ -43,7 +43,7 @@ a_trace (t ∷ ts) lt = (t, (0, omega arith, refl))
 
 pub days_counted : (b : BookState) → IsBook b → CountsDistinct (length b.days) (map (λ (t : NamedTrace). t.day) (all_traces b.days))
 days_counted b is = record {
-  once = map (λ (k : KeptDay). k.day) b.days;
+  all = map (λ (k : KeptDay). k.day) b.days;
   differ = λ i j d lt inside e.
       let day = λ (k : KeptDay). k.day in
       let none : KeptDay = record { day = d; traces = [] } in
@@ -53,7 +53,7 @@ days_counted b is = record {
       let below = is.rising i j none lt within in
       let same : (get_or b.days i none).day ≡ (get_or b.days j none).day = sym ei ∙ e ∙ ej in
       absurd (omega arith);
-  same = λ x. (
+  exactly = λ x. (
     (λ c. let r = from_map (λ (k : KeptDay). k.day) b.days x c in
         let some = All-contains HasTraces b.days r.0 is.some r.1 in
         let dated = All-contains (λ (k : KeptDay). AreOfDay k.day k.traces) b.days r.0 is.dated r.1 in
@@ -113,9 +113,9 @@ module _ {X : Type 0} (texts : List X) (number : NamedSegment → ℕ) (text : S
 
   texts_counted : (n : ℕ) → n ≡ length items → CountsDistinct n (map text others)
   texts_counted n e = record {
-    once = texts_of items;
+    all = texts_of items;
     differ = λ i j d lt inside same. less_differs cmp total (get_or (texts_of items) i d) (get_or (texts_of items) j d) (texts_rise cmp total items listed.rising i j d lt inside) same;
-    same = λ x. (
+    exactly = λ x. (
       (λ c. let r = from_map (λ (i : X × ℕ). i.0) items x c in subst (Contains (map text others)) r.2 (item_occurs r.0.0 r.0.1 r.1)),
       (λ c. let r = occurs_item x c in Contains-map (λ (i : X × ℕ). i.0) items (x, r.0) x r.1 refl),
     );
@@ -216,7 +216,7 @@ module _ (known : Known) (b : BookState) (m : FoundModel) (kept : List Kept) (is
       ))
       (λ v w h. shared_tasks kept v w h.shared) x y
 
-  pub found_shown : AreFigures kept (figures_in m) × (m.traces ≡ length kept)
+  pub found_shown : AreModelFigures kept (figures_in m) × (m.traces ≡ length kept)
   found_shown = (
     record {
       days = subst (λ (l : List ℕ). CountsDistinct m.days l) (map_zip (λ (t : NamedTrace). t.day) day_of (IsShown known) (λ t k s. s.day) (all_traces b.days) kept shown)

@@ -1,7 +1,7 @@
 ghost use Rattle.std.specs.Prelude.{◌≡◌, ◌≤◌, length, vec_len, IfOk};
 ghost use Rattle.std.specs.Cmp.Lexicographic.{slice_cmp};
 ghost use Rattle.std.specs.Ordering.{nat_cmp};
-ghost use Rattle.model_rows.specs.inner.Listings.{AreListed, ListsMarked};
+ghost use Rattle.model_rows.specs.inner.Listings.{AreItemsBelow, ListsMarked};
 ghost use Rattle.trace_types.specs.NameOrder.{name_cmp};
 
 use crate::listed::{Listed, list_where};
@@ -19,7 +19,7 @@ pub(crate) fn list_names<'a>(
     ensures marked { IfOk result (λ items.
         ListsMarked name_cmp catalogue.now.names marks.now items.items) }
     ensures listed { IfOk result (λ items.
-        AreListed name_cmp (length catalogue.now.names) items.items) }
+        AreItemsBelow name_cmp (length catalogue.now.names) items.items) }
     ensures few { IfOk result (λ items. vec_len items ≤ 512) }
 {
     let count = catalogue.names();
@@ -41,7 +41,7 @@ pub(crate) fn list_tasks<'a>(
     requires { length marks.now ≡ 64 }
     ensures marked { IfOk result (λ items.
         ListsMarked (slice_cmp nat_cmp) catalogue.now.tasks marks.now items.items) }
-    ensures listed { IfOk result (λ items. AreListed (slice_cmp nat_cmp) 64 items.items) }
+    ensures listed { IfOk result (λ items. AreItemsBelow (slice_cmp nat_cmp) 64 items.items) }
     ensures few { IfOk result (λ items. vec_len items ≤ 512) }
 {
     let count = catalogue.tasks();

@@ -1,7 +1,7 @@
 ghost use Rattle.std.specs.Prelude.{◌≡◌, ◌≢◌, ◌↔◌, ◌<◌, ◌++◌, ◌∷◌, [], ℕ, List, length, IsTrue, IfOk};
 ghost use Rattle.std.specs.Prelude.{OnOk, Some, slice_get, if◌then◌else◌};
 ghost use Rattle.model_rows.specs.inner.Growing.{AppendsExactly};
-ghost use Rattle.model_rows.specs.inner.Listings.{AreListed, IsExclusion, IsOrder, less_always};
+ghost use Rattle.model_rows.specs.inner.Listings.{AreItemsBelow, IsExclusion, IsOrder, less_always};
 ghost use Rattle.refute_tests.specs.Survivors.{AreSurvivors};
 ghost use Rattle.trace_types.specs.declared.named_trace.NamedTrace.{NamedTrace};
 ghost use Rattle.trace_types.specs.Listing.{ListsExactly};
@@ -79,7 +79,7 @@ fn add_row<'a>(
     at: usize,
     pairs: &mut NamePairs<'a>,
 ) -> Result<(), AllocError>
-    requires listed { AreListed name_cmp model.now.names names.now }
+    requires listed { AreItemsBelow name_cmp model.now.names names.now }
     requires within { at < length names.now }
     ensures before { OnOk result ((traces : List NamedTrace) (first : SegmentName × ℕ)
         → AreSurvivors traces model.now.words → slice_get names.now at ≡ Some first
@@ -112,7 +112,7 @@ pub(crate) fn name_pairs<'a>(
     model: &Model<'_>,
     names: &[Listed<'a, NameText>],
 ) -> Result<NamePairs<'a>, AllocError>
-    requires { AreListed name_cmp model.now.names names.now }
+    requires { AreItemsBelow name_cmp model.now.names names.now }
     ensures before { IfOk result (λ pairs. (traces : List NamedTrace)
         → AreSurvivors traces model.now.words → ListsExactly (pair_cmp name_cmp)
         (λ pair. IsOrder names.now traces pair.0 pair.1) pairs.before.items) }

@@ -4,7 +4,7 @@ ghost use Rattle.std.specs.Cmp.Lexicographic.{slice_cmp};
 ghost use Rattle.std.specs.Ordering.{nat_cmp};
 ghost use Rattle.model_meet.specs.Pipes.{IsPipeline};
 ghost use Rattle.model_rows.specs.inner.Growing.{AppendsExactly};
-ghost use Rattle.model_rows.specs.inner.Listings.{AreListed, IsPipe};
+ghost use Rattle.model_rows.specs.inner.Listings.{AreItemsBelow, IsPipe};
 ghost use Rattle.refute_tests.specs.Survivors.{AreSurvivors};
 ghost use Rattle.trace_types.specs.declared.named_trace.NamedTrace.{NamedTrace};
 ghost use Rattle.trace_types.specs.Listing.{ListsExactly};
@@ -53,7 +53,7 @@ fn add_row<'a>(
     at: usize,
     pairs: &mut Vec<TaskPair<'a>>,
 ) -> Result<(), AllocError>
-    requires listed { AreListed (slice_cmp nat_cmp) 64 tasks.now }
+    requires listed { AreItemsBelow (slice_cmp nat_cmp) 64 tasks.now }
     requires within { at < length tasks.now }
     ensures { OnOk result ((traces : List NamedTrace) (first : List ℕ × ℕ)
         → AreSurvivors traces model.now.words → slice_get tasks.now at ≡ Some first
@@ -79,7 +79,7 @@ pub(crate) fn task_pairs<'a>(
     model: &Model<'_>,
     tasks: &[Listed<'a, Text>],
 ) -> Result<Vec<TaskPair<'a>>, AllocError>
-    requires { AreListed (slice_cmp nat_cmp) 64 tasks.now }
+    requires { AreItemsBelow (slice_cmp nat_cmp) 64 tasks.now }
     ensures { IfOk result (λ pairs. (traces : List NamedTrace)
         → AreSurvivors traces model.now.words → ListsExactly (pair_cmp (slice_cmp nat_cmp))
         (λ pair. IsPipe tasks.now traces pair.0 pair.1) pairs.items) }

@@ -96,14 +96,14 @@ names_listed segments names sorted adds moved up =
 
 -- how many names there are
 pub names_counted : (segments : List Segment) (names : List SegmentName) (n : ℕ) → ListsExactly name_cmp (Contains (map name_of segments)) names → length names ≡ n → CountsDistinct n (map name_of segments)
-names_counted segments names n listed size = record { once = names; differ = names_apart names listed.rising; same = listed.exactly; count = size }
+names_counted segments names n listed size = record { all = names; differ = names_apart names listed.rising; exactly = listed.exactly; count = size }
 
 -- how many tasks there are
 pub tasks_counted : (segments : List Segment) (names : List SegmentName) (tasks : List (List ℕ)) (n : ℕ) → ListsExactly name_cmp (Contains (map name_of segments)) names → AddsDistinct (map task_in names) [] tasks → length tasks ≡ n → CountsDistinct n (map task_of segments)
 tasks_counted segments names tasks n listed adds size = record {
-  once = tasks;
+  all = tasks;
   differ = adds.differ (AllPairs-nil (λ (x y : List ℕ). x ≢ y));
-  same = λ x. (
+  exactly = λ x. (
     (λ c. ⊎_elim (λ (d : Contains [] x). absurd (Contains-nil x d))
         (λ (d : Contains (map task_in names) x).
         let r = from_map task_in names x d in

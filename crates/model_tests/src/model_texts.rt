@@ -1,3 +1,6 @@
+ghost use Rattle.std.specs.Prelude.{◌≡◌, ◌≤◌, length};
+ghost use Rattle.hypothesis_index.specs.Places.{width_of};
+
 use crate::plain::PlainModel;
 use hypothesis_index::width;
 use model_meet::Model;
@@ -51,6 +54,85 @@ fn push_pair(
     )
 }
 
+/// Appends the rows of ordered pairs of these names that the words tell.
+fn push_orders(
+    text: &mut String,
+    catalogue: &Catalogue,
+    words: &[u64],
+    names: &[u32],
+) -> Result<(), AllocError>
+    requires few { length catalogue.now.names ≤ 512 }
+    requires width { length words.now ≡ width_of (length catalogue.now.names) }
+{
+    let count = catalogue.names();
+    let model = Model::new(words, count);
+    for a in names {
+        for b in names {
+            let (a, b) = (*a, *b);
+            if a != b && a < count && b < count && model.lists_order(a, b) {
+                push_pair(text, "hb", catalogue.text_of(a), catalogue.text_of(b))?;
+            }
+        }
+    }
+    Ok(())
+}
+
+/// Appends the rows of exclusive pairs of these names that the words tell.
+fn push_exclusions(
+    text: &mut String,
+    catalogue: &Catalogue,
+    words: &[u64],
+    names: &[u32],
+) -> Result<(), AllocError>
+    requires few { length catalogue.now.names ≤ 512 }
+    requires width { length words.now ≡ width_of (length catalogue.now.names) }
+{
+    let count = catalogue.names();
+    let model = Model::new(words, count);
+    for (place, a) in names.iter().enumerate() {
+        for b in &names[place..] {
+            let (a, b) = (*a, *b);
+            if a != b && a < count && b < count && model.lists_exclusion(a, b) {
+                push_pair(text, "mx", catalogue.text_of(a), catalogue.text_of(b))?;
+            }
+        }
+    }
+    Ok(())
+}
+
+/// Appends the rows of pipelines of tasks that the words tell, in their order by number.
+fn push_pipes(text: &mut String, catalogue: &Catalogue, words: &[u64]) -> Result<(), AllocError>
+    requires few { length catalogue.now.names ≤ 512 }
+    requires width { length words.now ≡ width_of (length catalogue.now.names) }
+{
+    let model = Model::new(words, catalogue.names());
+    let tasks = catalogue.tasks().min(64);
+    for t in 0..tasks {
+        for u in 0..tasks {
+            if t != u && model.lists_pipe(t, u) {
+                let (from, to) = (catalogue.task_text(t), catalogue.task_text(u));
+                push_row(text, &["pipe", from.as_str(), to.as_str()])?;
+            }
+        }
+    }
+    Ok(())
+}
+
+/// Appends the rows of ordered pairs and of exclusive pairs of these names, and of pipelines.
+fn push_relations(
+    text: &mut String,
+    catalogue: &Catalogue,
+    words: &[u64],
+    names: &[u32],
+) -> Result<(), AllocError>
+    requires few { length catalogue.now.names ≤ 512 }
+    requires width { length words.now ≡ width_of (length catalogue.now.names) }
+{
+    push_orders(text, catalogue, words, names)?;
+    push_exclusions(text, catalogue, words, names)?;
+    push_pipes(text, catalogue, words)
+}
+
 /// Lists the rows of ordered pairs and of exclusive pairs of names that the model tells, in name
 /// order, and of pipelines of tasks, in their order by number.
 pub(crate) fn relations_text(
@@ -58,37 +140,11 @@ pub(crate) fn relations_text(
     catalogue: &Catalogue,
     words: &[u64],
 ) -> Result<String, AllocError> {
-    let mut text = String::new(alloc);
     let count = catalogue.names();
-    if count > 512 || words.len() != width(count) as usize {
-        return Ok(text);
-    }
-    let model = Model::new(words, count);
     let names = names_in_order(alloc, catalogue)?;
-    for a in &names {
-        for b in &names {
-            let (a, b) = (*a, *b);
-            if a != b && a < count && b < count && model.lists_order(a, b) {
-                push_pair(&mut text, "hb", catalogue.text_of(a), catalogue.text_of(b))?;
-            }
-        }
-    }
-    for (place, a) in names.iter().enumerate() {
-        for b in &names[place..] {
-            let (a, b) = (*a, *b);
-            if a != b && a < count && b < count && model.lists_exclusion(a, b) {
-                push_pair(&mut text, "mx", catalogue.text_of(a), catalogue.text_of(b))?;
-            }
-        }
-    }
-    let tasks = catalogue.tasks().min(64);
-    for t in 0..tasks {
-        for u in 0..tasks {
-            if t != u && model.lists_pipe(t, u) {
-                let (from, to) = (catalogue.task_text(t), catalogue.task_text(u));
-                push_row(&mut text, &["pipe", from.as_str(), to.as_str()])?;
-            }
-        }
+    let mut text = String::new(alloc);
+    if count <= 512 && words.len() == width(count) as usize {
+        push_relations(&mut text, catalogue, words, names.as_slice())?;
     }
     Ok(text)
 }

@@ -109,6 +109,39 @@ fn shown(alloc: Global, pairs: &[PlainPair]) -> Result<String, AllocError> {
     Ok(text)
 }
 
+/// The model of three traces, each with these times of the tasks `a` and `b`.
+fn model_of_times(alloc: Global, times: &ThreeTimes) -> Result<PlainModel, AllocError> {
+    let first = trace_of(alloc, times[0].0, times[0].1)?;
+    let second = trace_of(alloc, times[1].0, times[1].1)?;
+    let third = trace_of(alloc, times[2].0, times[2].1)?;
+    model_of(alloc, first, second, third)
+}
+
+/// Tells whether the pairs are these.
+fn are_shown(alloc: Global, pairs: &[PlainPair], expected: &str) -> Result<bool, AllocError> {
+    let text = shown(alloc, pairs)?;
+    Ok(text.as_str() == expected)
+}
+
+/// Tells whether the model has so many names and tasks, these orders and these exclusions.
+fn is_model(
+    alloc: Global,
+    model: &PlainModel,
+    count: u32,
+    hb: &str,
+    mx: &str,
+) -> Result<bool, AllocError> {
+    Ok(
+        model.names == count
+            && model.tasks == count
+            && are_shown(alloc, model.hb.items(), hb)?
+            && are_shown(alloc, model.mx.items(), mx)?,
+    )
+}
+
+/// The times of the tasks `a` and `b` in three traces.
+type ThreeTimes = [(Option<Times>, Option<Times>); 3];
+
 const A: Option<Times> = Some((0, 10));
 
 #[test]
@@ -119,7 +152,7 @@ fn each_pair_stands_as_no_trace_refutes(rt: HostRuntime) -> Result<(), Fail> {
     let opposite = (Some((5, 4)), Some((0, 5)));
     let overlapping = (A, Some((9, 11)));
     let instant = (Some((5, 0)), Some((5, 0)));
-    let table: [([(Option<Times>, Option<Times>); 3], u32, &str, &str); 7] = [
+    let table: [(ThreeTimes, u32, &str, &str); 7] = [
         ([apart, apart, apart], 0, "", ""),
         ([touching, apart, apart], 2, "a.s.e b.s.e ", ""),
         ([touching, opposite, apart], 2, "", "a.s.e b.s.e "),
@@ -128,30 +161,33 @@ fn each_pair_stands_as_no_trace_refutes(rt: HostRuntime) -> Result<(), Fail> {
         ([(A, None), (None, A), apart], 2, "", ""),
         ([(None, A), opposite, apart], 2, "b.s.e a.s.e ", ""),
     ];
-    for (times, names, hb, mx) in table {
-        let first = trace_of(alloc, times[0].0, times[0].1)?;
-        let second = trace_of(alloc, times[1].0, times[1].1)?;
-        let third = trace_of(alloc, times[2].0, times[2].1)?;
-        let model = model_of(alloc, first, second, third)?;
-        assert_eq!(rt; model.names, names);
-        assert_eq!(rt; model.tasks, names);
-        assert_eq!(rt; shown(alloc, model.hb.items())?.as_str(), hb);
-        assert_eq!(rt; shown(alloc, model.mx.items())?.as_str(), mx);
+    for (times, count, hb, mx) in table {
+        let model = model_of_times(alloc, &times)?;
+        assert!(rt; is_model(alloc, &model, count, hb, mx)?);
     }
     Ok(())
+}
+
+/// The model of two traces of one task, and of one without segments.
+fn model_of_one_task(alloc: Global) -> Result<PlainModel, AllocError> {
+    let first = trace_of_one_task(alloc)?;
+    let second = trace_of_one_task(alloc)?;
+    let third = trace_of(alloc, None, None)?;
+    model_of(alloc, first, second, third)
+}
+
+/// Counts the orders of a model, taken out of it and put into a list again.
+fn count_orders(model: PlainModel) -> usize {
+    PlainPairList::of(model.hb.into_items()).items().len()
 }
 
 #[test]
 fn a_task_with_two_names_is_one_task(rt: HostRuntime) -> Result<(), Fail> {
     let alloc = rt.alloc();
-    let first = trace_of_one_task(alloc)?;
-    let second = trace_of_one_task(alloc)?;
-    let third = trace_of(alloc, None, None)?;
-    let model = model_of(alloc, first, second, third)?;
+    let model = model_of_one_task(alloc)?;
     assert_eq!(rt; model.names, 2);
     assert_eq!(rt; model.tasks, 1);
-    let hb = model.hb.into_items();
-    assert_eq!(rt; shown(alloc, &hb)?.as_str(), "t.x.y t.y.x ");
-    assert_eq!(rt; PlainPairList::of(hb).items().len(), 1);
+    assert!(rt; are_shown(alloc, model.hb.items(), "t.x.y t.y.x ")?);
+    assert_eq!(rt; count_orders(model), 1);
     Ok(())
 }

@@ -3,7 +3,7 @@ use crate::model_texts::relations_text;
 use crate::worked_inputs::{IN_ORDER, TURNED, page_load, push_request};
 use pipeline_tests::DaySheet;
 use segment_names::Catalogue;
-use std::alloc::Global;
+use std::alloc::{AllocError, Global};
 use std::rt::HostRuntime;
 use std::test::Fail;
 use std::thread::Threads;
@@ -91,40 +91,68 @@ fn name_of(code: &str) -> &str {
     ""
 }
 
-#[test]
-fn page_load_has_its_relations(rt: HostRuntime) -> Result<(), Fail> {
-    let alloc = rt.alloc();
-    let mut expected = String::new(alloc);
+/// Tells whether the relations that the traces of events leave are these rows.
+fn leave_relations<R: Threads + Sync>(
+    rt: &R,
+    alloc: Global,
+    events: Vec<Event>,
+    rows: &str,
+) -> bool {
+    relations_of(rt, alloc, events, 0).as_deref() == Some(rows)
+}
+
+/// The rows of the page load's relations.
+fn page_load_rows(alloc: Global) -> Result<String, AllocError> {
+    let mut rows = String::new(alloc);
     for (first, second) in &ORDERS {
         for field in ["hb\t", name_of(first), "\t", name_of(second), "\n"] {
-            expected.push_str(field)?;
+            rows.push_str(field)?;
         }
     }
-    expected.push_str("pipe\tpage head\tdownload\n")?;
-    let text = relations_of(&rt, alloc, page_load(alloc)?, 0);
-    assert!(rt; text == Some(expected));
+    rows.push_str("pipe\tpage head\tdownload\n")?;
+    Ok(rows)
+}
+
+#[test]
+fn page_load_has_its_relations(rt: HostRuntime) -> Result<(), Fail> {
+    let rows = page_load_rows(rt.alloc())?;
+    let events = page_load(rt.alloc())?;
+    assert!(rt; leave_relations(&rt, rt.alloc(), events, &rows));
+    Ok(())
+}
+
+/// The events of the request whose elements are taken in order.
+fn in_order(alloc: Global) -> Result<Vec<Event>, AllocError> {
+    let mut events = Vec::new(alloc);
+    push_request(&mut events, alloc, "r1", &IN_ORDER)?;
+    Ok(events)
+}
+
+/// The events of that request and of one whose elements are turned.
+fn in_both_orders(alloc: Global) -> Result<Vec<Event>, AllocError> {
+    let mut events = in_order(alloc)?;
+    push_request(&mut events, alloc, "r2", &TURNED)?;
+    Ok(events)
+}
+
+#[test]
+fn pipelines_stand_while_elements_are_in_order(rt: HostRuntime) -> Result<(), Fail> {
+    let rows = "hb\tt\tx@d\tx@e\tt\tx@e\tz\nhb\tt\tx@d\tx@e\tu\ty@d\ty@e\n\
+        hb\tt\tx@d\tx@e\tu\ty@e\tw\nhb\tt\tx@e\tz\tu\ty@d\ty@e\nhb\tt\tx@e\tz\tu\ty@e\tw\n\
+        hb\tu\ty@d\ty@e\tu\ty@e\tw\npipe\tt\tu\n";
+    let events = in_order(rt.alloc())?;
+    assert!(rt; leave_relations(&rt, rt.alloc(), events, rows));
     Ok(())
 }
 
 #[test]
 fn pipelines_stand_until_elements_are_turned(rt: HostRuntime) -> Result<(), Fail> {
-    let alloc = rt.alloc();
-    let mut one = Vec::new(alloc);
-    push_request(&mut one, alloc, "r1", &IN_ORDER)?;
-    let first = relations_of(&rt, alloc, one, 0);
-    let rows = "hb\tt\tx@d\tx@e\tt\tx@e\tz\nhb\tt\tx@d\tx@e\tu\ty@d\ty@e\n\
-        hb\tt\tx@d\tx@e\tu\ty@e\tw\nhb\tt\tx@e\tz\tu\ty@d\ty@e\nhb\tt\tx@e\tz\tu\ty@e\tw\n\
-        hb\tu\ty@d\ty@e\tu\ty@e\tw\npipe\tt\tu\n";
-    assert!(rt; first.as_deref() == Some(rows));
-    let mut two = Vec::new(alloc);
-    push_request(&mut two, alloc, "r1", &IN_ORDER)?;
-    push_request(&mut two, alloc, "r2", &TURNED)?;
-    let both = relations_of(&rt, alloc, two, 0);
     let rows = "hb\tt\tx@d\tx@e\tt\tx@e\tz\nhb\tt\tx@d\tx@e\tu\ty@d\tw\n\
         hb\tt\tx@d\tx@e\tu\ty@d\ty@e\nhb\tt\tx@d\tx@e\tu\ty@e\tw\n\
         hb\tt\tx@d\tx@e\tu\ty@e\ty@d\nhb\tt\tx@e\tz\tu\ty@d\tw\nhb\tt\tx@e\tz\tu\ty@d\ty@e\n\
         hb\tt\tx@e\tz\tu\ty@e\tw\nhb\tt\tx@e\tz\tu\ty@e\ty@d\nhb\tu\ty@d\ty@e\tu\ty@e\tw\n\
         hb\tu\ty@e\ty@d\tu\ty@d\tw\n";
-    assert!(rt; both.as_deref() == Some(rows));
+    let events = in_both_orders(rt.alloc())?;
+    assert!(rt; leave_relations(&rt, rt.alloc(), events, rows));
     Ok(())
 }

@@ -99,66 +99,95 @@ impl<R: std::rt::Files> Files for RealFiles<'_, R> {
 mod tests {
     use super::*;
     use std::env::temp_dir;
+    use std::path::PathBuf;
+    use std::rt::Env;
     use std::test::Fail;
+
+    /// What two calls of `open` answer, what a read after them answers with its first byte, and
+    /// how many calls of `open` and failures were counted.
+    type Seen = (
+        [Result<(), Failed>; 2],
+        Result<usize, Failed>,
+        u8,
+        (u64, u64),
+    );
+
+    /// Opens two files, the second in place of the first, and reads.
+    fn open_both<R: std::rt::Files>(rt: &R, first: &str, second: &str) -> Seen {
+        let mut files = RealFiles::new(rt);
+        let mut into = [0; 8];
+        let opened = [files.open(first), files.open(second)];
+        let read = files.read(&mut into);
+        (opened, read, into[0], (files.opens, files.faults))
+    }
+
+    /// Reads before a file is opened and twice after, and gives the bytes of the second read.
+    fn read_thrice<R: std::rt::Files>(rt: &R, name: &str) -> ([Result<usize, Failed>; 3], [u8; 8]) {
+        let mut files = RealFiles::new(rt);
+        let mut into = [0; 8];
+        let before = files.read(&mut into);
+        let _ = files.open(name);
+        let bytes = files.read(&mut into);
+        ([before, bytes, files.read(&mut [0; 8])], into)
+    }
+
+    /// Makes a path in the folder for temporary files.
+    fn path_of<R: Env + Alloc>(rt: &R, name: &str) -> Result<PathBuf<R::A>, Fail> {
+        let mut path = temp_dir(rt)?;
+        path.push(name)?;
+        Ok(path)
+    }
 
     #[test]
     fn a_real_file_is_read_to_its_end(rt: HostRuntime) -> Result<(), Fail> {
-        let mut path = temp_dir(&rt)?;
-        path.push("mystery_io_reads_this")?;
+        let path = path_of(&rt, "mystery_io_reads_this")?;
         fs::write(&rt, path.as_str(), "hello")?;
-        let mut files = RealFiles::new(&rt);
-        let mut into = [0; 8];
-        assert_eq!(rt; files.read(&mut into), Ok(0));
-        assert_eq!(rt; files.open(path.as_str()), Ok(()));
-        assert_eq!(rt; files.read(&mut into), Ok(5));
-        assert_eq!(rt; &into[..5], b"hello".as_slice());
-        assert_eq!(rt; files.read(&mut into), Ok(0));
+        let seen = read_thrice(&rt, path.as_str());
         fs::remove_file(&rt, path.as_str())?;
-        assert_eq!(rt; files.open(path.as_str()), Err(Failed));
-        assert_eq!(rt; files.read(&mut into), Ok(0));
-        assert_eq!(rt; (files.opens, files.faults), (2, 1));
+        assert_eq!(rt; seen, ([Ok(0), Ok(5), Ok(0)], *b"hello\0\0\0"));
         Ok(())
+    }
+
+    #[test]
+    fn a_missing_file_is_not_opened(rt: HostRuntime) -> Result<(), Fail> {
+        let path = path_of(&rt, "mystery_io_has_no_such_file")?;
+        let seen = open_both(&rt, "/", path.as_str());
+        assert_eq!(rt; seen, ([Ok(()), Err(Failed)], Ok(0), 0, (2, 1)));
+        Ok(())
+    }
+
+    /// Writes two files, opens one and then the other, and removes both.
+    fn open_written<R: std::rt::Files>(rt: &R, first: &str, second: &str) -> Result<Seen, Fail> {
+        fs::write(rt, first, "a")?;
+        fs::write(rt, second, "b")?;
+        let seen = open_both(rt, first, second);
+        fs::remove_file(rt, first)?;
+        fs::remove_file(rt, second)?;
+        Ok(seen)
     }
 
     #[test]
     fn a_second_file_replaces_the_first(rt: HostRuntime) -> Result<(), Fail> {
-        let mut first = temp_dir(&rt)?;
-        first.push("mystery_io_first")?;
-        let mut second = temp_dir(&rt)?;
-        second.push("mystery_io_second")?;
-        fs::write(&rt, first.as_str(), "a")?;
-        fs::write(&rt, second.as_str(), "b")?;
-        let mut files = RealFiles::new(&rt);
-        let mut into = [0; 8];
-        assert_eq!(rt; files.open(first.as_str()), Ok(()));
-        assert_eq!(rt; files.open(second.as_str()), Ok(()));
-        assert_eq!(rt; files.read(&mut into), Ok(1));
-        assert_eq!(rt; into[0], b'b');
-        fs::remove_file(&rt, first.as_str())?;
-        fs::remove_file(&rt, second.as_str())?;
+        let first = path_of(&rt, "mystery_io_first")?;
+        let second = path_of(&rt, "mystery_io_second")?;
+        let seen = open_written(&rt, first.as_str(), second.as_str())?;
+        assert_eq!(rt; seen, ([Ok(()); 2], Ok(1), b'b', (2, 0)));
         Ok(())
     }
 
     #[test]
-    fn a_folder_is_opened_but_not_read(rt: HostRuntime) -> Result<(), Fail> {
-        let path = temp_dir(&rt)?;
-        let mut files = RealFiles::new(&rt);
-        assert_eq!(rt; files.open(path.as_str()), Ok(()));
-        assert_eq!(rt; files.read(&mut [0; 8]), Err(Failed));
-        assert_eq!(rt; (files.opens, files.faults), (1, 1));
-        Ok(())
+    fn a_folder_is_opened_but_not_read(rt: HostRuntime) {
+        let seen = open_both(&rt, "/", "/");
+        assert_eq!(rt; seen, ([Ok(()); 2], Err(Failed), 0, (2, 1)));
     }
 
     #[test]
     fn a_space_at_the_end_of_a_name_counts(rt: HostRuntime) -> Result<(), Fail> {
-        let mut path = temp_dir(&rt)?;
-        path.push("mystery_io_with_a_space ")?;
+        let path = path_of(&rt, "mystery_io_with_a_space ")?;
         fs::write(&rt, path.as_str(), "x")?;
-        let mut files = RealFiles::new(&rt);
-        assert_eq!(rt; files.open(path.as_str().trim_end()), Err(Failed));
-        assert_eq!(rt; files.open(path.as_str()), Ok(()));
-        assert_eq!(rt; files.read(&mut [0; 8]), Ok(1));
+        let seen = open_both(&rt, path.as_str().trim_end(), path.as_str());
         fs::remove_file(&rt, path.as_str())?;
+        assert_eq!(rt; seen, ([Err(Failed), Ok(())], Ok(1), b'x', (2, 1)));
         Ok(())
     }
 }

@@ -5,7 +5,7 @@ use Rattle.session_rules.specs.declared.limit.Limit.{Limit}
 use Rattle.mystery_run.specs.declared.outcome.Outcome.{Outcome}
 use Rattle.mystery_run.specs.declared.outcome.Outcome.TheVariants.{Done, Memory, Arguments, BadLine, File, Write, Size, Over}
 use Rattle.mystery_run.specs.CommandLines.{Call, call_of, certificate_of, files_of}
-use Rattle.mystery_run.specs.Endings.{CallEnds, Ends, EndsAt, IsDecided, Writes}
+use Rattle.mystery_run.specs.Endings.{CallEnds, Ends, CallEndsAt, IsDecided, Writes}
 use Rattle.mystery_run.specs.Messages.{status_of}
 use Rattle.mystery_run.specs.Readings.{told_input}
 use Rattle.mystery_run.specs.Runs.{OfInputs}
@@ -115,7 +115,7 @@ module _ (whole : WholeStopsAtNoLimit) (one : JobsStopAtOneLimit) where
   one_call_ending call cert input Write (File j) t u d e h k = absurd d
   one_call_ending call cert input Write Write t u d e h k = absurd d
 
-  one_ending_at : (c : Option Call) (cert input : List ℕ) (o p : Outcome) (t u : List ℕ) → IsDecided o → IsDecided p → EndsAt c cert input o t → EndsAt c cert input p u → o ≡ p
+  one_ending_at : (c : Option Call) (cert input : List ℕ) (o p : Outcome) (t u : List ℕ) → IsDecided o → IsDecided p → CallEndsAt c cert input o t → CallEndsAt c cert input p u → o ≡ p
   one_ending_at None cert input o p t u d e h k = h.0 ∙ sym k.0
   one_ending_at (Some call) cert input o p t u d e h k = one_call_ending call cert input o p t u d e h k
 
@@ -169,7 +169,7 @@ module _ (whole : WholeTextsAreAlike) (limited : TextsToLimitAreAlike) where
   call_alike call cert input (File i) t u d h k = absurd d
   call_alike call cert input Write t u d h k = absurd d
 
-  alike_at : (c : Option Call) (cert input : List ℕ) (o : Outcome) (t u : List ℕ) → IsDecided o → EndsAt c cert input o t → EndsAt c cert input o u → (t ≡ u) ⊎ AreAlike t u
+  alike_at : (c : Option Call) (cert input : List ℕ) (o : Outcome) (t u : List ℕ) → IsDecided o → CallEndsAt c cert input o t → CallEndsAt c cert input o u → (t ≡ u) ⊎ AreAlike t u
   alike_at None cert input o t u d h k = inl (h.1 ∙ sym k.1)
   alike_at (Some call) cert input o t u d h k = call_alike call cert input o t u d h k
 

@@ -13,7 +13,7 @@ use Rattle.session_rules.specs.declared.job.Job.{Job}
 use Rattle.mystery_run.specs.declared.outcome.Outcome.{Outcome}
 use Rattle.mystery_run.specs.declared.outcome.Outcome.TheVariants.{Done, Memory, Arguments, BadLine, File, Write, Size, Over}
 use Rattle.mystery_run.specs.CommandLines.{Call, all_files_of, call_of, certificate_of, certificate_of_action, files_of, files_of_action, is_in_grammar}
-use Rattle.mystery_run.specs.Endings.{CallEnds, Ends, EndsAt, Writes}
+use Rattle.mystery_run.specs.Endings.{CallEnds, Ends, CallEndsAt, Writes}
 use Rattle.mystery_run.specs.Readings.{FailsAt, FitsSize, PassesAt, PassesSize, told_input}
 use Rattle.mystery_run.specs.ReplayTexts.{replay_text}
 use Rattle.mystery_run.specs.Runs.{Seen, OfInputs, ReadsAll, EndsAs, Reads, Explains}
@@ -65,7 +65,7 @@ module _ (s : Seen) (call : Call) (known : Some call ≡ call_of s.words) where
   certificate_named = rw (← known) refl
 
   ends_at : (cert input : List ℕ) (o : Outcome) (text : List ℕ) → CallEnds call cert input o text → Ends s.words cert input o text
-  ends_at cert input o text h = subst (λ c. EndsAt c cert input o text) known h
+  ends_at cert input o text h = subst (λ c. CallEndsAt c cert input o text) known h
 
   -- memory ran out before there was an input, or a file failed
   pub explains_memory : (count : ℕ) × OpensFirst s.files (certificate_of_action call.action ++ files_of_action call.action) count → s.written_now ≡ s.written_before → Explains Memory s
@@ -169,7 +169,7 @@ opens_of Size s h = (h.1.0 + 1, opens_to_passed s.files (certificate_of s.words)
 opens_of (Over limit) s h = (length (all_files_of s.words), h.opened)
 
 -- a run that ends by the size passes the limit
-size_at : (c : Option Call) (cert input text : List ℕ) → EndsAt c cert input Size text → PassesSize cert input
+size_at : (c : Option Call) (cert input text : List ℕ) → CallEndsAt c cert input Size text → PassesSize cert input
 size_at None cert input text h =
     let e : Size ≡ Arguments = h.0 in
     cc

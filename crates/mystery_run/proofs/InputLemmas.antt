@@ -13,9 +13,9 @@ use Rattle.mystery_run.specs.declared.input_form.InputForm.{InputForm}
 use Rattle.mystery_run.specs.declared.input_form.InputForm.TheVariants as forms
 use Rattle.mystery_run.specs.declared.outcome.Outcome.{Outcome}
 use Rattle.mystery_run.specs.Readings.{told_input}
-use Rattle.mystery_run.specs.Works.{jobs_from, jobs_said, steps_said}
+use Rattle.mystery_run.specs.Works.{work_from, jobs_said, steps_said}
 use Rattle.mystery_run.specs.inner.InputEnds.{InputEnds}
-use Rattle.mystery_run.specs.inner.Inputs.{HasTaken, IsInputOf, IsReadAs, IsWithin, bytes_kept, lines_said_by}
+use Rattle.mystery_run.specs.inner.Inputs.{HasTaken, IsInputOf, IsReadAs, IsWithinLimit, bytes_kept, lines_said_by}
 use Rattle.mystery_run.proofs.ReadingLemmas.{read_told}
 
 -- bytes are taken after others
@@ -27,9 +27,9 @@ pub said_of_all : (taken : LinesTaken) (bytes : List ℕ) (said : Result (List L
 said_of_all taken bytes said h e = ap lines_said (sym (append-nil bytes)) ∙ sym (h []) ∙ e
 
 -- jobs that end as the lines of an input say end as its bytes say
-pub ends_of_bytes : (workers : ℕ) (last : Option Job) (input : Input) (o : Outcome) (before now : Option (List ℕ)) → InputEnds workers (jobs_from last (lines_said_by input)) o before now
+pub ends_of_bytes : (workers : ℕ) (last : Option Job) (input : Input) (o : Outcome) (before now : Option (List ℕ)) → InputEnds workers (work_from last (lines_said_by input)) o before now
     → (bytes : List ℕ) → IsInputOf forms.Lines input bytes → InputEnds workers (jobs_said last bytes) o before now
-ends_of_bytes workers last input o before now h bytes is = subst (λ said. InputEnds workers (jobs_from last said) o before now) is h
+ends_of_bytes workers last input o before now h bytes is = subst (λ said. InputEnds workers (work_from last said) o before now) is h
 
 -- bytes that are kept are an input of each form
 pub bytes_are : (form : InputForm) (input : Input) (bytes : List ℕ) → lines_said_by input ≡ lines_said bytes → bytes_kept input ≡ bytes → IsInputOf form input bytes
@@ -37,14 +37,14 @@ bytes_are forms.Lines input bytes said kept = said
 bytes_are forms.Steps input bytes said kept = kept
 
 -- the lines of an input are those of bytes within the limit
-pub good_bytes : (input : Input) (lines : List Line) → IsWithin input → lines_said_by input ≡ Ok lines → (bytes : List ℕ) × (lines_said bytes ≡ Ok lines) × (length bytes ≤ input_limit)
+pub good_bytes : (input : Input) (lines : List Line) → IsWithinLimit input → lines_said_by input ≡ Ok lines → (bytes : List ℕ) × (lines_said bytes ≡ Ok lines) × (length bytes ≤ input_limit)
 good_bytes (Bytes bytes) lines within e = (bytes.items, e, within)
 good_bytes (Lines known) lines within e = (within.0, within.1 ∙ e, within.2)
 good_bytes (Bad line reason) lines within e = absurd (cc e)
 
 -- lines that were read are those of the bytes that were taken
 pub lines_are_read : (taken : LinesTaken) (contents : Option (List ℕ → List ℕ)) (names : List (List ℕ)) (bytes : List ℕ) (input : Input) → 0 < length names → HasTaken taken bytes → length bytes ≤ input_limit → IfSome contents (λ c. bytes ≡ input_of c names)
-    → said_with taken [] ≡ lines_said_by input → (lines_said bytes ≡ lines_said_by input → IsWithin input) → IsReadAs forms.Lines input (told_input contents names)
+    → said_with taken [] ≡ lines_said_by input → (lines_said bytes ≡ lines_said_by input → IsWithinLimit input) → IsReadAs forms.Lines input (told_input contents names)
 lines_are_read taken contents names bytes input some h fits told said within =
     let e : lines_said bytes ≡ lines_said_by input = said_of_all taken bytes (lines_said_by input) h said in
     record { bytes = bytes; is = sym e; fits = fits; within = within e; same = read_told contents names bytes some told }
@@ -59,7 +59,7 @@ pub bytes_read : (form : InputForm) (bytes : Vec ℕ Global) (told : Option (Lis
 bytes_read form bytes told fits same = record { bytes = bytes.items; is = bytes_are form (Bytes bytes) bytes.items refl refl; fits = fits; within = fits; same = same }
 
 -- the bytes that are kept are within the limit
-pub kept_within : (input : Input) → IsWithin input → length (bytes_kept input) ≤ input_limit
+pub kept_within : (input : Input) → IsWithinLimit input → length (bytes_kept input) ≤ input_limit
 kept_within (Bytes bytes) within = within
 kept_within (Lines lines) within = omega arith
 kept_within (Bad line reason) within = omega arith

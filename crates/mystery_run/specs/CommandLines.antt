@@ -7,10 +7,6 @@ use Rattle.std.specs.Prelude.{option_and_then}
 use Rattle.std.specs.Option.{option_map_or}
 use Rattle.std.specs.List.{list_all}
 use Rattle.std.specs.Str.{bytes_eq}
-use Rattle.mystery_run.specs.declared.command_line.CommandLine.{CommandLine}
-use Rattle.mystery_run.specs.declared.action.Action as asked
-use Rattle.mystery_run.specs.declared.action.Action.TheVariants as actions
-use Rattle.mystery_run.specs.declared.change_words.ChangeWords.{ChangeWords}
 use Rattle.mystery_run.specs.declared.view.View.{View}
 use Rattle.mystery_run.specs.declared.view.View.TheVariants.{Model, Paths, Slack, Report, Graph}
 use Rattle.mystery_run.specs.Numbers.{number_between}
@@ -171,22 +167,3 @@ certificate_of words =
 -- the file arguments: that of the certificate is the first to be read
 abbrev pub all_files_of : List (List ℕ) → List (List ℕ)
 all_files_of words = certificate_of words ++ files_of words
-
--- a parsed change, seen as the change that it is
-abbrev pub change_of : ChangeWords → NamedChange
-change_of c = record { name = (c.task.now, c.start.now, c.end.now); num = c.num; den = c.den }
-
--- a parsed action, seen as the action that it is
-abbrev pub action_of : asked.Action → Action
-action_of (actions.Session files) = session files.now
-action_of (actions.View v files) = view v files.now
-action_of (actions.WhatIf change files) = what_if (change_of change) files.now
-action_of (actions.Tail files) = tail files.now
-action_of (actions.Why files) = why files.now
-action_of (actions.Verify file files) = verify file.now files.now
-action_of (actions.Drill number traces) = drill number traces
-action_of (actions.Replay file) = replay file.now
-
--- a parsed command line, seen as the call that it is
-abbrev pub call_of_line : CommandLine → Call
-call_of_line line = record { workers = line.workers; action = action_of line.action }

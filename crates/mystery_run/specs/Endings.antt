@@ -40,15 +40,15 @@ CallEnds call certificate input Memory text =
     ⊎ OfWork call certificate input (λ work. IsTextOfParts call.workers work text)
 
 -- the same of a call that may be none: there were arguments outside the grammar
-abbrev pub EndsAt : Option Call → List ℕ → List ℕ → Outcome → List ℕ → Type 0
-EndsAt None certificate input outcome text = (outcome ≡ Arguments) × (text ≡ [])
-EndsAt (Some call) certificate input outcome text = CallEnds call certificate input outcome text
+abbrev pub CallEndsAt : Option Call → List ℕ → List ℕ → Outcome → List ℕ → Type 0
+CallEndsAt None certificate input outcome text = (outcome ≡ Arguments) × (text ≡ [])
+CallEndsAt (Some call) certificate input outcome text = CallEnds call certificate input outcome text
 
 -- a run with these arguments over this certificate and this input may end so, with this text; the
 -- certificate is empty where the arguments name none
 abbrev pub Ends : List (List ℕ) → List ℕ → List ℕ → Outcome → List ℕ → Type 0
 Ends words certificate input outcome text =
-    EndsAt (call_of words) certificate input outcome text
+    CallEndsAt (call_of words) certificate input outcome text
 
 -- what is written of the text by a run that ends so: all of it, a prefix, or nothing
 abbrev pub Writes : Outcome → Option (List ℕ) → Option (List ℕ) → List ℕ → Type 0

@@ -70,12 +70,12 @@ jobs_with (Some job) lines =
     Jobs (jobs_of (lines ++ line_kinds.Control 0 commands.Add ∷ []) ++ job ∷ [])
 
 -- the jobs of what lines say and the last job, or the first bad line
-abbrev pub jobs_from : Option Job → Result (List Line) LineFault → Result Work BadInput
-jobs_from last said = result_map_both (jobs_with last) bad_line said
+abbrev pub work_from : Option Job → Result (List Line) LineFault → Result Work BadInput
+work_from last said = result_map_both (jobs_with last) bad_line said
 
 -- the same of the lines of an input
 abbrev pub jobs_said : Option Job → List ℕ → Result Work BadInput
-jobs_said last input = jobs_from last (lines_said input)
+jobs_said last input = work_from last (lines_said input)
 
 -- the steps of an input, or the first line outside the form
 abbrev pub steps_said : List ℕ → Result Work BadInput

@@ -5,5 +5,6 @@ pub mod Inputs
 pub mod LastJobs
 pub mod Leaving
 pub mod OutcomeFaults
+pub mod ParsedLines
 pub mod ReadingTwice
 pub mod Replaying

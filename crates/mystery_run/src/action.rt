@@ -1,5 +1,6 @@
 ghost use Rattle.std.specs.Prelude.{◌≡◌};
-ghost use Rattle.mystery_run.specs.CommandLines.{action_of, certificate_of_action, files_of_action};
+ghost use Rattle.mystery_run.specs.CommandLines.{certificate_of_action, files_of_action};
+ghost use Rattle.mystery_run.specs.inner.ParsedLines.{action_of};
 ghost use Rattle.mystery_run.specs.inner.Inputs.{form_of_action};
 
 use crate::change_words::ChangeWords;

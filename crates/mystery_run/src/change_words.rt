@@ -1,5 +1,6 @@
 ghost use Rattle.std.specs.Prelude.{◌≡◌, ◌<◌, ◌≤◌, length, option_map, IfOk, IfSome};
-ghost use Rattle.mystery_run.specs.CommandLines.{change_of, change_of_words};
+ghost use Rattle.mystery_run.specs.CommandLines.{change_of_words};
+ghost use Rattle.mystery_run.specs.inner.ParsedLines.{change_of};
 
 use crate::numbers::number_between;
 use session_rules::NamedChange;

@@ -1,10 +1,11 @@
 ghost use Rattle.std.specs.Prelude.{◌≡◌, ◌<◌, ◌≤◌, ◌^◌, length, option_map, IfSome};
 ghost use Rattle.std.specs.List.{list_all};
-ghost use Rattle.mystery_run.specs.CommandLines.{action_of, action_of_words, action_over};
-ghost use Rattle.mystery_run.specs.CommandLines.{call_of, call_of_line, call_of_words};
+ghost use Rattle.mystery_run.specs.CommandLines.{action_of_words, action_over};
+ghost use Rattle.mystery_run.specs.CommandLines.{call_of, call_of_words};
 ghost use Rattle.mystery_run.specs.CommandLines.{drill_of_words, is_filled, named_action};
 ghost use Rattle.mystery_run.specs.CommandLines.{verify_of_words, what_if_of_words};
 ghost use Rattle.mystery_run.specs.inner.Actions.{IsInRange, file_count};
+ghost use Rattle.mystery_run.specs.inner.ParsedLines.{action_of, call_of_line};
 
 use crate::action::Action;
 use crate::change_words::ChangeWords;

@@ -1,11 +1,11 @@
 ghost use Rattle.std.specs.Prelude.{◌≡◌, ◌≤◌, ◌<◌, Some};
 ghost use Rattle.session_rules.specs.declared.job.Job.TheVariants.{WhatIf};
-ghost use Rattle.mystery_run.specs.CommandLines.{change_of};
-ghost use Rattle.mystery_run.specs.Works.{jobs_from};
+ghost use Rattle.mystery_run.specs.Works.{work_from};
 ghost use Rattle.mystery_run.specs.inner.InputEnds.{InputEnds};
-ghost use Rattle.mystery_run.specs.inner.Inputs.{IsWithin, lines_said_by};
+ghost use Rattle.mystery_run.specs.inner.Inputs.{IsWithinLimit, lines_said_by};
 ghost use Rattle.mystery_run.specs.inner.Leaving.{LeavesSink};
 ghost use Rattle.mystery_run.specs.inner.OutcomeFaults.{outcome_faults};
+ghost use Rattle.mystery_run.specs.inner.ParsedLines.{change_of};
 
 use crate::Outcome;
 use crate::change_words::ChangeWords;
@@ -31,9 +31,9 @@ pub(crate) fn run_forecast<R: Threads + Sync, S: Sink, G: Gate + Sync>(
     requires most { workers ≤ 64 }
     requires positive { 0 < change.den }
     requires less { change.num ≤ change.den }
-    requires within { IsWithin input }
+    requires within { IsWithinLimit input }
     ensures ends { let last = WhatIf (change_of change.entry) in
-        InputEnds workers (jobs_from (Some last) (lines_said_by input)) result
+        InputEnds workers (work_from (Some last) (lines_said_by input)) result
         (S.written out.old) (S.written out.new) }
     ensures leaves { LeavesSink result out.old out.new }
     ensures counted { S.faults out.new ≡ outcome_faults result (S.faults out.old) }

@@ -4,8 +4,8 @@ ghost use Rattle.event_lines.specs.declared.command.Command.TheVariants.{Add};
 ghost use Rattle.event_lines.specs.declared.line.Line.TheVariants.{Control};
 ghost use Rattle.event_lines.specs.InputLines.{IsLineError};
 ghost use Rattle.job_runs.specs.Running.{AreReady};
-ghost use Rattle.mystery_run.specs.Works.{Jobs, jobs_from, jobs_with};
-ghost use Rattle.mystery_run.specs.inner.Inputs.{IsWithin, lines_said_by};
+ghost use Rattle.mystery_run.specs.Works.{Jobs, work_from, jobs_with};
+ghost use Rattle.mystery_run.specs.inner.Inputs.{IsWithinLimit, lines_said_by};
 ghost use Rattle.mystery_run.specs.inner.LastJobs.{IsLastJob};
 
 use crate::input::Input;
@@ -44,7 +44,7 @@ fn into_lines<R: Threads + Sync>(
     workers: u32,
     input: Input,
 ) -> Result<LineParts, LineError>
-    requires { IsWithin input }
+    requires { IsWithinLimit input }
     ensures lines { IfOk result (λ lines. lines_said_by input ≡ Ok lines) }
     ensures bad { IfErr result (IsLineError (lines_said_by input)) }
 {
@@ -65,10 +65,10 @@ pub(crate) fn read_jobs<R: Threads + Sync>(
     input: Input,
     last: Option<Job>,
 ) -> Result<Vec<Job>, LineError>
-    requires within { IsWithin input }
+    requires within { IsWithinLimit input }
     requires last { IfSome last IsLastJob }
     ensures said { IfOk result
-        (λ jobs. jobs_from last (lines_said_by input) ≡ Ok (Jobs jobs.items)) }
+        (λ jobs. work_from last (lines_said_by input) ≡ Ok (Jobs jobs.items)) }
     ensures ready { IfOk result (λ jobs. AreReady jobs.items) }
     ensures bad { IfErr result (IsLineError (lines_said_by input)) }
 {

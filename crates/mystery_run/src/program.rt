@@ -7,7 +7,7 @@ ghost use Rattle.session_rules.specs.declared.limit.Limit.{Limit};
 ghost use Rattle.mystery_run.specs.declared.outcome.Outcome.{Outcome};
 ghost use Rattle.mystery_run.specs.declared.outcome.Outcome.TheVariants.{BadLine, File, Over};
 ghost use Rattle.mystery_run.specs.declared.reason.Reason.{Reason};
-ghost use Rattle.mystery_run.specs.CommandLines.{action_of, all_files_of, call_of_line};
+ghost use Rattle.mystery_run.specs.CommandLines.{all_files_of};
 ghost use Rattle.mystery_run.specs.CommandLines.{certificate_of, files_of, is_in_grammar};
 ghost use Rattle.mystery_run.specs.Endings.{Ends, IsDecided};
 ghost use Rattle.mystery_run.specs.Messages.{status_of, message_of};
@@ -16,9 +16,10 @@ ghost use Rattle.mystery_run.specs.Runs.{run_seen, EndsAs, Explains, OfInputs, R
 ghost use Rattle.mystery_run.specs.Works.{work_after, work_with};
 ghost use Rattle.mystery_run.specs.inner.Actions.{IsInRange};
 ghost use Rattle.mystery_run.specs.inner.InputEnds.{InputEnds};
-ghost use Rattle.mystery_run.specs.inner.Inputs.{IsInputOf, IsWithin, form_of_action};
+ghost use Rattle.mystery_run.specs.inner.Inputs.{IsInputOf, IsWithinLimit, form_of_action};
 ghost use Rattle.mystery_run.specs.inner.Leaving.{LeavesFiles, LeavesSink};
 ghost use Rattle.mystery_run.specs.inner.OutcomeFaults.{outcome_faults, outcome_read_faults};
+ghost use Rattle.mystery_run.specs.inner.ParsedLines.{action_of, call_of_line};
 ghost use Rattle.mystery_run.specs.inner.ReadingTwice.{said_by};
 
 use crate::action::Action;
@@ -53,7 +54,7 @@ fn perform_with<R: Threads + Sync, S: Sink, G: Gate + Sync>(
     requires most { line.workers ≤ 64 }
     requires numbers { IsInRange (action_of line.action) }
     requires few { length claims < 2 ^ 32 }
-    requires within { IsWithin input }
+    requires within { IsWithinLimit input }
     ensures ends { let call = call_of_line line.entry in
         (bytes : List ℕ) → IsInputOf (form_of_action call.action) input bytes
         → InputEnds call.workers (work_with call.action claims bytes) result
@@ -99,7 +100,7 @@ fn perform_over<R: Threads + Sync, S: Sink, G: Gate + Sync>(
     requires most { line.workers ≤ 64 }
     requires numbers { IsInRange (action_of line.action) }
     requires few { IfOk (said_by readings.certificate) (λ claims. length claims < 2 ^ 32) }
-    requires within { IsWithin readings.input }
+    requires within { IsWithinLimit readings.input }
     ensures ends { let call = call_of_line line.entry in
         (bytes : List ℕ) → IsInputOf (form_of_action call.action) readings.input bytes
         → InputEnds call.workers (work_after call.action (said_by readings.certificate) bytes)

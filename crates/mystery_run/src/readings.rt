@@ -13,7 +13,7 @@ use crate::certificate::Certificate;
 use crate::input::Input;
 use crate::input_form::InputForm;
 use crate::line_intake::LineIntake;
-use certificates::{CertificateError, ClaimList, read_certificate};
+use certificates::{CertFault, ClaimList, read_certificate};
 use event_lines::{LineError, LineReader};
 use mystery_io::{Files, ReadFault, read_all, read_into};
 use std::alloc::Global;
@@ -86,8 +86,8 @@ fn read_claims<F: Files>(
         Ok(claims) => Ok(Certificate::Claims {
             claims: ClaimList::of(claims),
         }),
-        Err(CertificateError::Bad { line }) => Ok(Certificate::Bad { line }),
-        Err(CertificateError::Memory) => Err(ReadFault::Memory),
+        Err(CertFault::Bad { line }) => Ok(Certificate::Bad { line }),
+        Err(CertFault::Memory) => Err(ReadFault::Memory),
     }
 }
 

@@ -1,8 +1,8 @@
 ghost use Rattle.std.specs.Prelude.{◌≡◌, ◌≤◌, ◌<◌, IfSome};
 ghost use Rattle.job_runs.specs.Running.{AreReady};
-ghost use Rattle.mystery_run.specs.Works.{Jobs, jobs_from};
+ghost use Rattle.mystery_run.specs.Works.{Jobs, work_from};
 ghost use Rattle.mystery_run.specs.inner.InputEnds.{InputEnds};
-ghost use Rattle.mystery_run.specs.inner.Inputs.{IsWithin, lines_said_by};
+ghost use Rattle.mystery_run.specs.inner.Inputs.{IsWithinLimit, lines_said_by};
 ghost use Rattle.mystery_run.specs.inner.LastJobs.{IsLastJob};
 ghost use Rattle.mystery_run.specs.inner.Leaving.{LeavesSink};
 ghost use Rattle.mystery_run.specs.inner.OutcomeFaults.{outcome_faults};
@@ -54,8 +54,8 @@ pub(crate) fn run_session<R: Threads + Sync, S: Sink, G: Gate + Sync>(
     requires some { 0 < workers }
     requires most { workers ≤ 64 }
     requires last { IfSome last IsLastJob }
-    requires within { IsWithin input }
-    ensures ends { InputEnds workers (jobs_from last (lines_said_by input)) result
+    requires within { IsWithinLimit input }
+    ensures ends { InputEnds workers (work_from last (lines_said_by input)) result
         (S.written out.old) (S.written out.new) }
     ensures leaves { LeavesSink result out.old out.new }
     ensures counted { S.faults out.new ≡ outcome_faults result (S.faults out.old) }

@@ -15,7 +15,7 @@ use Rattle.pipeline_tests.specs.inner.Meetings.{AreMeetings, Meeting, takes_earl
 use Rattle.pipeline_tests.specs.inner.Pairs.{IsBetween, pair_hits}
 use Rattle.pipeline_tests.specs.inner.Stays.{IsStay, ElementsDiffer}
 use Rattle.pipeline_tests.proofs.MeetingLemmas.{some_meeting, by_meeting}
-use Rattle.refute_tests.specs.Clearing.{AddsExactly, early, is_at}
+use Rattle.refute_tests.specs.Clearing.{AddsExactly, starts_early, is_at}
 use Rattle.trace_types.specs.Parts.{by_number}
 use Rattle.trace_types.specs.Pipelines.{HandlesAt, StartsAt, EndsAt, TakesUnfinished, TakesOutOfOrder, RefutesUnshared}
 use Rattle.trace_types.specs.Refuting.{StartsEarly}
@@ -26,15 +26,15 @@ use Rattle.word_rows.specs.declared.entries.Entry.{Entry}
 
 -- ---- tests and what they mean
 
-early_means : (t : NamedTrace) (s u : NamedSegment) → early t.grace s u ≡ true → StartsEarly by_number t u s
+early_means : (t : NamedTrace) (s u : NamedSegment) → starts_early t.grace u s ≡ true → StartsEarly by_number t u s
 early_means t s u h = lt_z_yes (subst T (sym h) tt)
 
 is_true : (b : Bool) → T b → b ≡ true
 is_true true h = refl
 is_true false h = absurd h
 
-early_from : (t : NamedTrace) (s u : NamedSegment) → StartsEarly by_number t u s → early t.grace s u ≡ true
-early_from t s u h = is_true (early t.grace s u) h.lt
+early_from : (t : NamedTrace) (s u : NamedSegment) → StartsEarly by_number t u s → starts_early t.grace u s ≡ true
+early_from t s u h = is_true (starts_early t.grace u s) h.lt
 
 -- ---- where a stay begins and ends
 

@@ -12,8 +12,9 @@ use Rattle.hypothesis_index.specs.Refuting.{IsPlaceOfSome, Refutes}
 use Rattle.hypothesis_index.specs.declared.bit_place.BitPlace.{BitPlace}
 use Rattle.hypothesis_index.specs.declared.relation.Relation.{Relation}
 use Rattle.hypothesis_index.specs.declared.relation.Relation.TheVariants.{Before, Exclusive, Apart, Pipe, Unshared}
-use Rattle.pipeline_tests.specs.DayLaws.{RowsClearRefuted, MetRowsSurvive, FullWordsSurvive, CommonLacks, CommonSurvives, OrderOfTracesIsFree, WidenedLacks, WidenedSurvive, SurvivorsAreUnique}
-use Rattle.pipeline_tests.specs.Rows.{AreWholeRows, IsRefutedPlace, IsWholeRow}
+use Rattle.pipeline_tests.specs.DayLaws.{RowsClearRefuted, MetRowsSurvive, FullWordsSurvive, CommonLacks, OrderOfTracesIsFree, WidenedLacks, WidenedSurvive, SurvivorsAreUnique}
+use Rattle.pipeline_tests.specs.Rows.{AreWholeRows, IsWholeRow}
+use Rattle.refute_tests.specs.Survivors.{IsRefutedPlace}
 use Rattle.refute_tests.specs.Clearing.{HaveNamesBelow}
 use Rattle.trace_types.specs.declared.named_segment.NamedSegment.{NamedSegment}
 use Rattle.trace_types.specs.declared.named_trace.NamedTrace.{NamedTrace}
@@ -149,12 +150,6 @@ common_lacks traces others words other common a b long c = λ i k h l.
           (λ (o : Contains others q.0). let e = (b i k o' l).1 (lost_by others q.0 i k o q.2) in is ∙ omega arith)
           (Contains-append_cases traces others q.0 q.1)),
     )
-
-pub common_survives : CommonSurvives
-common_survives traces others words other common a b long c bound = record {
-  bound = bound;
-  bits = common_lacks traces others words other common a.bits b.bits long c;
-}
 
 pub order_of_traces_is_free : OrderOfTracesIsFree
 order_of_traces_is_free traces others words same a = record {

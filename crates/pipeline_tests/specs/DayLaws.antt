@@ -1,9 +1,9 @@
 -- What is promised of the words that traces leave, over the definitions alone.
 use Rattle.std.specs.Prelude.{◌≡◌, ℕ, ◌≤◌, true, ◌↔◌, List, [], ◌++◌, length, All, IsPermutation}
 use Rattle.hypothesis_index.specs.Places.{width_of}
-use Rattle.pipeline_tests.specs.Rows.{AreWholeRows, IsRefutedPlace, LackRefuted}
+use Rattle.pipeline_tests.specs.Rows.{AreWholeRows}
 use Rattle.refute_tests.specs.Clearing.{HaveNamesBelow}
-use Rattle.refute_tests.specs.Survivors.{AreSurvivors}
+use Rattle.refute_tests.specs.Survivors.{AreSurvivors, IsRefutedPlace, LackRefuted}
 use Rattle.trace_types.specs.declared.named_trace.NamedTrace.{NamedTrace}
 use Rattle.word_rows.specs.Rows.{rows_clear}
 use Rattle.word_rows.specs.Words.{AreWords, IsCommon, IsMeet, full_words, widened_words}
@@ -30,13 +30,6 @@ abbrev pub CommonLacks : Type 0
 CommonLacks = (traces others : List NamedTrace) (words other common : List ℕ)
     → LackRefuted traces words → LackRefuted others other → length words ≡ length other
     → IsCommon words other common → LackRefuted (traces ++ others) common
-
--- what the survivors of two lists of traces have in common are those of the one list after the
--- other
-abbrev pub CommonSurvives : Type 0
-CommonSurvives = (traces others : List NamedTrace) (words other common : List ℕ)
-    → AreSurvivors traces words → AreSurvivors others other → length words ≡ length other
-    → IsCommon words other common → AreWords common → AreSurvivors (traces ++ others) common
 
 -- the survivors of traces in one order are those of the traces in every order
 abbrev pub OrderOfTracesIsFree : Type 0

@@ -1,5 +1,5 @@
 //! Laws over the definitions alone: each function does nothing, and its contract is the law.
-ghost use Rattle.pipeline_tests.specs.DayLaws.{CommonLacks, CommonSurvives, FullWordsSurvive};
+ghost use Rattle.pipeline_tests.specs.DayLaws.{CommonLacks, FullWordsSurvive};
 ghost use Rattle.pipeline_tests.specs.DayLaws.{MetRowsSurvive, OrderOfTracesIsFree};
 ghost use Rattle.pipeline_tests.specs.DayLaws.{RowsClearRefuted, SurvivorsAreUnique};
 ghost use Rattle.pipeline_tests.specs.DayLaws.{WidenedLacks, WidenedSurvive};
@@ -25,12 +25,6 @@ pub fn full_words_survive()
 /// What two lists of words have in common lacks exactly what the traces of either refute.
 pub fn common_lacks()
     ensures { CommonLacks }
-{}
-
-/// What the survivors of two lists of traces have in common are those of the one list after the
-/// other.
-pub fn common_survives()
-    ensures { CommonSurvives }
 {}
 
 /// The survivors of traces do not depend on their order.

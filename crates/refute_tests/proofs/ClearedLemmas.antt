@@ -15,7 +15,7 @@ use Rattle.refute_tests.proofs.MarkLemmas.{by_truth}
 use Rattle.refute_tests.proofs.MaskLemmas.{pairs_below-512, slots_end}
 use Rattle.refute_tests.proofs.StepLemmas.{PairsFollow}
 use Rattle.refute_tests.proofs.WordLemmas.{apart_at, at_apart, at_backward, at_exclusive, at_forward, backward_at, exclusive_at, forward_at, kind_bits, mark_bit, moved_one, moved_two, not_moved}
-use Rattle.refute_tests.specs.Clearing.{early, is_at}
+use Rattle.refute_tests.specs.Clearing.{starts_early, is_at}
 use Rattle.refute_tests.specs.inner.Hits.{NamesRise, all_hits, hits}
 use Rattle.refute_tests.specs.inner.Marks.{backward_marks, early_name, forward_marks, has_mark, in_row, is_named, kinds_word, table_clears}
 use Rattle.word_rows.specs.Words.{AreWords}
@@ -50,7 +50,7 @@ module _ (grace : ℕ) (segments greater lesser : List NamedSegment) (pg : IsPer
   }
 
   forward_pair : (p c : ℕ) → list_any (λ t. forward_marks grace lesser t p c) greater ≡ true
-      → (s t : NamedSegment) × IsPair segments p s t × ((c ≡ 3) ⊎ ((c ≡ 0) × (early grace s t ≡ true)))
+      → (s t : NamedSegment) × IsPair segments p s t × ((c ≡ 3) ⊎ ((c ≡ 0) × (starts_early grace t s ≡ true)))
   forward_pair p c h =
       let a = Any-from_list_any (λ t. forward_marks grace lesser t p c) greater h in
       let t : NamedSegment = a.1 in
@@ -62,19 +62,19 @@ module _ (grace : ℕ) (segments greater lesser : List NamedSegment) (pg : IsPer
       let k = and_parts (c == 3) (is_named lesser m) o in
       let s = Any-from_list_any (λ (u : NamedSegment). m == u.name) lesser k.1 in
       let pair = found p m s.1 t (a.0, a.2, a.3) (s.0, s.2, s.3) r refl (eqb-true m s.1.name s.4) in
-      let kind : (c ≡ 3) ⊎ ((c ≡ 0) × (early grace s.1 t ≡ true)) = inl (eqb-true c 3 k.0) in
-      let whole : (s t : NamedSegment) × IsPair segments p s t × ((c ≡ 3) ⊎ ((c ≡ 0) × (early grace s t ≡ true))) = (s.1, t, pair, kind) in whole)
+      let kind : (c ≡ 3) ⊎ ((c ≡ 0) × (starts_early grace t s.1 ≡ true)) = inl (eqb-true c 3 k.0) in
+      let whole : (s t : NamedSegment) × IsPair segments p s t × ((c ≡ 3) ⊎ ((c ≡ 0) × (starts_early grace t s ≡ true))) = (s.1, t, pair, kind) in whole)
       (λ (o : ((c == 0) && early_name true grace lesser t m) ≡ true).
       let k = and_parts (c == 0) (early_name true grace lesser t m) o in
-      let s = Any-from_list_any (λ (u : NamedSegment). (m == u.name) && early grace u t) lesser k.1 in
-      let z = and_parts (m == s.1.name) (early grace s.1 t) s.4 in
+      let s = Any-from_list_any (λ (u : NamedSegment). (m == u.name) && starts_early grace t u) lesser k.1 in
+      let z = and_parts (m == s.1.name) (starts_early grace t s.1) s.4 in
       let pair = found p m s.1 t (a.0, a.2, a.3) (s.0, s.2, s.3) r refl (eqb-true m s.1.name z.0) in
-      let kind : (c ≡ 3) ⊎ ((c ≡ 0) × (early grace s.1 t ≡ true)) = inr (eqb-true c 0 k.0, z.1) in
-      let whole : (s t : NamedSegment) × IsPair segments p s t × ((c ≡ 3) ⊎ ((c ≡ 0) × (early grace s t ≡ true))) = (s.1, t, pair, kind) in whole)
+      let kind : (c ≡ 3) ⊎ ((c ≡ 0) × (starts_early grace t s.1 ≡ true)) = inr (eqb-true c 0 k.0, z.1) in
+      let whole : (s t : NamedSegment) × IsPair segments p s t × ((c ≡ 3) ⊎ ((c ≡ 0) × (starts_early grace t s ≡ true))) = (s.1, t, pair, kind) in whole)
       (or_cases ((c == 3) && is_named lesser m) ((c == 0) && early_name true grace lesser t m) q.1)
 
   backward_pair : (p c : ℕ) → list_any (λ t. backward_marks grace lesser t p c) greater ≡ true
-      → (s t : NamedSegment) × IsPair segments p s t × (c ≡ 0) × (early grace t s ≡ true)
+      → (s t : NamedSegment) × IsPair segments p s t × (c ≡ 0) × (starts_early grace s t ≡ true)
   backward_pair p c h =
       let a = Any-from_list_any (λ t. backward_marks grace lesser t p c) greater h in
       let t : NamedSegment = a.1 in
@@ -82,8 +82,8 @@ module _ (grace : ℕ) (segments greater lesser : List NamedSegment) (pg : IsPer
       let q = and_parts (in_row t.name p) ((c == 0) && early_name false grace lesser t m) a.4 in
       let r = row_means t.name p q.0 in
       let k = and_parts (c == 0) (early_name false grace lesser t m) q.1 in
-      let s = Any-from_list_any (λ (u : NamedSegment). (m == u.name) && early grace t u) lesser k.1 in
-      let z = and_parts (m == s.1.name) (early grace t s.1) s.4 in
+      let s = Any-from_list_any (λ (u : NamedSegment). (m == u.name) && starts_early grace u t) lesser k.1 in
+      let z = and_parts (m == s.1.name) (starts_early grace s.1 t) s.4 in
       let pair = found p m s.1 t (a.0, a.2, a.3) (s.0, s.2, s.3) r refl (eqb-true m s.1.name z.0) in
       (s.1, t, pair, eqb-true c 0 k.0, z.1)
 
@@ -99,21 +99,21 @@ module _ (grace : ℕ) (segments greater lesser : List NamedSegment) (pg : IsPer
       passes (λ u. forward_marks grace lesser u p 3) greater t (Contains-permutation segments greater t gp pair.greater)
       (and_from (in_row t.name p) (is_named lesser m || false) (row_from t.name p r.0 r.1) (or_left (is_named lesser m) false named))
 
-  pub forward : (p : ℕ) (s t : NamedSegment) → IsPair segments p s t → early grace s t ≡ true → list_any (λ u. forward_marks grace lesser u p 0) greater ≡ true
+  pub forward : (p : ℕ) (s t : NamedSegment) → IsPair segments p s t → starts_early grace t s ≡ true → list_any (λ u. forward_marks grace lesser u p 0) greater ≡ true
   forward p s t pair is =
       let r = in_greater p s t pair in
       let m : ℕ = p - pairs_below t.name in
-      let named = passes (λ (u : NamedSegment). (m == u.name) && early grace u t) lesser s (Contains-permutation segments lesser s lp pair.lesser)
-      (and_from (m == s.name) (early grace s t) (eq-eqb m s.name r.2) is) in
+      let named = passes (λ (u : NamedSegment). (m == u.name) && starts_early grace t u) lesser s (Contains-permutation segments lesser s lp pair.lesser)
+      (and_from (m == s.name) (starts_early grace t s) (eq-eqb m s.name r.2) is) in
       passes (λ u. forward_marks grace lesser u p 0) greater t (Contains-permutation segments greater t gp pair.greater)
       (and_from (in_row t.name p) (early_name true grace lesser t m) (row_from t.name p r.0 r.1) named)
 
-  pub backward : (p : ℕ) (s t : NamedSegment) → IsPair segments p s t → early grace t s ≡ true → list_any (λ u. backward_marks grace lesser u p 0) greater ≡ true
+  pub backward : (p : ℕ) (s t : NamedSegment) → IsPair segments p s t → starts_early grace s t ≡ true → list_any (λ u. backward_marks grace lesser u p 0) greater ≡ true
   backward p s t pair is =
       let r = in_greater p s t pair in
       let m : ℕ = p - pairs_below t.name in
-      let named = passes (λ (u : NamedSegment). (m == u.name) && early grace t u) lesser s (Contains-permutation segments lesser s lp pair.lesser)
-      (and_from (m == s.name) (early grace t s) (eq-eqb m s.name r.2) is) in
+      let named = passes (λ (u : NamedSegment). (m == u.name) && starts_early grace u t) lesser s (Contains-permutation segments lesser s lp pair.lesser)
+      (and_from (m == s.name) (starts_early grace s t) (eq-eqb m s.name r.2) is) in
       passes (λ u. backward_marks grace lesser u p 0) greater t (Contains-permutation segments greater t gp pair.greater)
       (and_from (in_row t.name p) (early_name false grace lesser t m) (row_from t.name p r.0 r.1) named)
 
@@ -137,25 +137,25 @@ spot i b kind h l m e = (omega arith, omega arith)
 
 module _ (follow : PairsFollow) (grace : ℕ) (segments : List NamedSegment) (rise : NamesRise segments) (forward_words backward_words : List ℕ)
     (narrow : (k : ℕ) → slice_index forward_words k < 2 ^ 64)
-    (to_pair : (p c : ℕ) → c < 4 → has_mark forward_words p c ≡ true → (s t : NamedSegment) × IsPair segments p s t × ((c ≡ 3) ⊎ ((c ≡ 0) × (early grace s t ≡ true))))
-    (to_back : (p c : ℕ) → c < 4 → has_mark backward_words p c ≡ true → (s t : NamedSegment) × IsPair segments p s t × (c ≡ 0) × (early grace t s ≡ true))
+    (to_pair : (p c : ℕ) → c < 4 → has_mark forward_words p c ≡ true → (s t : NamedSegment) × IsPair segments p s t × ((c ≡ 3) ⊎ ((c ≡ 0) × (starts_early grace t s ≡ true))))
+    (to_back : (p c : ℕ) → c < 4 → has_mark backward_words p c ≡ true → (s t : NamedSegment) × IsPair segments p s t × (c ≡ 0) × (starts_early grace s t ≡ true))
     (is_there : (p : ℕ) (s t : NamedSegment) → IsPair segments p s t → has_mark forward_words p 3 ≡ true)
-    (is_forward : (p : ℕ) (s t : NamedSegment) → IsPair segments p s t → early grace s t ≡ true → has_mark forward_words p 0 ≡ true)
-    (is_backward : (p : ℕ) (s t : NamedSegment) → IsPair segments p s t → early grace t s ≡ true → has_mark backward_words p 0 ≡ true) where
+    (is_forward : (p : ℕ) (s t : NamedSegment) → IsPair segments p s t → starts_early grace t s ≡ true → has_mark forward_words p 0 ≡ true)
+    (is_backward : (p : ℕ) (s t : NamedSegment) → IsPair segments p s t → starts_early grace s t ≡ true → has_mark backward_words p 0 ≡ true) where
   cleared : (i b : ℕ) (s t : NamedSegment) (p : ℕ) → IsPair segments p s t → hits grace s t i b ≡ true → all_hits grace segments (length segments) i b ≡ true
   cleared i b s t p pair h = pair_cleared segments rise grace s t pair.lesser pair.greater pair.rises i b h
 
   -- ---- what a pair of this number refutes
-  hit_forward : (i b p : ℕ) (s t : NamedSegment) → IsPair segments p s t → early grace s t ≡ true → (126 + p / 16 ≡ i) × (4 * (p % 16) + 0 ≡ b) → hits grace s t i b ≡ true
-  hit_forward i b p s t pair e at = or_left _ _ (or_left _ _ (or_left _ _ (and_from (early grace s t) (is_at (Before s.name t.name) i b) e
+  hit_forward : (i b p : ℕ) (s t : NamedSegment) → IsPair segments p s t → starts_early grace t s ≡ true → (126 + p / 16 ≡ i) × (4 * (p % 16) + 0 ≡ b) → hits grace s t i b ≡ true
+  hit_forward i b p s t pair e at = or_left _ _ (or_left _ _ (or_left _ _ (and_from (starts_early grace t s) (is_at (Before s.name t.name) i b) e
       (at_from (Before s.name t.name) i b _ (forward_at s.name t.name p i b pair.rises pair.number at.0 at.1) refl))))
 
-  hit_backward : (i b p : ℕ) (s t : NamedSegment) → IsPair segments p s t → early grace t s ≡ true → (126 + p / 16 ≡ i) × (4 * (p % 16) + 1 ≡ b) → hits grace s t i b ≡ true
-  hit_backward i b p s t pair e at = or_left _ _ (or_left _ _ (or_right _ _ (and_from (early grace t s) (is_at (Before t.name s.name) i b) e
+  hit_backward : (i b p : ℕ) (s t : NamedSegment) → IsPair segments p s t → starts_early grace s t ≡ true → (126 + p / 16 ≡ i) × (4 * (p % 16) + 1 ≡ b) → hits grace s t i b ≡ true
+  hit_backward i b p s t pair e at = or_left _ _ (or_left _ _ (or_right _ _ (and_from (starts_early grace s t) (is_at (Before t.name s.name) i b) e
       (at_from (Before t.name s.name) i b _ (backward_at s.name t.name p i b pair.rises pair.number at.0 at.1) refl))))
 
-  hit_exclusive : (i b p : ℕ) (s t : NamedSegment) → IsPair segments p s t → early grace s t ≡ true → early grace t s ≡ true → (126 + p / 16 ≡ i) × (4 * (p % 16) + 2 ≡ b) → hits grace s t i b ≡ true
-  hit_exclusive i b p s t pair e f at = or_left _ _ (or_right _ _ (and_from (early grace s t && early grace t s) (is_at (Exclusive s.name t.name) i b) (and_from (early grace s t) (early grace t s) e f)
+  hit_exclusive : (i b p : ℕ) (s t : NamedSegment) → IsPair segments p s t → starts_early grace t s ≡ true → starts_early grace s t ≡ true → (126 + p / 16 ≡ i) × (4 * (p % 16) + 2 ≡ b) → hits grace s t i b ≡ true
+  hit_exclusive i b p s t pair e f at = or_left _ _ (or_right _ _ (and_from (starts_early grace t s && starts_early grace s t) (is_at (Exclusive s.name t.name) i b) (and_from (starts_early grace t s) (starts_early grace s t) e f)
       (at_from (Exclusive s.name t.name) i b _ (exclusive_at s.name t.name p i b pair.rises pair.number at.0 at.1) refl)))
 
   hit_apart : (i b p : ℕ) (s t : NamedSegment) → IsPair segments p s t → (126 + p / 16 ≡ i) × (4 * (p % 16) + 3 ≡ b) → hits grace s t i b ≡ true
@@ -174,7 +174,7 @@ module _ (follow : PairsFollow) (grace : ℕ) (segments : List NamedSegment) (ri
       let a = to_pair p (b % 4) (omega arith) (mark_bit forward_words (i - 126) b l ∙ is) in
       ⊎_elim
       (λ (e : b % 4 ≡ 3). cleared i b a.0 a.1 p a.2 (hit_apart i b p a.0 a.1 a.2 (spot i b 3 h l (omega arith) e)))
-      (λ (e : (b % 4 ≡ 0) × (early grace a.0 a.1 ≡ true)). cleared i b a.0 a.1 p a.2 (hit_forward i b p a.0 a.1 a.2 e.1 (spot i b 0 h l (omega arith) e.0)))
+      (λ (e : (b % 4 ≡ 0) × (starts_early grace a.1 a.0 ≡ true)). cleared i b a.0 a.1 p a.2 (hit_forward i b p a.0 a.1 a.2 e.1 (spot i b 0 h l (omega arith) e.0)))
       a.3
 
   moved : (i b k kind : ℕ) → 126 ≤ i → b < 64 → k ≤ b → k < 4 → kind ≡ k → (b - k) % 4 ≡ 0 → (126 + (16 * (i - 126) + (b - k) / 4) / 16 ≡ i) × (4 * ((16 * (i - 126) + (b - k) / 4) % 16) + kind ≡ b)
@@ -192,10 +192,10 @@ module _ (follow : PairsFollow) (grace : ℕ) (segments : List NamedSegment) (ri
       let a = to_back p ((b - 2) % 4) (omega arith) (mark_bit backward_words (i - 126) (b - 2) (omega arith) ∙ also) in
       let c = to_pair p ((b - 2) % 4) (omega arith) (mark_bit forward_words (i - 126) (b - 2) (omega arith) ∙ is) in
       let same = same_pair follow segments rise p c.0 c.1 a.0 a.1 c.2 a.2 in
-      let back : early grace c.1 c.0 ≡ true = subst (λ (v : NamedSegment). early grace v c.0 ≡ true) (sym same.1) (subst (λ (v : NamedSegment). early grace a.1 v ≡ true) (sym same.0) a.4) in
+      let back : starts_early grace c.0 c.1 ≡ true = subst (λ (v : NamedSegment). starts_early grace c.0 v ≡ true) (sym same.1) (subst (λ (v : NamedSegment). starts_early grace v a.1 ≡ true) (sym same.0) a.4) in
       ⊎_elim
       (λ (e : (b - 2) % 4 ≡ 3). absurd (let z = a.3 in omega arith))
-      (λ (e : ((b - 2) % 4 ≡ 0) × (early grace c.0 c.1 ≡ true)). cleared i b c.0 c.1 p c.2 (hit_exclusive i b p c.0 c.1 c.2 e.1 back (moved i b 2 2 h l m (omega arith) refl a.3)))
+      (λ (e : ((b - 2) % 4 ≡ 0) × (starts_early grace c.1 c.0 ≡ true)). cleared i b c.0 c.1 p c.2 (hit_exclusive i b p c.0 c.1 c.2 e.1 back (moved i b 2 2 h l m (omega arith) refl a.3)))
       c.3
 
   -- ---- from a pair to a bit of the tables
@@ -207,24 +207,24 @@ module _ (follow : PairsFollow) (grace : ℕ) (segments : List NamedSegment) (ri
 
   to_table : (i b p : ℕ) (s t : NamedSegment) → IsPair segments p s t → hits grace s t i b ≡ true → table_clears forward_words backward_words i b ≡ true
   to_table i b p s t pair hit = ⊎_elim
-      (λ (o : ((early grace s t && is_at (Before s.name t.name) i b) || (early grace t s && is_at (Before t.name s.name) i b)) || ((early grace s t && early grace t s) && is_at (Exclusive s.name t.name) i b) ≡ true).
+      (λ (o : ((starts_early grace t s && is_at (Before s.name t.name) i b) || (starts_early grace s t && is_at (Before t.name s.name) i b)) || ((starts_early grace t s && starts_early grace s t) && is_at (Exclusive s.name t.name) i b) ≡ true).
       ⊎_elim
-      (λ (q : (early grace s t && is_at (Before s.name t.name) i b) || (early grace t s && is_at (Before t.name s.name) i b) ≡ true).
+      (λ (q : (starts_early grace t s && is_at (Before s.name t.name) i b) || (starts_early grace s t && is_at (Before t.name s.name) i b) ≡ true).
       ⊎_elim
-      (λ (r : (early grace s t && is_at (Before s.name t.name) i b) ≡ true).
-      let d = and_parts (early grace s t) (is_at (Before s.name t.name) i b) r in
+      (λ (r : (starts_early grace t s && is_at (Before s.name t.name) i b) ≡ true).
+      let d = and_parts (starts_early grace t s) (is_at (Before s.name t.name) i b) r in
       let at = at_forward s.name t.name p i b pair.rises pair.number (at_means (Before s.name t.name) i b d.1) in
       let w = at.0 in let e = at.1 in
       shows i b (omega arith) (kind_bits (f i) (g i) b ∙ or_left _ _ (or_left _ _ (forward_bit i b p 0 w e (omega arith) forward_words (is_forward p s t pair d.0)))))
-      (λ (r : (early grace t s && is_at (Before t.name s.name) i b) ≡ true).
-      let d = and_parts (early grace t s) (is_at (Before t.name s.name) i b) r in
+      (λ (r : (starts_early grace s t && is_at (Before t.name s.name) i b) ≡ true).
+      let d = and_parts (starts_early grace s t) (is_at (Before t.name s.name) i b) r in
       let at = at_backward s.name t.name p i b pair.rises pair.number (at_means (Before t.name s.name) i b d.1) in
       let w = at.0 in let e = at.1 in
       shows i b (omega arith) (kind_bits (f i) (g i) b ∙ or_left _ _ (or_right _ _ (moved_one (g i) b (omega arith) (omega arith) ∙ forward_bit i (b - 1) p 0 w (omega arith) (omega arith) backward_words (is_backward p s t pair d.0)))))
       (or_cases _ _ q))
-      (λ (q : ((early grace s t && early grace t s) && is_at (Exclusive s.name t.name) i b) ≡ true).
-      let d = and_parts (early grace s t && early grace t s) (is_at (Exclusive s.name t.name) i b) q in
-      let u = and_parts (early grace s t) (early grace t s) d.0 in
+      (λ (q : ((starts_early grace t s && starts_early grace s t) && is_at (Exclusive s.name t.name) i b) ≡ true).
+      let d = and_parts (starts_early grace t s && starts_early grace s t) (is_at (Exclusive s.name t.name) i b) q in
+      let u = and_parts (starts_early grace t s) (starts_early grace s t) d.0 in
       let at = at_exclusive s.name t.name p i b pair.rises pair.number (at_means (Exclusive s.name t.name) i b d.1) in
       let w = at.0 in let e = at.1 in
       shows i b (omega arith) (kind_bits (f i) (g i) b ∙ or_right _ _ (moved_two (f i) (g i) b (omega arith) (omega arith)

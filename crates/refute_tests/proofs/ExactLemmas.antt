@@ -16,7 +16,7 @@ use Rattle.hypothesis_index.specs.declared.bit_place.BitPlace.{BitPlace}
 use Rattle.hypothesis_index.specs.declared.relation.Relation.TheVariants.{Before, Exclusive, Apart, Pipe, Unshared}
 use Rattle.hypothesis_index.specs.declared.relation.Relation.{Relation}
 use Rattle.refute_tests.proofs.StepLemmas.{any_below-some, any_below-from}
-use Rattle.refute_tests.specs.Clearing.{AddsExactly, ClearsExactly, early, is_at}
+use Rattle.refute_tests.specs.Clearing.{AddsExactly, ClearsExactly, starts_early, is_at}
 use Rattle.refute_tests.specs.inner.Hits.{NamesRise, hits, row_hits, all_hits}
 use Rattle.trace_types.specs.Parts.{by_number}
 use Rattle.trace_types.specs.Refuting.{StartsEarly}
@@ -25,15 +25,15 @@ use Rattle.trace_types.specs.declared.named_trace.NamedTrace.{NamedTrace}
 use Rattle.word_rows.specs.Rows.{clears}
 use Rattle.word_rows.specs.declared.entries.Entry.{Entry}
 
-early_means : (t : NamedTrace) (s u : NamedSegment) → early t.grace s u ≡ true → StartsEarly by_number t u s
+pub early_means : (t : NamedTrace) (s u : NamedSegment) → starts_early t.grace u s ≡ true → StartsEarly by_number t u s
 early_means t s u h = lt_z_yes (subst T (sym h) tt)
 
 is_true : (b : Bool) → T b → b ≡ true
 is_true true h = refl
 is_true false h = absurd h
 
-early_from : (t : NamedTrace) (s u : NamedSegment) → StartsEarly by_number t u s → early t.grace s u ≡ true
-early_from t s u h = is_true (early t.grace s u) h.lt
+pub early_from : (t : NamedTrace) (s u : NamedSegment) → StartsEarly by_number t u s → starts_early t.grace u s ≡ true
+early_from t s u h = is_true (starts_early t.grace u s) h.lt
 
 pub at_means : (r : Relation) (i b : ℕ) → is_at r i b ≡ true → place_of r ≡ record { word = i; bit = b }
 at_means r i b h = let p = and_parts ((place_of r).word == i) ((place_of r).bit == b) h in let w = eqb-true (place_of r).word i p.0 in let e = eqb-true (place_of r).bit b p.1 in λ k. record { word = w k; bit = e k }
@@ -107,16 +107,16 @@ module _ (t : NamedTrace) (ys : List NamedSegment) (perm : IsPermutation t.segme
   found s u i b cs cu up hit =
       let top : u.name < 512 = u.name_below in
       ⊎_elim
-      (λ (p : ((early t.grace s u && is_at (Before s.name u.name) i b) || (early t.grace u s && is_at (Before u.name s.name) i b)) || ((early t.grace s u && early t.grace u s) && is_at (Exclusive s.name u.name) i b) ≡ true).
+      (λ (p : ((starts_early t.grace u s && is_at (Before s.name u.name) i b) || (starts_early t.grace s u && is_at (Before u.name s.name) i b)) || ((starts_early t.grace u s && starts_early t.grace s u) && is_at (Exclusive s.name u.name) i b) ≡ true).
       ⊎_elim
-      (λ (q : (early t.grace s u && is_at (Before s.name u.name) i b) || (early t.grace u s && is_at (Before u.name s.name) i b) ≡ true).
+      (λ (q : (starts_early t.grace u s && is_at (Before s.name u.name) i b) || (starts_early t.grace s u && is_at (Before u.name s.name) i b) ≡ true).
       ⊎_elim
-      (λ (o : (early t.grace s u && is_at (Before s.name u.name) i b) ≡ true). let d = and_parts (early t.grace s u) (is_at (Before s.name u.name) i b) o in
+      (λ (o : (starts_early t.grace u s && is_at (Before s.name u.name) i b) ≡ true). let d = and_parts (starts_early t.grace u s) (is_at (Before s.name u.name) i b) o in
       let r : IsPlaceOfSome (λ r. RefutesNames r t) i b = (Before s.name u.name, ((λ e. omega arith), omega arith, top), at_means (Before s.name u.name) i b d.1, (s, u, cs, cu, refl, refl, early_means t s u d.0)) in r)
-      (λ (o : (early t.grace u s && is_at (Before u.name s.name) i b) ≡ true). let d = and_parts (early t.grace u s) (is_at (Before u.name s.name) i b) o in
+      (λ (o : (starts_early t.grace s u && is_at (Before u.name s.name) i b) ≡ true). let d = and_parts (starts_early t.grace s u) (is_at (Before u.name s.name) i b) o in
       let r : IsPlaceOfSome (λ r. RefutesNames r t) i b = (Before u.name s.name, ((λ e. omega arith), top, omega arith), at_means (Before u.name s.name) i b d.1, (u, s, cu, cs, refl, refl, early_means t u s d.0)) in r)
       (or_cases _ _ q))
-      (λ (q : ((early t.grace s u && early t.grace u s) && is_at (Exclusive s.name u.name) i b) ≡ true). let d = and_parts (early t.grace s u && early t.grace u s) (is_at (Exclusive s.name u.name) i b) q in let f = and_parts (early t.grace s u) (early t.grace u s) d.0 in
+      (λ (q : ((starts_early t.grace u s && starts_early t.grace s u) && is_at (Exclusive s.name u.name) i b) ≡ true). let d = and_parts (starts_early t.grace u s && starts_early t.grace s u) (is_at (Exclusive s.name u.name) i b) q in let f = and_parts (starts_early t.grace u s) (starts_early t.grace s u) d.0 in
       let r : IsPlaceOfSome (λ r. RefutesNames r t) i b = (Exclusive s.name u.name, (up, top), at_means (Exclusive s.name u.name) i b d.1, (s, u, cs, cu, refl, refl, (early_means t u s f.1, early_means t s u f.0))) in r)
       (or_cases _ _ p))
       (λ (p : is_at (Apart s.name u.name) i b ≡ true). let r : IsPlaceOfSome (λ r. RefutesNames r t) i b = (Apart s.name u.name, (up, top), at_means (Apart s.name u.name) i b p, (s, u, cs, cu, refl, refl, tt)) in r)
@@ -133,7 +133,7 @@ module _ (t : NamedTrace) (ys : List NamedSegment) (perm : IsPermutation t.segme
   pair_hit s u cs cu less i b p = pair_cleared ys rise t.grace s u (stands s cs) (stands u cu) less i b p
 
   before_hit : (s u : NamedSegment) → Contains t.segments s → Contains t.segments u → s.name ≢ u.name → StartsEarly by_number t u s → (i b : ℕ) → is_at (Before s.name u.name) i b ≡ true → all_hits t.grace ys (length ys) i b ≡ true
-  before_hit s u cs cu apart l i b p = let o = and_from (early t.grace s u) (is_at (Before s.name u.name) i b) (early_from t s u l) p in ⊎_elim
+  before_hit s u cs cu apart l i b p = let o = and_from (starts_early t.grace u s) (is_at (Before s.name u.name) i b) (early_from t s u l) p in ⊎_elim
       (λ (e : s.name ≡ u.name). absurd (apart e))
       (⊎_elim
       (λ (e : s.name < u.name). pair_hit s u cs cu e i b (or_left _ _ (or_left _ _ (or_left _ _ o))))

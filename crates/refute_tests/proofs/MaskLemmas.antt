@@ -6,10 +6,10 @@ use Rattle.std.proofs.lemmas.Bool.{cases_eq, cases_lt, cond-true, cond-false, eq
 use Rattle.std.proofs.lemmas.Nat.{pow_pos}
 use Rattle.std.proofs.lemmas.Nat.Bits.{bit_at_above, bit_at_cat_low, bit_at_cat_high, bit_at_or, bit_at-lt, bit_at-zero}
 use Rattle.std.specs.Int.{bit_at}
-use Rattle.hypothesis_index.specs.Places.{place_of, place_in, pair_number, pairs_below}
+use Rattle.hypothesis_index.specs.Places.{place_of, pair_place, pair_number, pairs_below}
 use Rattle.hypothesis_index.specs.declared.bit_place.BitPlace.{BitPlace}
 use Rattle.hypothesis_index.specs.declared.relation.Relation.TheVariants.{Before}
-use Rattle.refute_tests.specs.Clearing.{early, is_at}
+use Rattle.refute_tests.specs.Clearing.{starts_early, is_at}
 use Rattle.refute_tests.proofs.StepLemmas.{PairsFollow}
 use Rattle.refute_tests.specs.inner.Hits.{clears_with, hits, kinds_of, word_of}
 use Rattle.trace_types.specs.declared.named_segment.NamedSegment.{NamedSegment}
@@ -95,11 +95,11 @@ module _ (low high : ℕ) (rises : low < high) where
   abbrev first_bit : ℕ
   first_bit = 4 * (pair_number low high % 16)
 
-  pub upward : place_of (Before low high) ≡ place_in 126 low high 0
-  upward = cond-true (nat_lt low high) (place_in 126 low high 0) (place_in 126 high low 1) (lt-ltb low high rises)
+  pub upward : place_of (Before low high) ≡ pair_place 126 low high 0
+  upward = cond-true (nat_lt low high) (pair_place 126 low high 0) (pair_place 126 high low 1) (lt-ltb low high rises)
 
-  pub downward : place_of (Before high low) ≡ place_in 126 low high 1
-  downward = cond-false (nat_lt high low) (place_in 126 high low 0) (place_in 126 low high 1) (le-ltb high low (omega arith))
+  pub downward : place_of (Before high low) ≡ pair_place 126 low high 1
+  downward = cond-false (nat_lt high low) (pair_place 126 high low 0) (pair_place 126 low high 1) (le-ltb high low (omega arith))
 
   mask_bits : (f g : Bool) (i b : ℕ) → ((word_of low high == i) && (bit_at (kinds_of f g * 2 ^ (first_bit + 0) % 2 ^ 64) b == 1))
       ≡ ((((f && is_at (Before low high) i b) || (g && is_at (Before high low) i b)) || ((f && g) && ((word_of low high == i) && (first_bit + 2 == b)))) || ((word_of low high == i) && (first_bit + 3 == b)))
@@ -117,17 +117,17 @@ module _ (low high : ℕ) (rises : low < high) where
 
 -- the mask of a pair, at its slot, has the bits that the pair refutes
 pub pair_mask : (grace : ℕ) (s t : NamedSegment) → s.name < t.name → (slot : ℕ) → slot ≡ 2016 + pairs_below t.name + s.name → (i b : ℕ)
-    → ((slot / 16 == i) && (bit_at (kinds_of (early grace s t) (early grace t s) * 2 ^ (4 * (slot % 16)) % 2 ^ 64) b == 1)) ≡ hits grace s t i b
+    → ((slot / 16 == i) && (bit_at (kinds_of (starts_early grace t s) (starts_early grace s t) * 2 ^ (4 * (slot % 16)) % 2 ^ 64) b == 1)) ≡ hits grace s t i b
 pair_mask grace s t rises slot is i b =
     let word : slot / 16 ≡ word_of s.name t.name = omega arith in
     let bit : 4 * (slot % 16) ≡ 4 * (pair_number s.name t.name % 16) + 0 = omega arith in
-    (λ j. (word j == i) && (bit_at (kinds_of (early grace s t) (early grace t s) * 2 ^ bit j % 2 ^ 64) b == 1))
-    ∙ mask_bits s.name t.name rises (early grace s t) (early grace t s) i b
+    (λ j. (word j == i) && (bit_at (kinds_of (starts_early grace t s) (starts_early grace s t) * 2 ^ bit j % 2 ^ 64) b == 1))
+    ∙ mask_bits s.name t.name rises (starts_early grace t s) (starts_early grace s t) i b
 
 -- ---- the place of a pair that gives the slots of its row
 pub slot_of : (low high : ℕ) → low < high → (place : BitPlace) → place ≡ place_of (Before low high) → 16 * place.word + place.bit / 4 ≡ 2016 + pairs_below high + low
 slot_of low high rises place is =
-    let at : place ≡ place_in 126 low high 0 = is ∙ upward low high rises in
+    let at : place ≡ pair_place 126 low high 0 = is ∙ upward low high rises in
     let word : place.word ≡ word_of low high = ap (λ (p : BitPlace). p.word) at in
     let bit : place.bit ≡ 4 * (pair_number low high % 16) + 0 = ap (λ (p : BitPlace). p.bit) at in
     omega arith

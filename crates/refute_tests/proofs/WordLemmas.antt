@@ -2,7 +2,7 @@
 use Rattle.std.proofs.Common.{◌≡◌, ℕ, zero, suc, ◌+◌, ◌-◌, ◌*◌, ◌/◌, ◌%◌, ◌^◌, ◌<◌, ◌≤◌, Bool, false, ◌&&◌, ◌||◌, ◌==◌, min, bit_or, bit_and, List, get_or, refl, sym, ap, ◌∙◌, arith}
 use Rattle.std.proofs.lemmas.Nat.Bits.{bit_at_and, bit_at-lt}
 use Rattle.std.specs.Int.{bit_at}
-use Rattle.hypothesis_index.specs.Places.{place_of, place_in, pairs_below}
+use Rattle.hypothesis_index.specs.Places.{place_of, pair_place, pairs_below}
 use Rattle.hypothesis_index.specs.declared.bit_place.BitPlace.{BitPlace}
 use Rattle.hypothesis_index.specs.declared.relation.Relation.TheVariants.{Before, Exclusive, Apart}
 use Rattle.refute_tests.proofs.MarkLemmas.{read_at, up_high, up_low}
@@ -42,13 +42,13 @@ mark_bit words w b h = let k : 4 * (b / 4) + b % 4 ≡ b = omega arith in
 
 -- ---- the place of each kind of the pair with this number
 module _ (low high p i b : ℕ) (rises : low < high) (pair : p ≡ pairs_below high + low) where
-  placed : (kind : ℕ) → 126 + p / 16 ≡ i → 4 * (p % 16) + kind ≡ b → place_in 126 low high kind ≡ record { word = i; bit = b }
+  placed : (kind : ℕ) → 126 + p / 16 ≡ i → 4 * (p % 16) + kind ≡ b → pair_place 126 low high kind ≡ record { word = i; bit = b }
   placed kind w e =
-      let ew : (place_in 126 low high kind).word ≡ i = ap (λ (n : ℕ). 126 + n / 16) (sym pair) ∙ w in
-      let eb : (place_in 126 low high kind).bit ≡ b = ap (λ (n : ℕ). 4 * (n % 16) + kind) (sym pair) ∙ e in
+      let ew : (pair_place 126 low high kind).word ≡ i = ap (λ (n : ℕ). 126 + n / 16) (sym pair) ∙ w in
+      let eb : (pair_place 126 low high kind).bit ≡ b = ap (λ (n : ℕ). 4 * (n % 16) + kind) (sym pair) ∙ e in
       λ j. record { word = ew j; bit = eb j }
 
-  word_is : (kind : ℕ) → place_in 126 low high kind ≡ record { word = i; bit = b } → (126 + p / 16 ≡ i) × (4 * (p % 16) + kind ≡ b)
+  word_is : (kind : ℕ) → pair_place 126 low high kind ≡ record { word = i; bit = b } → (126 + p / 16 ≡ i) × (4 * (p % 16) + kind ≡ b)
   word_is kind e = (
     ap (λ (n : ℕ). 126 + n / 16) pair ∙ ap (λ (q : BitPlace). q.word) e,
     ap (λ (n : ℕ). 4 * (n % 16) + kind) pair ∙ ap (λ (q : BitPlace). q.bit) e,

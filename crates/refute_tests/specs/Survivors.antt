@@ -6,9 +6,18 @@ use Rattle.trace_types.specs.declared.named_trace.NamedTrace.{NamedTrace}
 use Rattle.trace_types.specs.Surviving.{IsRefuted}
 use Rattle.word_rows.specs.Words.{AreWords, bit_of}
 
--- words of 64 bits in which a bit is 0 exactly where it is the place of a relation that some trace
--- of the list refutes
+-- this bit is the place of a relation that some trace of the list refutes
+abbrev pub IsRefutedPlace : List NamedTrace → ℕ → ℕ → Type 0
+IsRefutedPlace traces word bit =
+    IsPlaceOfSome (λ (r : Relation). IsRefuted (Refutes r) traces) word bit
+
+-- a bit of these words is 0 exactly where it is the place of a relation that some trace of the list
+-- refutes
+abbrev pub LackRefuted : List NamedTrace → List ℕ → Type 0
+LackRefuted traces words = (i b : ℕ) → i < length words → b < 64
+    → (bit_of words i b ≡ 0) ↔ IsRefutedPlace traces i b
+
+-- words of 64 bits that lack exactly what the traces of the list refute
 pub record AreSurvivors (traces : List NamedTrace) (words : List ℕ) : Type 0 where
   pub bound : AreWords words
-  pub bits : (i b : ℕ) → i < length words → b < 64 → (bit_of words i b ≡ 0)
-      ↔ IsPlaceOfSome (λ (r : Relation). IsRefuted (Refutes r) traces) i b
+  pub bits : LackRefuted traces words

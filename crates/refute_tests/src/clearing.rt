@@ -1,6 +1,6 @@
 ghost use Rattle.std.specs.Prelude.{◌≡◌, ◌+◌, ◌&&◌, ◌||◌, ℕ, IsTrue, OnOk};
 ghost use Rattle.hypothesis_index.specs.Places.{IsRelation, place_of};
-ghost use Rattle.refute_tests.specs.Clearing.{early, is_at};
+ghost use Rattle.refute_tests.specs.Clearing.{is_at, starts_early};
 ghost use Rattle.word_rows.specs.Rows.{below, clears};
 
 use hypothesis_index::{Relation, place};
@@ -10,7 +10,7 @@ use word_rows::RowMaker;
 
 /// Whether the second segment starts before the first ends, by more than the grace in nanoseconds.
 pub fn starts_early(first: &NamedSegment, second: &NamedSegment, grace: u64) -> bool
-    ensures { result ≡ early grace first.now second.now }
+    ensures { result ≡ starts_early grace second.now first.now }
 {
     second.start.saturating_add_unsigned(grace) < first.end
 }

@@ -2,6 +2,7 @@
 #![tactic(auto)]
 
 mod clearing;
+pub mod laws;
 mod margins;
 mod marks;
 mod merging;

@@ -1,6 +1,6 @@
 ghost use Rattle.std.specs.Prelude.{◌≡◌, ◌+◌, ◌<◌, ◌≤◌, ℕ, IsTrue, IfOk, OnOk};
 ghost use Rattle.hypothesis_index.specs.Places.{pairs_below};
-ghost use Rattle.refute_tests.specs.Clearing.{early};
+ghost use Rattle.refute_tests.specs.Clearing.{starts_early};
 ghost use Rattle.refute_tests.specs.inner.Hits.{IsEndLimit, IsStartLimit, clears_with, kinds_of};
 ghost use Rattle.trace_types.specs.declared.named_segment.NamedSegment.{NamedSegment};
 ghost use Rattle.word_rows.specs.Rows.{below};
@@ -25,7 +25,8 @@ fn kinds(forward: bool, backward: bool) -> u64
 pub(crate) fn pair_kinds(other: &NamedSegment, end_limit: i64, start_limit: i64) -> u64
     ensures { (grace : ℕ) (segment : NamedSegment)
         → IsEndLimit end_limit grace segment → IsStartLimit start_limit grace segment
-        → result ≡ kinds_of (early grace other.now segment) (early grace segment other.now) }
+        → result
+        ≡ kinds_of (starts_early grace segment other.now) (starts_early grace other.now segment) }
 {
     kinds(end_limit < other.end, other.start < start_limit)
 }

@@ -10,7 +10,7 @@ use Rattle.std.proofs.lemmas.Slice.Eq.{bytes_eq-Decides}
 use Rattle.segment_names.specs.Known.{Known, same_name}
 use Rattle.session_rules.specs.KeptTraces.{by_kept}
 use Rattle.trace_paths.specs.Durations.{duration, durations_of, has_name, path_length, paths_with, time_on}
-use Rattle.trace_paths.specs.NameOrders.{name_at}
+use Rattle.trace_paths.specs.NameOrders.{name_with_number}
 use Rattle.trace_types.specs.declared.named_segment.NamedSegment.{NamedSegment}
 use Rattle.trace_types.specs.declared.segment.Segment.{Segment}
 use Rattle.trace_types.specs.NamedSegments.{named_end, named_start, number_of_name}
@@ -55,7 +55,7 @@ one_place texts differ a b x p q =
 
 module _ (known : Known) where
   -- the name at the number of a segment is its name
-  pub name_shown : (s : NamedSegment) (x : Segment) → IsSegmentShown known s x → name_at known.names (number_of_name s) ≡ name_of x
+  pub name_shown : (s : NamedSegment) (x : Segment) → IsSegmentShown known s x → name_with_number known.names (number_of_name s) ≡ name_of x
   name_shown s x shown = get_or_from_slice_get known.names (number_of_name s) (name_of x) _ shown.name
 
   -- ---- durations
@@ -70,23 +70,23 @@ module _ (known : Known) where
 
   -- ---- the segments of one name
   module _ (differ : AllPairs (λ x y. x ≢ y) known.names) (n : ℕ) (lt : n < length known.names) where
-    test_shown : (s : NamedSegment) (x : Segment) → IsSegmentShown known s x → eqb (number_of_name s) n ≡ same_name (name_of x) (name_at known.names n)
+    test_shown : (s : NamedSegment) (x : Segment) → IsSegmentShown known s x → eqb (number_of_name s) n ≡ same_name (name_of x) (name_with_number known.names n)
     test_shown s x shown = ⊎_elim
         (λ (yes : (eqb (number_of_name s) n ≡ true) × (number_of_name s ≡ n)).
-        yes.0 ∙ sym (subst (λ (m : SegmentName). same_name (name_of x) m ≡ true) (sym (name_shown s x shown) ∙ ap (name_at known.names) yes.1) (same_itself (name_of x))))
+        yes.0 ∙ sym (subst (λ (m : SegmentName). same_name (name_of x) m ≡ true) (sym (name_shown s x shown) ∙ ap (name_with_number known.names) yes.1) (same_itself (name_of x))))
         (λ (no : (eqb (number_of_name s) n ≡ false) × (number_of_name s ≢ n)).
-        no.0 ∙ sym (false_from_ne_true (same_name (name_of x) (name_at known.names n)) (λ t.
-        no.1 (one_place known.names differ (number_of_name s) n (name_of x) shown.name (slice_get-get_or known.names n _ lt ∙ ap Some (sym (one_name (name_of x) (name_at known.names n) t)))))))
+        no.0 ∙ sym (false_from_ne_true (same_name (name_of x) (name_with_number known.names n)) (λ t.
+        no.1 (one_place known.names differ (number_of_name s) n (name_of x) shown.name (slice_get-get_or known.names n _ lt ∙ ap Some (sym (one_name (name_of x) (name_with_number known.names n) t)))))))
         (eqb_tells (number_of_name s) n)
 
-    pub durations_shown : (path : List NamedSegment) (text : List Segment) → AreSegmentsShown known path text → durations_of by_number eqb n path ≡ durations_of by_kept same_name (name_at known.names n) text
-    durations_shown path text shown = zip_map (IsSegmentShown known) (duration by_number) (duration by_kept) lasts_shown (filter (λ s. eqb (number_of_name s) n) path) (filter (λ x. same_name (name_of x) (name_at known.names n)) text)
-        (zip_filter (IsSegmentShown known) (λ s. eqb (number_of_name s) n) (λ x. same_name (name_of x) (name_at known.names n)) test_shown path text shown)
+    pub durations_shown : (path : List NamedSegment) (text : List Segment) → AreSegmentsShown known path text → durations_of by_number eqb n path ≡ durations_of by_kept same_name (name_with_number known.names n) text
+    durations_shown path text shown = zip_map (IsSegmentShown known) (duration by_number) (duration by_kept) lasts_shown (filter (λ s. eqb (number_of_name s) n) path) (filter (λ x. same_name (name_of x) (name_with_number known.names n)) text)
+        (zip_filter (IsSegmentShown known) (λ s. eqb (number_of_name s) n) (λ x. same_name (name_of x) (name_with_number known.names n)) test_shown path text shown)
 
-    pub counts_shown : (paths : List (List NamedSegment)) (texts : List (List Segment)) → ArePathsShown known paths texts → paths_with by_number eqb n paths ≡ paths_with by_kept same_name (name_at known.names n) texts
-    counts_shown paths texts shown = zip_count (λ path text. AreSegmentsShown known path text) (has_name by_number eqb n) (has_name by_kept same_name (name_at known.names n))
-        (λ path text alike. zip_any (IsSegmentShown known) (λ s. eqb (number_of_name s) n) (λ x. same_name (name_of x) (name_at known.names n)) test_shown path text alike) paths texts shown
+    pub counts_shown : (paths : List (List NamedSegment)) (texts : List (List Segment)) → ArePathsShown known paths texts → paths_with by_number eqb n paths ≡ paths_with by_kept same_name (name_with_number known.names n) texts
+    counts_shown paths texts shown = zip_count (λ path text. AreSegmentsShown known path text) (has_name by_number eqb n) (has_name by_kept same_name (name_with_number known.names n))
+        (λ path text alike. zip_any (IsSegmentShown known) (λ s. eqb (number_of_name s) n) (λ x. same_name (name_of x) (name_with_number known.names n)) test_shown path text alike) paths texts shown
 
-    pub times_shown : (paths : List (List NamedSegment)) (texts : List (List Segment)) → ArePathsShown known paths texts → time_on by_number eqb n paths ≡ time_on by_kept same_name (name_at known.names n) texts
-    times_shown paths texts shown = zip_sum (λ path text. AreSegmentsShown known path text) (λ path. sum (durations_of by_number eqb n path)) (λ text. sum (durations_of by_kept same_name (name_at known.names n) text))
+    pub times_shown : (paths : List (List NamedSegment)) (texts : List (List Segment)) → ArePathsShown known paths texts → time_on by_number eqb n paths ≡ time_on by_kept same_name (name_with_number known.names n) texts
+    times_shown paths texts shown = zip_sum (λ path text. AreSegmentsShown known path text) (λ path. sum (durations_of by_number eqb n path)) (λ text. sum (durations_of by_kept same_name (name_with_number known.names n) text))
         (λ path text alike. ap sum (durations_shown path text alike)) paths texts shown

@@ -11,7 +11,7 @@ use Rattle.refute_tests.specs.Clearing.{HaveNamesBelow}
 use Rattle.segment_names.specs.Known.{Known}
 use Rattle.session_rules.specs.KeptTraces.{Kept, by_kept}
 use Rattle.session_rules.specs.ReportTexts as texts
-use Rattle.trace_paths.specs.NameOrders.{name_at, number_cmp}
+use Rattle.trace_paths.specs.NameOrders.{name_with_number, number_cmp}
 use Rattle.trace_paths.specs.NameOrders as numbers
 use Rattle.trace_types.specs.declared.named_segment.NamedSegment.{NamedSegment}
 use Rattle.trace_types.specs.declared.named_trace.NamedTrace.{NamedTrace}
@@ -41,30 +41,30 @@ module _ (known : Known) (traces : List NamedTrace) (kept : List Kept) (shown : 
       subst (λ (m : ℕ). m < length known.names) s.2 (slice_get_within known.names (number_of_name s.0) (name_of x.0) x.2.name)
 
   module _ (names : List SegmentName) (are : texts.AreKeptNames kept names) where
-    names_rise : AllPairs (λ (x y : SegmentName). name_cmp x y ≡ Less) (map (name_at known.names) ns)
+    names_rise : AllPairs (λ (x y : SegmentName). name_cmp x y ≡ Less) (map (name_with_number known.names) ns)
     names_rise i j d lt inside =
-        let within : j < length ns = omega (arith, length-map ns (name_at known.names)) in
-        let ei = get_or-map (name_at known.names) ns i 0 d (omega arith) in
-        let ej = get_or-map (name_at known.names) ns j 0 d within in
-        subst (λ (x : SegmentName). name_cmp x (get_or (map (name_at known.names) ns) j d) ≡ Less) (sym ei)
-        (subst (λ (y : SegmentName). name_cmp (name_at known.names (get_or ns i 0)) y ≡ Less) (sym ej) (told.rising i j 0 lt within))
+        let within : j < length ns = omega (arith, length-map ns (name_with_number known.names)) in
+        let ei = get_or-map (name_with_number known.names) ns i 0 d (omega arith) in
+        let ej = get_or-map (name_with_number known.names) ns j 0 d within in
+        subst (λ (x : SegmentName). name_cmp x (get_or (map (name_with_number known.names) ns) j d) ≡ Less) (sym ei)
+        (subst (λ (y : SegmentName). name_cmp (name_with_number known.names (get_or ns i 0)) y ≡ Less) (sym ej) (told.rising i j 0 lt within))
 
-    name_listed : (x : SegmentName) → Contains (map (name_at known.names) ns) x → Contains names x
+    name_listed : (x : SegmentName) → Contains (map (name_with_number known.names) ns) x → Contains names x
     name_listed x c =
-        let n = from_map (name_at known.names) ns x c in
+        let n = from_map (name_with_number known.names) ns x c in
         let s = from_map number_of_name (segments_of by_number traces) n.0 ((told.exactly n.0).0 n.1) in
         let y = zip_left (IsSegmentShown known) (segments_of by_number traces) (segments_of by_kept kept) shown s.0 s.1 in
-        (are.exactly x).1 (Contains-map name_of (segments_of by_kept kept) y.0 x y.1 (sym (name_shown known s.0 y.0 y.2) ∙ (ap (name_at known.names) s.2 ∙ n.2)))
+        (are.exactly x).1 (Contains-map name_of (segments_of by_kept kept) y.0 x y.1 (sym (name_shown known s.0 y.0 y.2) ∙ (ap (name_with_number known.names) s.2 ∙ n.2)))
 
-    name_numbered : (x : SegmentName) → Contains names x → Contains (map (name_at known.names) ns) x
+    name_numbered : (x : SegmentName) → Contains names x → Contains (map (name_with_number known.names) ns) x
     name_numbered x c =
         let y = from_map name_of (segments_of by_kept kept) x ((are.exactly x).0 c) in
         let s = zip_right (IsSegmentShown known) (segments_of by_number traces) (segments_of by_kept kept) shown y.0 y.1 in
-        Contains-map (name_at known.names) ns (number_of_name s.0) x ((told.exactly (number_of_name s.0)).1 (Contains-map number_of_name (segments_of by_number traces) s.0 (number_of_name s.0) s.1 refl))
+        Contains-map (name_with_number known.names) ns (number_of_name s.0) x ((told.exactly (number_of_name s.0)).1 (Contains-map number_of_name (segments_of by_number traces) s.0 (number_of_name s.0) s.1 refl))
         (name_shown known s.0 y.0 s.2 ∙ y.2)
 
-    pub names_told : AreListedInOneWay → IsTotalOrder name_cmp → map (name_at known.names) ns ≡ names
-    names_told one total = one name_cmp total (map (name_at known.names) ns) names names_rise are.rising (λ x. (name_listed x, name_numbered x))
+    pub names_told : AreListedInOneWay → IsTotalOrder name_cmp → map (name_with_number known.names) ns ≡ names
+    names_told one total = one name_cmp total (map (name_with_number known.names) ns) names names_rise are.rising (λ x. (name_listed x, name_numbered x))
 
 -- the names of a book's traces are below its number of names
 pub names_below : (b : BookState) (known : List SegmentName) (ns : List ℕ) → IsBook b → numbers.AreNamesOf known (all_traces b.days) ns → (n : ℕ) → Contains ns n → n < b.names

@@ -20,7 +20,7 @@ use Rattle.slow_tail.specs.declared.slow_report.SlowReport.{SlowReport}
 use Rattle.slow_tail.specs.declared.tail_row.TailRow.{TailRow}
 use Rattle.trace_paths.specs.CriticalPaths.{AreCriticalPaths}
 use Rattle.trace_paths.specs.Durations.{durations_of}
-use Rattle.trace_paths.specs.NameOrders.{name_at}
+use Rattle.trace_paths.specs.NameOrders.{name_with_number}
 use Rattle.trace_types.specs.declared.named_segment.NamedSegment.{NamedSegment}
 use Rattle.trace_types.specs.declared.named_trace.NamedTrace.{NamedTrace}
 use Rattle.trace_types.specs.declared.segment.Segment.{Segment}
@@ -41,7 +41,7 @@ module _ (known : Known) (traces : List NamedTrace) (kept : List Kept) (fits : I
   count_shown : length traces ≡ length kept
   count_shown = sym (AllZip-long (IsShown known) traces kept shown)
 
-  latencies_shown : by_trace.latencies_of traces ≡ latencies_of kept
+  latencies_shown : by_trace.trace_latencies traces ≡ latencies_of kept
   latencies_shown = zip_map (IsShown known) (λ (t : NamedTrace). t.latency) (λ (k : Kept). k.trace.latency) (λ t k s. s.latency) traces kept shown
 
   segments : AreSegmentsShown known (segments_of by_number traces) (segments_of by_kept kept)
@@ -49,7 +49,7 @@ module _ (known : Known) (traces : List NamedTrace) (kept : List Kept) (fits : I
 
   -- the report
   module _ (report : FullReport) (is : IsReport known.names traces report) (texts : List (List Segment)) (are : AreCriticalPaths by_kept kept texts) (alike : ArePathsShown known is.paths texts) where
-    segment_shown : (r : SegmentRow) → r.name < length known.names → IsRowOf by_number eqb traces is.paths r.name r → IsSegmentText kept (name_at known.names r.name) (segment_row known.names r)
+    segment_shown : (r : SegmentRow) → r.name < length known.names → IsRowOf by_number eqb traces is.paths r.name r → IsSegmentText kept (name_with_number known.names r.name) (segment_row known.names r)
     segment_shown r lt told = record {
       paths = texts;
       critical_paths = are;
@@ -76,7 +76,7 @@ module _ (known : Known) (traces : List NamedTrace) (kept : List Kept) (fits : I
             told = subst (λ (ls : List ℕ). AreFigures ls report.latency) latencies_shown is.latency;
             text = refl;
           };
-          names = λ names given. sym (map_twice (name_at known.names) (λ (r : SegmentRow). r.name) report.rows) ∙ names_told known traces kept segments (map (λ (r : SegmentRow). r.name) report.rows) is.names names given one total;
+          names = λ names given. sym (map_twice (name_with_number known.names) (λ (r : SegmentRow). r.name) report.rows) ∙ names_told known traces kept segments (map (λ (r : SegmentRow). r.name) report.rows) is.names names given one total;
           rows = λ k d lt. segment_shown (get_or report.rows k d) (within k d lt) (is.rows k d lt);
         }
 
@@ -85,25 +85,25 @@ module _ (known : Known) (traces : List NamedTrace) (kept : List Kept) (fits : I
 
   -- the report on the slowest
   module _ (report : SlowReport) (is : IsSlowReport known.names traces report) (texts : List (List Segment)) (are : AreCriticalPaths by_kept kept texts) (alike : ArePathsShown known is.paths texts) where
-    slow_alike : ArePathsShown known (slow_of (by_trace.latencies_of traces) is.paths) (slow_of (latencies_of kept) texts)
-    slow_alike = subst (λ (ls : List ℕ). ArePathsShown known (slow_of (by_trace.latencies_of traces) is.paths) (slow_of ls texts)) latencies_shown
-        (zip_marked (λ path text. AreSegmentsShown known path text) (slow_marks (by_trace.latencies_of traces)) is.paths texts alike)
+    slow_alike : ArePathsShown known (slow_of (by_trace.trace_latencies traces) is.paths) (slow_of (latencies_of kept) texts)
+    slow_alike = subst (λ (ls : List ℕ). ArePathsShown known (slow_of (by_trace.trace_latencies traces) is.paths) (slow_of ls texts)) latencies_shown
+        (zip_marked (λ path text. AreSegmentsShown known path text) (slow_marks (by_trace.trace_latencies traces)) is.paths texts alike)
 
-    rest_alike : ArePathsShown known (rest_of (by_trace.latencies_of traces) is.paths) (rest_of (latencies_of kept) texts)
-    rest_alike = subst (λ (ls : List ℕ). ArePathsShown known (rest_of (by_trace.latencies_of traces) is.paths) (rest_of ls texts)) latencies_shown
-        (zip_unmarked (λ path text. AreSegmentsShown known path text) (slow_marks (by_trace.latencies_of traces)) is.paths texts alike)
+    rest_alike : ArePathsShown known (rest_of (by_trace.trace_latencies traces) is.paths) (rest_of (latencies_of kept) texts)
+    rest_alike = subst (λ (ls : List ℕ). ArePathsShown known (rest_of (by_trace.trace_latencies traces) is.paths) (rest_of ls texts)) latencies_shown
+        (zip_unmarked (λ path text. AreSegmentsShown known path text) (slow_marks (by_trace.trace_latencies traces)) is.paths texts alike)
 
-    tail_row_shown : (r : TailRow) → r.name < length known.names → IsTailRow by_number eqb (slow_of (by_trace.latencies_of traces) is.paths) (rest_of (by_trace.latencies_of traces) is.paths) r.name r
-        → IsTailText kept (name_at known.names r.name) (tail_row known.names r)
+    tail_row_shown : (r : TailRow) → r.name < length known.names → IsTailRow by_number eqb (slow_of (by_trace.trace_latencies traces) is.paths) (rest_of (by_trace.trace_latencies traces) is.paths) r.name r
+        → IsTailText kept (name_with_number known.names r.name) (tail_row known.names r)
     tail_row_shown r lt told = record {
       paths = texts;
       critical_paths = are;
       row = r;
       told = record {
-        slow_on = told.slow_on ∙ counts_shown known fits.names_differ r.name lt (slow_of (by_trace.latencies_of traces) is.paths) (slow_of (latencies_of kept) texts) slow_alike;
-        slow_sum = told.slow_sum ∙ times_shown known fits.names_differ r.name lt (slow_of (by_trace.latencies_of traces) is.paths) (slow_of (latencies_of kept) texts) slow_alike;
-        rest_on = told.rest_on ∙ counts_shown known fits.names_differ r.name lt (rest_of (by_trace.latencies_of traces) is.paths) (rest_of (latencies_of kept) texts) rest_alike;
-        rest_sum = told.rest_sum ∙ times_shown known fits.names_differ r.name lt (rest_of (by_trace.latencies_of traces) is.paths) (rest_of (latencies_of kept) texts) rest_alike;
+        slow_on = told.slow_on ∙ counts_shown known fits.names_differ r.name lt (slow_of (by_trace.trace_latencies traces) is.paths) (slow_of (latencies_of kept) texts) slow_alike;
+        slow_sum = told.slow_sum ∙ times_shown known fits.names_differ r.name lt (slow_of (by_trace.trace_latencies traces) is.paths) (slow_of (latencies_of kept) texts) slow_alike;
+        rest_on = told.rest_on ∙ counts_shown known fits.names_differ r.name lt (rest_of (by_trace.trace_latencies traces) is.paths) (rest_of (latencies_of kept) texts) rest_alike;
+        rest_sum = told.rest_sum ∙ times_shown known fits.names_differ r.name lt (rest_of (by_trace.trace_latencies traces) is.paths) (rest_of (latencies_of kept) texts) rest_alike;
       };
       text = refl;
     }
@@ -117,7 +117,7 @@ module _ (known : Known) (traces : List NamedTrace) (kept : List Kept) (fits : I
             least = subst (λ (ls : List ℕ). IsFloor (slow_of ls ls) report.floor) latencies_shown is.floor;
             text = ap (λ (n : ℕ). tail_head (record report { traces = n })) (is.count ∙ count_shown) ∙ ap (λ (n : ℕ). tail_head (record report { traces = length kept; slow = n })) (is.slow ∙ ap slow_count count_shown);
           };
-          names = λ names given. sym (map_twice (name_at known.names) (λ (r : TailRow). r.name) report.rows) ∙ names_told known traces kept segments (map (λ (r : TailRow). r.name) report.rows) is.names names given one total;
+          names = λ names given. sym (map_twice (name_with_number known.names) (λ (r : TailRow). r.name) report.rows) ∙ names_told known traces kept segments (map (λ (r : TailRow). r.name) report.rows) is.names names given one total;
           rows = λ k d lt. tail_row_shown (get_or report.rows k d) (within k d lt) (is.rows k d lt);
         }
 

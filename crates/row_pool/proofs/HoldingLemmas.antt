@@ -3,7 +3,7 @@ use Rattle.std.proofs.Common.{◌≡◌, ◌≢◌, ℕ, zero, suc, ◌<◌, Lis
 use Rattle.std.proofs.lemmas.Bool.{cases_eq, false≢true}
 use Rattle.std.proofs.lemmas.List.{get_or-set_same, get_or-set_other}
 use Rattle.std.specs.FinMap.{get}
-use Rattle.row_pool.specs.Pools.{Pool, IsLive, with_row, with_taken, without_row}
+use Rattle.row_pool.specs.Pools.{Pool, IsLive, with_row, with_row_taken, without_row}
 use Rattle.row_pool.specs.inner.Holding.{AreHeld}
 use Rattle.row_pool.proofs.MapLemmas.{get-remove_other}
 use Rattle.row_pool.proofs.CallerLemmas.{live-with, live-insert, live-insert_same, apart-new}
@@ -24,13 +24,13 @@ pub held-with : (p : Pool) (id : ℕ) (words : List ℕ) (slots : List (Option �
 held-with p id words slots h = record { live = λ n i e. live-with p id words i (h.live n i e); apart = h.apart }
 
 -- a row was taken
-pub held-taken : (p : Pool) (id k : ℕ) (slots : List (Option ℕ)) → k < length slots → AreHeld p slots → get p.rows id ≡ None → AreHeld (with_taken p id) (set slots k (Some id))
+pub held-taken : (p : Pool) (id k : ℕ) (slots : List (Option ℕ)) → k < length slots → AreHeld p slots → get p.rows id ≡ None → AreHeld (with_row_taken p id) (set slots k (Some id))
 held-taken p id k slots within h new =
     let other : (n : ℕ) → n ≢ k → get_or (set slots k (Some id)) n None ≡ get_or slots n None = λ n far. get_or-set_other slots k n (Some id) None far in
     let here : (n i : ℕ) → n ≡ k → get_or (set slots k (Some id)) n None ≡ Some i → id ≡ i = λ n i same e. same_some id i (sym (get_or-set_same slots k (Some id) None within) ∙ ap (λ j. get_or (set slots k (Some id)) j None) (sym same) ∙ e) in
     record {
       live = λ n i e. elim (cases_eq n k) [
-        | inl same ↦ subst (λ j. IsLive (with_taken p id) j) (here n i same e) (live-insert_same p.rows id _)
+        | inl same ↦ subst (λ j. IsLive (with_row_taken p id) j) (here n i same e) (live-insert_same p.rows id _)
         | inr far ↦ live-insert p.rows id _ i (h.live n i (sym (other n far) ∙ e))
       ];
       apart = λ m n i e f. elim (cases_eq m k) [

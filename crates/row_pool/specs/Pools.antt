@@ -55,8 +55,8 @@ abbrev pub with_spare : Pool → ℕ → Pool
 with_spare p n = pool p.width p.rows (max p.spare n)
 
 -- the pool with one of its spare rows live: it is full
-abbrev pub with_taken : Pool → ℕ → Pool
-with_taken p id = pool p.width (insert p.rows id (full p.width)) (p.spare - 1)
+abbrev pub with_row_taken : Pool → ℕ → Pool
+with_row_taken p id = pool p.width (insert p.rows id (full p.width)) (p.spare - 1)
 
 -- the pool with one of its live rows spare again
 abbrev pub without_row : Pool → ℕ → Pool

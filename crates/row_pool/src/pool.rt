@@ -3,7 +3,7 @@ ghost use Rattle.std.specs.Prelude.{IfNone, IsNone, IsOk, OnOk, OnErr};
 ghost use Rattle.std.specs.FinMap as map;
 ghost use Rattle.word_rows.specs.Words.{full_words as full};
 ghost use Rattle.row_pool.specs.Pools.{pool, IsLive, IsMet, IsWider, row_at, with_row, with_spare};
-ghost use Rattle.row_pool.specs.Pools.{with_taken, without_row};
+ghost use Rattle.row_pool.specs.Pools.{with_row_taken, without_row};
 
 use crate::row_id::RowId;
 use crate::steps::Steps;
@@ -11,6 +11,9 @@ use crate::storage::Storage;
 use std::alloc::{AllocError, Global};
 use std::marker::Model;
 use std::sync::ledger::Ledger;
+
+/// How many rows a block that is too short gets more, at least.
+const LEAST_GROWTH: u32 = 32;
 
 /// Rows of one width. A row is live from `take` to `give_back`; spare rows wait to be taken, and
 /// taking one needs no memory. Dropping the pool gives all its memory back.
@@ -52,7 +55,9 @@ impl RowPool {
         }
     }
 
-    /// Makes `n` rows spare, if fewer are. Only here and in `new_width` a pool takes memory.
+    /// Makes `n` rows spare, if fewer are. Only here and in `new_width` a pool takes memory. Where
+    /// the block is too short, it gets room for a quarter as many rows again, and for 32 at least,
+    /// so that rows made one by one do not copy the block each time.
     pub fn reserve(&mut self, n: u32) -> Result<(), AllocError>
         requires { map.len self.old.rows + n < 2 ^ 32 }
         ensures ok { OnOk result (self.new ≡ with_spare self.old n) }
@@ -65,7 +70,11 @@ impl RowPool {
         let more = n - self.spare;
         let width = self.width as usize;
         let total = self.total + more;
-        self.storage.grow(total as usize * width)?;
+        let room = self
+            .total
+            .saturating_add(more.max(self.total / 4).max(LEAST_GROWTH));
+        self.storage
+            .grow(total as usize * width, room as usize * width)?;
         'rows: for _ in 0..more {
             self.storage.set(self.total as usize * width, self.next);
             self.next = u64::from(self.total);
@@ -87,7 +96,7 @@ impl RowPool {
         ensures none { IsNone result ↔ (self.old.spare ≡ 0) }
         ensures unchanged { IfNone result (self.new ≡ self.old) }
         ensures new { IfSome result (λ id. map.get self.old.rows id ≡ None) }
-        ensures taken { IfSome result (λ id. self.new ≡ with_taken self.old id) }
+        ensures taken { IfSome result (λ id. self.new ≡ with_row_taken self.old id) }
     {
         if self.spare == 0 {
             return None;
@@ -161,12 +170,18 @@ impl RowPool {
         steps.tick();
     }
 
-    /// Makes all rows wider: each live row has full words after its own.
+    /// Makes all rows wider: each live row has full words after its own. A pool that has the width
+    /// already stays as it is and takes no memory.
     pub fn new_width(&mut self, width: u32) -> Result<(), AllocError>
         requires { self.old.width ≤ width }
         ensures ok { OnOk result (IsWider self.old width self.new) }
         ensures err { OnErr result (self.new ≡ self.old) }
+        ensures sure { width ≡ self.old.width → IsOk result }
+        ensures unchanged { width ≡ self.old.width → self.new ≡ self.old }
     {
+        if width == self.width {
+            return Ok(());
+        }
         let rows = self.total as usize;
         let old = self.width as usize;
         self.storage = self.storage.widened(rows, old, width as usize)?;

@@ -43,7 +43,7 @@ impl Storage {
         }
     }
 
-    /// WritesRow one word.
+    /// Writes one word.
     pub(crate) fn set(&mut self, index: usize, word: u64)
         requires { index < length self.old }
         ensures { self.new ≡ slice_set self.old index word }
@@ -89,16 +89,20 @@ impl Storage {
         meet_rows(block.as_mut_slice(), width, to, a, b);
     }
 
-    /// Moves the words to a block of `len` words, zeros after them, where it is longer.
-    pub(crate) fn grow(&mut self, len: usize) -> Result<(), AllocError>
-        ensures ok { OnOk result (self.new ≡ self.old ++ replicate (len - length self.old) 0) }
+    /// Makes room for `len` words: a block with fewer is moved to one of `room` words, zeros after
+    /// its own.
+    pub(crate) fn grow(&mut self, len: usize, room: usize) -> Result<(), AllocError>
+        requires { len ≤ room }
+        ensures ok { OnOk result
+            (self.new ≡ self.old ++ replicate (length self.new - length self.old) 0) }
+        ensures long { OnOk result (len ≤ length self.new) }
         ensures err { OnErr result (self.new ≡ self.old) }
     {
         let count = self.words().len();
         if len <= count {
             return Ok(());
         }
-        let mut block = WordBlock::zeros(self.alloc, len)?;
+        let mut block = WordBlock::zeros(self.alloc, room)?;
         copy_words(block.as_mut_slice(), self.words());
         self.block = Some(block);
         Ok(())

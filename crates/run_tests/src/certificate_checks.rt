@@ -1,17 +1,16 @@
 use crate::rows::{ADD, MODEL, OPPOSITE, OVERLAP, Row, TOUCHING, input_of};
 use crate::running::{
-    Printed, ROOM, SETTING, Setting, expect, expect_texts, mem_file, run_setting, texts,
+    Printed, ROOM, SETTING, Setting, expect, expect_ending, expect_texts, line_feeds, run_over,
+    run_setting, texts,
 };
 use crate::sessions::LATER_OVERLAP;
 use crate::views::PIPELINE;
 use Row::Line;
-use mystery_io::{ByteList, MemFile, MemFiles, MemSink, OpenGate};
-use mystery_run::run;
-use std::alloc::Global;
+use mystery_io::{MemFiles, OpenGate};
+use std::alloc::{AllocError, Global};
 use std::process::Abort;
 use std::test::Fail;
 use std::thread::Threads;
-use trace_types::Text;
 
 /// The certificate of two traces, of which each refutes the order of the other one.
 const TWO_ORDERS: &[u8] = b"why\ttraces=2\trefuted=2\n\
@@ -290,6 +289,29 @@ fn each_call_on_a_certificate_and_a_file_fails_in_turn(rt: HostRuntime) -> Resul
     Ok(())
 }
 
+/// Makes the files of a certificate and of an input of so many line feeds.
+fn blank_files(alloc: Global, certificate: usize, input: usize) -> Result<MemFiles, AllocError> {
+    let mut all = Vec::new(alloc);
+    all.push(line_feeds(alloc, "c", certificate)?)?;
+    all.push(line_feeds(alloc, "f", input)?)?;
+    Ok(MemFiles::new(all, ROOM, Vec::new(alloc)))
+}
+
+/// Checks a certificate over an input of these files and compares the status and what is written.
+fn expect_over<R: Threads + Sync + Abort>(
+    rt: &R,
+    alloc: Global,
+    files: &mut MemFiles,
+    status: u8,
+    out: &[u8],
+    err: &[u8],
+) -> Result<(), Fail> {
+    let words = texts(alloc, &["verify", "c", "f"])?;
+    let ending = run_over(rt, alloc, &words, files, SETTING, &OpenGate)?;
+    expect_ending(rt, &ending, status, out, err);
+    Ok(())
+}
+
 /// Checks a certificate of so many line feeds over an input of so many, and compares the status and
 /// what is written.
 fn expect_sizes<R: Threads + Sync + Abort>(
@@ -301,32 +323,8 @@ fn expect_sizes<R: Threads + Sync + Abort>(
     out: &[u8],
     err: &[u8],
 ) -> Result<(), Fail> {
-    let words = texts(alloc, &["verify", "c", "f"])?;
-    let mut all = Vec::new(alloc);
-    all.push(MemFile {
-        name: Text::new(alloc, "c")?,
-        bytes: ByteList::of(vec![in alloc; b'\n'; certificate]?),
-    })?;
-    all.push(MemFile {
-        name: Text::new(alloc, "f")?,
-        bytes: ByteList::of(vec![in alloc; b'\n'; input]?),
-    })?;
-    let mut files = MemFiles::new(all, ROOM, Vec::new(alloc));
-    let mut to_out = MemSink::new(alloc, ROOM, Vec::new(alloc), ROOM)?;
-    let mut to_err = MemSink::new(alloc, ROOM, Vec::new(alloc), ROOM)?;
-    let got = run(
-        rt,
-        alloc,
-        &words,
-        &mut files,
-        &mut to_out,
-        &mut to_err,
-        &OpenGate,
-    );
-    assert_eq!(rt; to_err.bytes(), err);
-    assert_eq!(rt; got, status);
-    assert_eq!(rt; to_out.bytes(), out);
-    Ok(())
+    let mut files = blank_files(alloc, certificate, input)?;
+    expect_over(rt, alloc, &mut files, status, out, err)
 }
 
 #[test]

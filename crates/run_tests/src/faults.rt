@@ -1,8 +1,11 @@
-use crate::running::{EMPTY, ROOM, SETTING, Setting, expect, texts};
-use mystery_io::{ByteList, MemFile, MemFiles, MemSink, OpenGate};
-use mystery_run::run;
+use crate::running::{
+    EMPTY, ROOM, SETTING, Setting, expect, expect_ending, line_feeds, run_over, texts,
+};
+use mystery_io::{MemFiles, OpenGate};
+use std::alloc::{AllocError, Global};
+use std::process::Abort;
 use std::test::Fail;
-use trace_types::Text;
+use std::thread::Threads;
 
 const USAGE: &[u8] = b"usage: mystery [--workers N] COMMAND FILE...\n";
 
@@ -161,6 +164,28 @@ fn a_failed_message_leaves_the_status(rt: HostRuntime) -> Result<(), Fail> {
     Ok(())
 }
 
+/// Makes the file of an input of so many line feeds.
+fn blank_file(alloc: Global, count: usize) -> Result<MemFiles, AllocError> {
+    let mut all = Vec::new(alloc);
+    all.push(line_feeds(alloc, "f", count)?)?;
+    Ok(MemFiles::new(all, ROOM, Vec::new(alloc)))
+}
+
+/// Prints the model of these files and compares the status and what is written.
+fn expect_model<R: Threads + Sync + Abort>(
+    rt: &R,
+    alloc: Global,
+    files: &mut MemFiles,
+    status: u8,
+    out: &[u8],
+    err: &[u8],
+) -> Result<(), Fail> {
+    let words = texts(alloc, SETTING.words)?;
+    let ending = run_over(rt, alloc, &words, files, SETTING, &OpenGate)?;
+    expect_ending(rt, &ending, status, out, err);
+    Ok(())
+}
+
 #[test]
 fn the_size_is_passed_by_one_line_feed_more(rt: HostRuntime) -> Result<(), Fail> {
     let alloc = rt.alloc();
@@ -170,27 +195,8 @@ fn the_size_is_passed_by_one_line_feed_more(rt: HostRuntime) -> Result<(), Fail>
         (67_108_865, 6, b"", limit),
     ];
     for (count, status, out, err) in table {
-        let words = texts(alloc, &["model", "f"])?;
-        let mut all = Vec::new(alloc);
-        all.push(MemFile {
-            name: Text::new(alloc, "f")?,
-            bytes: ByteList::of(vec![in alloc; b'\n'; count]?),
-        })?;
-        let mut files = MemFiles::new(all, ROOM, Vec::new(alloc));
-        let mut to_out = MemSink::new(alloc, ROOM, Vec::new(alloc), ROOM)?;
-        let mut to_err = MemSink::new(alloc, ROOM, Vec::new(alloc), ROOM)?;
-        let got = run(
-            &rt,
-            alloc,
-            &words,
-            &mut files,
-            &mut to_out,
-            &mut to_err,
-            &OpenGate,
-        );
-        assert_eq!(rt; to_err.bytes(), err);
-        assert_eq!(rt; got, status);
-        assert_eq!(rt; to_out.bytes(), out);
+        let mut files = blank_file(alloc, count)?;
+        expect_model(&rt, alloc, &mut files, status, out, err)?;
     }
     Ok(())
 }

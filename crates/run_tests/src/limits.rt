@@ -1,7 +1,5 @@
 use crate::rows::{ADD, MODEL, TOUCHING, input_of, put_event};
-use crate::running::{ROOM, SETTING, Setting, expect, mem_file, texts};
-use mystery_io::{MemFiles, MemSink, OpenGate};
-use mystery_run::run;
+use crate::running::{ROOM, SETTING, Setting, expect, run_setting};
 use std::alloc::{AllocError, Global};
 use std::test::Fail;
 
@@ -145,18 +143,16 @@ fn a_model_of_512_names_has_each_pair_of_them(rt: HostRuntime) -> Result<(), Fai
     let alloc = rt.alloc();
     let mut f = Vec::new(alloc);
     put_events(alloc, &mut f, "r1", "a", 513)?;
-    let words = texts(alloc, &["model", "f"])?;
-    let mut all = Vec::new(alloc);
-    all.push(mem_file(alloc, "f", &f)?)?;
-    let mut files = MemFiles::new(all, ROOM, Vec::new(alloc));
-    let mut out = MemSink::new(alloc, ROOM, Vec::new(alloc), GREAT_ROOM)?;
-    let mut err = MemSink::new(alloc, ROOM, Vec::new(alloc), ROOM)?;
-    let got = run(
-        &rt, alloc, &words, &mut files, &mut out, &mut err, &OpenGate,
-    );
-    assert_eq!(rt; got, 0);
+    let setting = Setting {
+        f: &f,
+        most: ROOM,
+        out_room: GREAT_ROOM,
+        ..SETTING
+    };
+    let ending = run_setting(&rt, alloc, setting)?;
+    assert_eq!(rt; ending.status, 0);
     let header = b"model\ttraces=1\tdays=1\tsegments=512\ttasks=1\thb=130816\tmx=0\tpipe=0\n";
-    assert!(rt; out.bytes().starts_with(header));
+    assert!(rt; ending.out.bytes().starts_with(header));
     Ok(())
 }
 

@@ -1,5 +1,5 @@
 use crate::rows::{Row, input_of};
-use mystery_io::{ByteList, MemFile, MemFiles, MemSink, OpenGate};
+use mystery_io::{ByteList, Gate, MemFile, MemFiles, MemSink, OpenGate};
 use mystery_run::run;
 use std::alloc::{AllocError, Global};
 use std::process::Abort;
@@ -66,6 +66,54 @@ pub(crate) struct Ending {
     pub(crate) err: MemSink,
 }
 
+/// Makes the files `f` and `g` in memory.
+fn two_files(alloc: Global, setting: Setting<'_>) -> Result<Vec<MemFile>, AllocError> {
+    let mut all = Vec::new(alloc);
+    all.push(mem_file(alloc, "f", setting.f)?)?;
+    all.push(mem_file(alloc, "g", setting.g)?)?;
+    Ok(all)
+}
+
+/// Makes the files of a setting.
+fn files_of<R: Abort>(rt: &R, alloc: Global, setting: Setting<'_>) -> Result<MemFiles, Fail> {
+    assert!(rt; setting.most > 0);
+    let all = two_files(alloc, setting)?;
+    Ok(MemFiles::new(all, setting.most, [setting.failing].to_vec(alloc)?))
+}
+
+/// Makes a sink that takes so many bytes in a call, fails at this call, and has so much room.
+fn make_sink<R: Abort>(
+    rt: &R,
+    alloc: Global,
+    most: usize,
+    failing: u32,
+    room: usize,
+) -> Result<MemSink, Fail> {
+    assert!(rt; most > 0);
+    Ok(MemSink::new(alloc, most, [failing].to_vec(alloc)?, room)?)
+}
+
+/// Runs with these arguments over these files, and over the sinks of a setting.
+pub(crate) fn run_over<R: Threads + Sync + Abort, G: Gate + Sync>(
+    rt: &R,
+    alloc: Global,
+    words: &[Text],
+    files: &mut MemFiles,
+    setting: Setting<'_>,
+    gate: &G,
+) -> Result<Ending, Fail> {
+    let mut out = make_sink(
+        rt,
+        alloc,
+        setting.out_most,
+        setting.out_failing,
+        setting.out_room,
+    )?;
+    let mut err = make_sink(rt, alloc, setting.err_most, setting.err_failing, ROOM)?;
+    let status = run(rt, alloc, words, files, &mut out, &mut err, gate);
+    Ok(Ending { status, out, err })
+}
+
 /// Runs with these arguments over files and sinks in memory.
 fn run_words<R: Threads + Sync + Abort>(
     rt: &R,
@@ -73,27 +121,24 @@ fn run_words<R: Threads + Sync + Abort>(
     words: &[Text],
     setting: Setting<'_>,
 ) -> Result<Ending, Fail> {
-    let mut all = Vec::new(alloc);
-    all.push(mem_file(alloc, "f", setting.f)?)?;
-    all.push(mem_file(alloc, "g", setting.g)?)?;
-    assert!(rt; setting.most > 0);
-    assert!(rt; setting.out_most > 0);
-    assert!(rt; setting.err_most > 0);
-    let mut files = MemFiles::new(all, setting.most, [setting.failing].to_vec(alloc)?);
-    let mut out = MemSink::new(
-        alloc,
-        setting.out_most,
-        [setting.out_failing].to_vec(alloc)?,
-        setting.out_room,
-    )?;
-    let mut err = MemSink::new(
-        alloc,
-        setting.err_most,
-        [setting.err_failing].to_vec(alloc)?,
-        ROOM,
-    )?;
-    let status = run(rt, alloc, words, &mut files, &mut out, &mut err, &OpenGate);
-    Ok(Ending { status, out, err })
+    let mut files = files_of(rt, alloc, setting)?;
+    run_over(rt, alloc, words, &mut files, setting, &OpenGate)
+}
+
+/// Compares how a run ended with this status and these texts.
+pub(crate) fn expect_ending<R: Abort>(rt: &R, ending: &Ending, status: u8, out: &[u8], err: &[u8]) {
+    assert_eq!(rt; ending.err.bytes(), err);
+    assert_eq!(rt; ending.status, status);
+    assert_eq!(rt; ending.out.bytes(), out);
+}
+
+/// Makes a file in memory that has line feeds alone.
+pub(crate) fn line_feeds(alloc: Global, name: &str, count: usize) -> Result<MemFile, AllocError> {
+    let bytes = ByteList::of(vec![in alloc; b'\n'; count]?);
+    Ok(MemFile {
+        name: Text::new(alloc, name)?,
+        bytes,
+    })
 }
 
 /// Runs with the arguments of the setting over files and sinks in memory.
@@ -131,9 +176,7 @@ fn expect_run<R: Threads + Sync + Abort>(
     err: &[u8],
 ) -> Result<(), Fail> {
     let ending = run_words(rt, alloc, words, setting)?;
-    assert_eq!(rt; ending.err.bytes(), err);
-    assert_eq!(rt; ending.status, status);
-    assert_eq!(rt; ending.out.bytes(), out);
+    expect_ending(rt, &ending, status, out, err);
     Ok(())
 }
 
@@ -149,6 +192,20 @@ fn words_of(alloc: Global, workers: &str, command: &str) -> Result<Vec<Text>, Al
     Ok(words)
 }
 
+/// Runs a command with so many workers over this input and compares the text.
+fn expect_text<R: Threads + Sync + Abort>(
+    rt: &R,
+    alloc: Global,
+    workers: &str,
+    command: &str,
+    f: &[u8],
+    out: &[u8],
+) -> Result<(), Fail> {
+    let words = words_of(alloc, workers, command)?;
+    let setting = Setting { f, ..SETTING };
+    expect_run(rt, alloc, &words, setting, 0, out, b"")
+}
+
 /// Runs each command with so many workers over its input and compares the text.
 pub(crate) fn expect_texts<R: Threads + Sync + Abort>(
     rt: &R,
@@ -157,10 +214,8 @@ pub(crate) fn expect_texts<R: Threads + Sync + Abort>(
     table: &[Printed<'_>],
 ) -> Result<(), Fail> {
     for (command, pieces, out) in table {
-        let words = words_of(alloc, workers, command)?;
         let f = input_of(alloc, pieces)?;
-        let setting = Setting { f: &f, ..SETTING };
-        expect_run(rt, alloc, &words, setting, 0, out, b"")?;
+        expect_text(rt, alloc, workers, command, &f, out)?;
     }
     Ok(())
 }

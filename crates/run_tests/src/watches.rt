@@ -1,8 +1,7 @@
 use crate::rows::{ADD, OPPOSITE, Row, TOUCHING, input_of};
-use crate::running::{Printed, ROOM, expect_texts, mem_file, texts};
+use crate::running::{Ending, Printed, SETTING, expect_texts, mem_file, run_over, texts};
 use Row::{Event, Line};
 use mystery_io::{Gate, MemFiles, MemSink};
-use mystery_run::run;
 use std::alloc::{AllocError, Global};
 use std::process::Abort;
 use std::sync::atomic::{AtomicU64, Ordering};
@@ -107,6 +106,24 @@ fn watched_input(alloc: Global) -> Result<Vec<u8>, AllocError> {
     )
 }
 
+/// Makes the file of an input.
+fn file_of(alloc: Global, f: &[u8]) -> Result<MemFiles, AllocError> {
+    let mut all = Vec::new(alloc);
+    all.push(mem_file(alloc, "f", f)?)?;
+    Ok(MemFiles::new(all, 4096, Vec::new(alloc)))
+}
+
+/// Runs a session of these files with two workers, and returns how it ended.
+fn run_session<R: Threads + Sync + Abort, G: Gate + Sync>(
+    rt: &R,
+    alloc: Global,
+    files: &mut MemFiles,
+    gate: &G,
+) -> Result<Ending, Fail> {
+    let words = texts(alloc, &["--workers", "2", "session", "f"])?;
+    run_over(rt, alloc, &words, files, SETTING, gate)
+}
+
 /// Runs a session of an input with two workers, and returns what was written.
 fn run_watched<R: Threads + Sync + Abort, G: Gate + Sync>(
     rt: &R,
@@ -114,16 +131,11 @@ fn run_watched<R: Threads + Sync + Abort, G: Gate + Sync>(
     f: &[u8],
     gate: &G,
 ) -> Result<MemSink, Fail> {
-    let words = texts(alloc, &["--workers", "2", "session", "f"])?;
-    let mut all = Vec::new(alloc);
-    all.push(mem_file(alloc, "f", f)?)?;
-    let mut files = MemFiles::new(all, 4096, Vec::new(alloc));
-    let mut out = MemSink::new(alloc, ROOM, Vec::new(alloc), ROOM)?;
-    let mut err = MemSink::new(alloc, ROOM, Vec::new(alloc), ROOM)?;
-    let got = run(rt, alloc, &words, &mut files, &mut out, &mut err, gate);
-    assert_eq!(rt; err.bytes(), b"".as_slice());
-    assert_eq!(rt; got, 0);
-    Ok(out)
+    let mut files = file_of(alloc, f)?;
+    let ending = run_session(rt, alloc, &mut files, gate)?;
+    assert_eq!(rt; ending.err.bytes(), b"".as_slice());
+    assert_eq!(rt; ending.status, 0);
+    Ok(ending.out)
 }
 
 /// Returns the watch number of a line with this beginning: one digit, and then the line's end.

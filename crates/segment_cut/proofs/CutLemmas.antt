@@ -10,7 +10,7 @@ use Rattle.trace_types.specs.declared.segment.Segment.{Segment}
 use Rattle.trace_types.specs.Segments.{name_of, task_of, start_of, end_of}
 use Rattle.trace_types.specs.SegmentLists.{NamesDiffer, TasksStandTogether, JoinInTasks}
 use Rattle.trace_types.specs.Repeats.{AreDistinct, IsRepeated}
-use Rattle.trace_types.specs.Events.{task_at, name_at, named_events}
+use Rattle.trace_types.specs.Events.{task_at, event_name_at, named_events}
 use Rattle.segment_cut.specs.AdjustedTimes.{adjusted_at}
 use Rattle.segment_cut.specs.Neighbours.{AreNeighbours, IsListedBefore, AreAllNeighbours}
 use Rattle.segment_cut.specs.Cutting.{IsSegment}
@@ -49,7 +49,7 @@ listed_apart : (events : List Event) (times : List ℤ) (i j : ℕ) → IsListed
 listed_apart events times i j l e = not_itself events times i (subst (λ (k : ℕ). IsListedBefore events times i k) (sym e) l)
 
 -- two events have not both task and name alike
-named_apart : (events : List Event) (i j : ℕ) → AreDistinct (named_events events) → i < length events → j < length events → task_at events i ≡ task_at events j → name_at events i ≡ name_at events j → i ≡ j
+named_apart : (events : List Event) (i j : ℕ) → AreDistinct (named_events events) → i < length events → j < length events → task_at events i ≡ task_at events j → event_name_at events i ≡ event_name_at events j → i ≡ j
 named_apart events i j d li lj t m = ⊎_elim
     (λ (low : i < j). absurd (d j (repeats i j low lj t m)))
     (λ (high : j ≤ i). ⊎_elim
@@ -58,13 +58,13 @@ named_apart events i j d li lj t m = ⊎_elim
     (cases_lt j i))
     (cases_lt i j)
   where
-    repeats : (a b : ℕ) → a < b → b < length events → task_at events a ≡ task_at events b → name_at events a ≡ name_at events b → IsRepeated (named_events events) b
+    repeats : (a b : ℕ) → a < b → b < length events → task_at events a ≡ task_at events b → event_name_at events a ≡ event_name_at events b → IsRepeated (named_events events) b
     repeats a b lt lb t m = (
       a,
-      (task_at events b, name_at events b),
+      (task_at events b, event_name_at events b),
       lt,
       simp length-map lb,
-      named_at events a (omega arith) ∙ (ap (λ (x : List ℕ). Some (x, name_at events a)) t ∙ ap (λ (y : List ℕ). Some (task_at events b, y)) m),
+      named_at events a (omega arith) ∙ (ap (λ (x : List ℕ). Some (x, event_name_at events a)) t ∙ ap (λ (y : List ℕ). Some (task_at events b, y)) m),
       named_at events b lb,
     )
 
@@ -86,7 +86,7 @@ module _ (events : List Event) (times : List ℤ) (pairs : List (ℕ × ℕ)) (s
       let si = at i d li in
       let sj = at j d lj in
       let t : task_at events (get_or pairs i (0, 0)).0 ≡ task_at events (get_or pairs j (0, 0)).0 = sym si.task ∙ (ap (λ (x : List ℕ × List ℕ × List ℕ). x.0) same ∙ sj.task) in
-      let m : name_at events (get_or pairs i (0, 0)).0 ≡ name_at events (get_or pairs j (0, 0)).0 = sym si.start_event ∙ (ap (λ (x : List ℕ × List ℕ × List ℕ). x.1) same ∙ sj.start_event) in
+      let m : event_name_at events (get_or pairs i (0, 0)).0 ≡ event_name_at events (get_or pairs j (0, 0)).0 = sym si.start_event ∙ (ap (λ (x : List ℕ × List ℕ × List ℕ). x.1) same ∙ sj.start_event) in
       listed_apart events times (get_or pairs i (0, 0)).0 (get_or pairs j (0, 0)).0 (n.order i j (0, 0) lt lj)
       (named_apart events (get_or pairs i (0, 0)).0 (get_or pairs j (0, 0)).0 distinct (right i li).first (right j lj).first t m)
 

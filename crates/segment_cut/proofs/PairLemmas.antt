@@ -11,7 +11,7 @@ use Rattle.trace_types.specs.Events.{task_at}
 use Rattle.clock_offsets.specs.declared.first_events.Field.TheVariants.{Task}
 use Rattle.clock_offsets.specs.FirstEvents.{AreFirstEvents}
 use Rattle.segment_cut.specs.AdjustedTimes.{adjusted_at}
-use Rattle.segment_cut.specs.Neighbours.{IsEarlier, AreNeighbours, IsListedBefore, AreAllNeighbours}
+use Rattle.segment_cut.specs.Neighbours.{IsEarlierTime, AreNeighbours, IsListedBefore, AreAllNeighbours}
 use Rattle.segment_cut.specs.inner.Keys.{Key, no_key, key_at, IsKeyBefore, AreKeys, pairs_from, adjacent_pairs}
 
 -- x is of the keys at p and after it, which are of one task
@@ -226,12 +226,12 @@ module _ (events : List Event) (tasks : List ℕ) (times : List ℤ) (keys : Lis
       (cases_lt p q)
 
   -- an event is before another of its task where its key is
-  before_of_keys : (p q : ℕ) → p < length keys → q < length keys → (key_at keys p).0 ≡ (key_at keys q).0 → IsKeyBefore (key_at keys p) (key_at keys q) → IsEarlier times (key_at keys p).2 (key_at keys q).2
+  before_of_keys : (p q : ℕ) → p < length keys → q < length keys → (key_at keys p).0 ≡ (key_at keys q).0 → IsKeyBefore (key_at keys p) (key_at keys q) → IsEarlierTime times (key_at keys p).2 (key_at keys q).2
   before_of_keys p q lp lq same before =
       by_times (key_at keys p).1 (key_at keys q).1 (adjusted_at times (key_at keys p).2) (adjusted_at times (key_at keys q).2) (key_at keys p).2 (key_at keys q).2
       (sym (sorted.right p lp).1) (sym (sorted.right q lq).1) (key_times (key_at keys p) (key_at keys q) before same)
 
-  keys_of_before : (p q : ℕ) → p < length keys → q < length keys → (key_at keys p).0 ≡ (key_at keys q).0 → IsEarlier times (key_at keys p).2 (key_at keys q).2 → IsKeyBefore (key_at keys p) (key_at keys q)
+  keys_of_before : (p q : ℕ) → p < length keys → q < length keys → (key_at keys p).0 ≡ (key_at keys q).0 → IsEarlierTime times (key_at keys p).2 (key_at keys q).2 → IsKeyBefore (key_at keys p) (key_at keys q)
   keys_of_before p q lp lq same before = inr (
     same,
     by_times (adjusted_at times (key_at keys p).2) (adjusted_at times (key_at keys q).2) (key_at keys p).1 (key_at keys q).1 (key_at keys p).2 (key_at keys q).2
@@ -254,15 +254,15 @@ module _ (events : List Event) (tasks : List ℕ) (times : List ℤ) (keys : Lis
         between = λ k lk same after before. between p k within task lk same after before;
       }))
     where
-      between : (p k : ℕ) → suc p < length keys → (key_at keys p).0 ≡ (key_at keys (suc p)).0 → k < length events → task_at events k ≡ task_at events (key_at keys p).2 → IsEarlier times (key_at keys p).2 k → IsEarlier times k (key_at keys (suc p)).2 → ⊥
+      between : (p k : ℕ) → suc p < length keys → (key_at keys p).0 ≡ (key_at keys (suc p)).0 → k < length events → task_at events k ≡ task_at events (key_at keys p).2 → IsEarlierTime times (key_at keys p).2 k → IsEarlierTime times k (key_at keys (suc p)).2 → ⊥
       between p k within task lk same after before =
           let lp : p < length keys = omega arith in
           let e : length tasks ≡ length events = tasks_len in
           let q = sorted.all k (omega arith) in
           let number : get_or tasks k 0 ≡ get_or tasks (key_at keys p).2 0 = task_number k (key_at keys p).2 lk (place_in_range p lp) same in
           let here : (key_at keys p).0 ≡ (key_at keys q.0).0 = sym (sorted.right p lp).0 ∙ (sym number ∙ sym (key_number q.0 k q.1 q.2)) in
-          let low : p < q.0 = key_order p q.0 lp q.1 (keys_of_before p q.0 lp q.1 here (subst (λ (i : ℕ). IsEarlier times (key_at keys p).2 i) (sym q.2) after)) in
-          let high : q.0 < suc p = key_order q.0 (suc p) q.1 within (keys_of_before q.0 (suc p) q.1 within (sym here ∙ task) (subst (λ (i : ℕ). IsEarlier times i (key_at keys (suc p)).2) (sym q.2) before)) in
+          let low : p < q.0 = key_order p q.0 lp q.1 (keys_of_before p q.0 lp q.1 here (subst (λ (i : ℕ). IsEarlierTime times (key_at keys p).2 i) (sym q.2) after)) in
+          let high : q.0 < suc p = key_order q.0 (suc p) q.1 within (keys_of_before q.0 (suc p) q.1 within (sym here ∙ task) (subst (λ (i : ℕ). IsEarlierTime times i (key_at keys (suc p)).2) (sym q.2) before)) in
           omega arith
 
   -- what makes a segment stands beside one another

@@ -10,7 +10,7 @@ use Rattle.clock_offsets.specs.FirstEvents.{AreFirstEvents}
 use Rattle.clock_offsets.specs.declared.first_events.Field.TheVariants.{Task}
 use Rattle.trace_types.specs.declared.event.Event.{Event}
 use Rattle.trace_types.specs.Repeats.{IsRepeated, IsFirstRepeat, AreDistinct}
-use Rattle.trace_types.specs.Events.{task_at, name_at, named_events}
+use Rattle.trace_types.specs.Events.{task_at, event_name_at, named_events}
 
 -- an event, where a default is asked for
 pub no_event : Event
@@ -21,15 +21,15 @@ abbrev pub first_at : List ℕ → ℕ → ℕ
 first_at firsts k = get_or firsts k 0
 
 -- the key of an event
-pub named_at : (events : List Event) (k : ℕ) → k < length events → get_or (named_events events) k None ≡ Some (task_at events k, name_at events k)
+pub named_at : (events : List Event) (k : ℕ) → k < length events → get_or (named_events events) k None ≡ Some (task_at events k, event_name_at events k)
 named_at events k lt =
     let task : task_at events k ≡ (get_or events k no_event).task = get_or-map (λ (e : Event). e.task) events k no_event [] lt in
-    let name : name_at events k ≡ (get_or events k no_event).event = get_or-map (λ (e : Event). e.event) events k no_event [] lt in
+    let name : event_name_at events k ≡ (get_or events k no_event).event = get_or-map (λ (e : Event). e.event) events k no_event [] lt in
     get_or-map (λ (e : Event). Some (e.task, e.event)) events k no_event None lt ∙ (ap (λ (a : List ℕ). Some (a, (get_or events k no_event).event)) (sym task) ∙ ap (λ (b : List ℕ). Some (task_at events k, b)) (sym name))
 
 -- the number is that of the name of the event at k
 abbrev pub IsNameAt : List (List ℕ) → List Event → ℕ → ℕ → Type 0
-IsNameAt names events k m = slice_get names m ≡ Some (name_at events k)
+IsNameAt names events k m = slice_get names m ≡ Some (event_name_at events k)
 
 -- a text has one number
 abbrev pub HaveOneNumber : List (List ℕ) → Type 0
@@ -56,22 +56,22 @@ pair_parts a b c d o p key oa pc ok pk = (ap part_a (sym oa ∙ (both ∙ pc)), 
     part_b (Some x) = x.1
 
 -- what a repeat tells of the two events
-pub repeat_tells : (events : List Event) (k : ℕ) → IsRepeated (named_events events) k → (j : ℕ) × (j < k) × (k < length events) × (task_at events j ≡ task_at events k) × (name_at events j ≡ name_at events k)
+pub repeat_tells : (events : List Event) (k : ℕ) → IsRepeated (named_events events) k → (j : ℕ) × (j < k) × (k < length events) × (task_at events j ≡ task_at events k) × (event_name_at events j ≡ event_name_at events k)
 repeat_tells events k (j, key, before, within, at_j, at_k) =
     let all : length (named_events events) ≡ length events = length-map {B = Option (List ℕ × List ℕ)} events (λ (e : Event). Some (e.task, e.event)) in
     let lk : k < length events = omega arith in
     let lj : j < length events = omega arith in
-    let parts = pair_parts (task_at events j) (name_at events j) (task_at events k) (name_at events k) (get_or (named_events events) j None) (get_or (named_events events) k None) key (named_at events j lj) (named_at events k lk) at_j at_k in
+    let parts = pair_parts (task_at events j) (event_name_at events j) (task_at events k) (event_name_at events k) (get_or (named_events events) j None) (get_or (named_events events) k None) key (named_at events j lj) (named_at events k lk) at_j at_k in
     (j, before, lk, parts.0, parts.1)
 
 -- two events with both alike are a repeat
-pub repeat_of : (events : List Event) (j k : ℕ) → j < k → k < length events → task_at events j ≡ task_at events k → name_at events j ≡ name_at events k → IsRepeated (named_events events) k
+pub repeat_of : (events : List Event) (j k : ℕ) → j < k → k < length events → task_at events j ≡ task_at events k → event_name_at events j ≡ event_name_at events k → IsRepeated (named_events events) k
 repeat_of events j k before lk t m = (
   j,
-  (task_at events k, name_at events k),
+  (task_at events k, event_name_at events k),
   before,
   simp length-map lk,
-  named_at events j (omega arith) ∙ (ap (λ (x : List ℕ). Some (x, name_at events j)) t ∙ ap (λ (y : List ℕ). Some (task_at events k, y)) m),
+  named_at events j (omega arith) ∙ (ap (λ (x : List ℕ). Some (x, event_name_at events j)) t ∙ ap (λ (y : List ℕ). Some (task_at events k, y)) m),
   named_at events k lk,
 )
 
@@ -122,7 +122,7 @@ seen_new names events firsts n t m seen w p one s task name is now own = at (pla
     right absent u v k true e h =
         let n_is : n ≡ k = cc in
         let same = exact t u m v e in
-        (omega arith, ap (first_at firsts) (sym n_is) ∙ (sym task ∙ same.0), ap (slice_get names) (sym same.1) ∙ (name ∙ ap (λ i. Some (name_at events i)) n_is))
+        (omega arith, ap (first_at firsts) (sym n_is) ∙ (sym task ∙ same.0), ap (slice_get names) (sym same.1) ∙ (name ∙ ap (λ i. Some (event_name_at events i)) n_is))
     right absent u v k false e h = let r = s.right u v k h in let lt : k < n = r.0 in (omega arith, r.1, r.2)
 
     all : place_in seen t m ≡ None → (k v : ℕ) → k < n → IsNameAt names events k v → (b : Bool) → (eqb t (first_at firsts k) && eqb m v) ≡ b → cond b (Some n) (place_in seen (first_at firsts k) v) ≡ Some k
@@ -141,7 +141,7 @@ seen_new names events firsts n t m seen w p one s task name is now own = at (pla
           (λ (below : k < n). added seen w t m n is e (first_at firsts k) v ∙ all e k v below number (eqb t (first_at firsts k) && eqb m v) refl)
           (λ (above : n ≤ k).
           let same : n ≡ k = omega arith in
-          let number_is : m ≡ v = one m v (name_at events k) (name ∙ ap (λ i. Some (name_at events i)) same) number in
+          let number_is : m ≡ v = one m v (event_name_at events k) (name ∙ ap (λ i. Some (event_name_at events i)) same) number in
           ap (λ u. place_in w u v) (sym (task ∙ ap (first_at firsts) same)) ∙ (ap (place_in w t) (sym number_is) ∙ (now ∙ ap Some (own ∙ same))))
           (cases_lt k n);
     }
@@ -170,4 +170,4 @@ seen_repeat names events firsts n t m seen w p are s lt task name is now other =
         let before : j < n = old.0 in
         let first : first_at firsts j ≡ first_at firsts n = old.1 ∙ task in
         let same : task_at events j ≡ task_at events n = sym (are.same j (omega arith)) ∙ (ap (task_at events) first ∙ are.same n lt) in
-        repeat_of events j n before lt same (same_Some (name_at events j) (name_at events n) (sym old.2 ∙ name))
+        repeat_of events j n before lt same (same_Some (event_name_at events j) (event_name_at events n) (sym old.2 ∙ name))

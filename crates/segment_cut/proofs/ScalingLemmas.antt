@@ -8,11 +8,11 @@ use Rattle.trace_types.specs.declared.event.Event.{Event}
 use Rattle.trace_types.specs.declared.segment.Segment.{Segment}
 use Rattle.trace_types.specs.declared.trace.Trace.{Trace}
 use Rattle.clock_offsets.specs.Machines.{IsReference}
-use Rattle.trace_types.specs.Events.{machine_at, task_at, name_at, time_at, named_events}
+use Rattle.trace_types.specs.Events.{machine_at, task_at, event_name_at, time_at, named_events}
 use Rattle.clock_offsets.specs.Offsets.{adjusted_time}
 use Rattle.trace_types.specs.Repeats.{AreDistinct}
 use Rattle.segment_cut.specs.AdjustedTimes.{AreAdjustedTimes, HasAdjustedTime, adjusted_at, IsInClockRange}
-use Rattle.segment_cut.specs.Neighbours.{AreNeighbours, IsListedBefore, AreAllNeighbours, IsEarlier}
+use Rattle.segment_cut.specs.Neighbours.{AreNeighbours, IsListedBefore, AreAllNeighbours, IsEarlierTime}
 use Rattle.segment_cut.specs.Cutting.{most_events, IsValid, IsSpan, IsSegment, IsCut}
 use Rattle.segment_cut.specs.Elements.{HasElement}
 use Rattle.segment_cut.specs.Scaling.{AreOfOneMachine, AreTimelyMicroseconds, AreThousandfold, IsThousandfold, IsTraceThousandfold}
@@ -38,7 +38,7 @@ module _ (unique : HaveOneOffset) (events scaled : List Event) (times more : Lis
   task_same : (k : ℕ) → task_at scaled k ≡ task_at events k
   task_same k = ap (λ (ts : List (List ℕ)). get_or ts k []) s.tasks
 
-  name_same : (k : ℕ) → name_at scaled k ≡ name_at events k
+  name_same : (k : ℕ) → event_name_at scaled k ≡ event_name_at events k
   name_same k = ap (λ (ts : List (List ℕ)). get_or ts k []) s.names
 
   scaled_one : AreOfOneMachine scaled
@@ -55,17 +55,17 @@ module _ (unique : HaveOneOffset) (events scaled : List Event) (times more : Lis
       let here : k < length scaled = omega arith in
       own_time unique scaled k (adjusted_at more k) scaled_one here (b.value k here) ∙ ap pos (s.times k lt)
 
-  before_scaled : (i j : ℕ) → i < length events → j < length events → IsEarlier times i j → IsEarlier more i j
+  before_scaled : (i j : ℕ) → i < length events → j < length events → IsEarlierTime times i j → IsEarlierTime more i j
   before_scaled i j li lj h = by h
     where
-      by : IsEarlier times i j → IsEarlier more i j
+      by : IsEarlierTime times i j → IsEarlierTime more i j
       by (inl low) = let p = time_is i li in let q = time_is j lj in let u = more_is i li in let v = more_is j lj in inl (omega (arith, ints))
       by (inr tie) = let e : adjusted_at times i ≡ adjusted_at times j = tie.0 in let p = time_is i li in let q = time_is j lj in let u = more_is i li in let v = more_is j lj in inr (omega (arith, ints), tie.1)
 
-  before_back : (i j : ℕ) → i < length events → j < length events → IsEarlier more i j → IsEarlier times i j
+  before_back : (i j : ℕ) → i < length events → j < length events → IsEarlierTime more i j → IsEarlierTime times i j
   before_back i j li lj h = by h
     where
-      by : IsEarlier more i j → IsEarlier times i j
+      by : IsEarlierTime more i j → IsEarlierTime times i j
       by (inl low) = let p = time_is i li in let q = time_is j lj in let u = more_is i li in let v = more_is j lj in inl (omega (arith, ints))
       by (inr tie) = let e : adjusted_at more i ≡ adjusted_at more j = tie.0 in let p = time_is i li in let q = time_is j lj in let u = more_is i li in let v = more_is j lj in inr (omega (arith, ints), tie.1)
 
@@ -123,7 +123,7 @@ module _ (unique : HaveOneOffset) (events scaled : List Event) (times more : Lis
   scaled_segment x u v near p q = record {
     name = ap (λ (t : List ℕ). (t, v.start_event, v.end_event)) (q.task ∙ (task_same x.0 ∙ sym p.task))
         ∙ (ap (λ (t : List ℕ). (u.task, t, v.end_event)) (q.start_event ∙ (name_same x.0 ∙ sym p.start_event)) ∙ ap (λ (t : List ℕ). (u.task, u.start_event, t)) (q.end_event ∙ (name_same x.1 ∙ sym p.end_event)));
-    element = one_element (name_at events x.0) v.element u.element (subst (λ (n : List ℕ). HasElement n v.element) (name_same x.0) q.element) p.element;
+    element = one_element (event_name_at events x.0) v.element u.element (subst (λ (n : List ℕ). HasElement n v.element) (name_same x.0) q.element) p.element;
     start = q.start ∙ (more_is x.0 near.first ∙ sym (ap (λ (z : ℤ). pos 1000 *ℤ z) (p.start ∙ time_is x.0 near.first)));
     end = q.end ∙ (more_is x.1 near.second ∙ sym (ap (λ (z : ℤ). pos 1000 *ℤ z) (p.end ∙ time_is x.1 near.second)));
   }
@@ -181,7 +181,7 @@ module _ (unique : HaveOneOffset) (events scaled : List Event) (times more : Lis
       moved : (i : ℕ) → i < length scaled → get_or (named_events events) i None ≡ get_or (named_events scaled) i None
       moved i lt =
           let n : length scaled ≡ length events = same_length in
-          named_at events i (omega arith) ∙ (ap (λ (t : List ℕ). Some (t, name_at events i)) (sym (task_same i)) ∙ (ap (λ (t : List ℕ). Some (task_at scaled i, t)) (sym (name_same i)) ∙ sym (named_at scaled i lt)))
+          named_at events i (omega arith) ∙ (ap (λ (t : List ℕ). Some (t, event_name_at events i)) (sym (task_same i)) ∙ (ap (λ (t : List ℕ). Some (task_at scaled i, t)) (sym (name_same i)) ∙ sym (named_at scaled i lt)))
 
   range_scaled : AreTimelyMicroseconds events → All IsInClockRange more
   range_scaled early = All-from_get_or IsInClockRange more (pos 0) (λ k lt.

@@ -8,14 +8,14 @@ use Rattle.std.proofs.lemmas.List.Elements.{All-get_or, All-contains}
 use Rattle.trace_types.specs.declared.event.Event.{Event}
 use Rattle.trace_types.specs.declared.segment.Segment.{Segment}
 use Rattle.trace_types.specs.declared.trace.Trace.{Trace}
-use Rattle.trace_types.specs.Events.{machine_at, line_at, name_at, time_at, named_events, sends_of, receipts_of}
+use Rattle.trace_types.specs.Events.{machine_at, line_at, event_name_at, time_at, named_events, sends_of, receipts_of}
 use Rattle.clock_offsets.specs.Offsets.{IsOffset, adjusted_time}
 use Rattle.trace_types.specs.Repeats.{AreDistinct, IsLineOfRepeat}
 use Rattle.segment_cut.specs.declared.trace_fault.TraceFault.{TraceFault}
 use Rattle.segment_cut.specs.declared.trace_fault.TraceFault.TheVariants.{Memory, TooManyEvents, RepeatedEvent, RepeatedSend, RepeatedRecv, ClockRange}
 use Rattle.segment_cut.specs.AdjustedTimes.{AreAdjustedTimes, HasAdjustedTime, adjusted_at, IsInClockRange, IsLineOutOfRange}
 use Rattle.segment_cut.specs.Neighbours.{AreNeighbours, IsListedBefore, AreAllNeighbours}
-use Rattle.segment_cut.specs.Cutting.{most_events, IsShort, IsSpan, IsSegment, AreSegments, IsCut}
+use Rattle.segment_cut.specs.Cutting.{most_events, HasFewEvents, IsSpan, IsSegment, AreSegments, IsCut}
 use Rattle.segment_cut.specs.Faults.{IsTraceFault}
 use Rattle.segment_cut.proofs.PairLemmas.{time_asym}
 use Rattle.segment_cut.proofs.SameLemmas.{same_segment, same_trace}
@@ -52,7 +52,7 @@ pub one_pairs : (events : List Event) (times : List ℤ) (xs ys : List (ℕ × �
 one_pairs events times xs ys p q = one_list (λ x y. IsListedBefore events times x.0 y.0) (λ x y. listed_asym events times x.0 y.0) xs ys p.order q.order (within_pairs events times xs ys p q) (within_pairs events times ys xs q p)
 
 one_segment : (events : List Event) (times : List ℤ) (x : ℕ × ℕ) (s r : Segment) → IsSegment events times x s → IsSegment events times x r → s ≡ r
-one_segment events times x s r p q = same_segment s r (p.task ∙ sym q.task) (p.start_event ∙ sym q.start_event) (p.end_event ∙ sym q.end_event) (p.start ∙ sym q.start) (p.end ∙ sym q.end) (one_element (name_at events x.0) s.element r.element p.element q.element)
+one_segment events times x s r p q = same_segment s r (p.task ∙ sym q.task) (p.start_event ∙ sym q.start_event) (p.end_event ∙ sym q.end_event) (p.start ∙ sym q.start) (p.end ∙ sym q.end) (one_element (event_name_at events x.0) s.element r.element p.element q.element)
 
 one_each : (events : List Event) (times : List ℤ) (xs : List (ℕ × ℕ)) (us vs : List Segment) → AllZip (IsSegment events times) xs us → AllZip (IsSegment events times) xs vs → us ≡ vs
 one_each events times [] [] [] p q = refl
@@ -101,7 +101,7 @@ one_range unique events a b (k, lt, (t, has, out), before, is) (k', lt', (t', ha
     (λ (h : k' < k). let r = before k' h in absurd (out' (subst IsInClockRange (one_time unique events k' r.0 t' r.1 has') r.2))))
     (cases_order k k')
 
-too_many : (events : List Event) (count : ℕ) → (count ≡ length events) × (most_events < count) → IsShort events → ⊥
+too_many : (events : List Event) (count : ℕ) → (count ≡ length events) × (most_events < count) → HasFewEvents events → ⊥
 too_many events count p short =
     let e : count ≡ length events = p.0 in
     let lt : most_events < count = p.1 in

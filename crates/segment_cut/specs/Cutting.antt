@@ -6,7 +6,7 @@ use Rattle.trace_types.specs.declared.segment.Segment.{Segment}
 use Rattle.trace_types.specs.declared.trace.Trace.{Trace}
 use Rattle.clock_offsets.specs.Faults.{AreMessagesOnce}
 use Rattle.trace_types.specs.Repeats.{AreDistinct}
-use Rattle.trace_types.specs.Events.{task_at, name_at, time_at, named_events}
+use Rattle.trace_types.specs.Events.{task_at, event_name_at, time_at, named_events}
 use Rattle.segment_cut.specs.AdjustedTimes.{AreAdjustedTimes, adjusted_at, IsInClockRange}
 use Rattle.segment_cut.specs.Neighbours.{AreAllNeighbours}
 use Rattle.segment_cut.specs.Elements.{HasElement}
@@ -16,12 +16,12 @@ abbrev pub most_events : ℕ
 most_events = 4096
 
 -- the trace has no more
-abbrev pub IsShort : List Event → Type 0
-IsShort events = length events ≤ most_events
+abbrev pub HasFewEvents : List Event → Type 0
+HasFewEvents events = length events ≤ most_events
 
 -- given the adjusted times of the events, no fault holds of the events
 pub record IsValid (events : List Event) (times : List ℤ) : Type 0 where
-  pub short : IsShort events
+  pub short : HasFewEvents events
   pub named_once : AreDistinct (named_events events)
   pub messages_once : AreMessagesOnce events
   pub in_range : All IsInClockRange times
@@ -44,11 +44,11 @@ pub record IsSpan (times : List ℤ) (n : ℕ) : Type 0 where
 pub record IsSegment (events : List Event) (times : List ℤ) (places : ℕ × ℕ)
     (s : Segment) : Type 0 where
   pub task : s.task ≡ task_at events places.0
-  pub start_event : s.start_event ≡ name_at events places.0
-  pub end_event : s.end_event ≡ name_at events places.1
+  pub start_event : s.start_event ≡ event_name_at events places.0
+  pub end_event : s.end_event ≡ event_name_at events places.1
   pub start : s.start ≡ adjusted_at times places.0
   pub end : s.end ≡ adjusted_at times places.1
-  pub element : HasElement (name_at events places.0) s.element
+  pub element : HasElement (event_name_at events places.0) s.element
 
 -- the segments are exactly those of the events, in order
 pub record AreSegments (events : List Event) (times : List ℤ)

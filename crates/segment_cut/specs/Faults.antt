@@ -18,7 +18,7 @@ use Rattle.segment_cut.specs.declared.trace_fault.TraceFault.TheVariants.{Repeat
 use Rattle.segment_cut.specs.declared.trace_fault.TraceFault.TheVariants.{RepeatedSend}
 use Rattle.segment_cut.specs.declared.trace_fault.TraceFault.TheVariants.{RepeatedRecv, ClockRange}
 use Rattle.segment_cut.specs.AdjustedTimes.{IsLineOutOfRange}
-use Rattle.segment_cut.specs.Cutting.{most_events, IsShort}
+use Rattle.segment_cut.specs.Cutting.{most_events, HasFewEvents}
 
 -- the fault of the events is the first that holds: too many of them, an event that a task has
 -- twice, a message that is sent twice, one that is received twice, an adjusted time out of range,
@@ -26,13 +26,13 @@ use Rattle.segment_cut.specs.Cutting.{most_events, IsShort}
 abbrev pub IsTraceFault : List Event → TraceFault → Type 0
 IsTraceFault events Memory = ⊥
 IsTraceFault events (TooManyEvents count) = (count ≡ length events) × (most_events < count)
-IsTraceFault events (RepeatedEvent line) = IsShort events
+IsTraceFault events (RepeatedEvent line) = HasFewEvents events
     × IsLineOfRepeat events (named_events events) line
-IsTraceFault events (RepeatedSend line) = IsShort events × AreDistinct (named_events events)
+IsTraceFault events (RepeatedSend line) = HasFewEvents events × AreDistinct (named_events events)
     × IsLineOfRepeat events (sends_of events) line
-IsTraceFault events (RepeatedRecv line) = IsShort events × AreDistinct (named_events events)
+IsTraceFault events (RepeatedRecv line) = HasFewEvents events × AreDistinct (named_events events)
     × AreDistinct (sends_of events) × IsLineOfRepeat events (receipts_of events) line
-IsTraceFault events (ClockRange line) = IsShort events × AreDistinct (named_events events)
+IsTraceFault events (ClockRange line) = HasFewEvents events × AreDistinct (named_events events)
     × AreMessagesOnce events
     × IsLineOutOfRange events line
 

@@ -7,8 +7,8 @@ use Rattle.segment_cut.specs.AdjustedTimes.{adjusted_at}
 
 -- the event at i is earlier than the event at j: by adjusted time, and by line where the times are
 -- equal
-abbrev pub IsEarlier : List ℤ → ℕ → ℕ → Type 0
-IsEarlier times i j = (adjusted_at times i <ℤ adjusted_at times j)
+abbrev pub IsEarlierTime : List ℤ → ℕ → ℕ → Type 0
+IsEarlierTime times i j = (adjusted_at times i <ℤ adjusted_at times j)
     ⊎ ((adjusted_at times i ≡ adjusted_at times j) × (i < j))
 
 -- the events at i and j make a segment: they are of one task, and no event of that task is between
@@ -17,9 +17,9 @@ pub record AreNeighbours (events : List Event) (times : List ℤ) (i j : ℕ) : 
   pub first : i < length events
   pub second : j < length events
   pub task : task_at events i ≡ task_at events j
-  pub before : IsEarlier times i j
+  pub before : IsEarlierTime times i j
   pub between : (k : ℕ) → k < length events → task_at events k ≡ task_at events i
-      → IsEarlier times i k → IsEarlier times k j → ⊥
+      → IsEarlierTime times i k → IsEarlierTime times k j → ⊥
 
 -- the task of the event at i is seen before that of the event at j: some event of the one is before
 -- all of the other
@@ -31,7 +31,7 @@ IsTaskBefore events i j = (f : ℕ) × (f < length events) × (task_at events f 
 -- task, and then by the order in the task
 abbrev pub IsListedBefore : List Event → List ℤ → ℕ → ℕ → Type 0
 IsListedBefore events times i j =
-    IsTaskBefore events i j ⊎ ((task_at events i ≡ task_at events j) × IsEarlier times i j)
+    IsTaskBefore events i j ⊎ ((task_at events i ≡ task_at events j) × IsEarlierTime times i j)
 
 -- pairs are the indices of the two events of each segment, in the order in which segments are
 -- listed

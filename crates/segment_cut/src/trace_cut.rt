@@ -7,7 +7,7 @@ ghost use Rattle.clock_offsets.specs.Offsets.{AreOffsets};
 ghost use Rattle.clock_offsets.specs.declared.first_events.Field.TheVariants.{Task};
 ghost use Rattle.clock_offsets.specs.Faults.{AreMessagesOnce};
 ghost use Rattle.segment_cut.specs.declared.trace_fault.TraceFault.TheVariants.{Memory};
-ghost use Rattle.segment_cut.specs.Cutting.{IsShort, IsCut};
+ghost use Rattle.segment_cut.specs.Cutting.{HasFewEvents, IsCut};
 ghost use Rattle.segment_cut.specs.Faults.{IsTraceFault};
 
 use crate::keys::make_keys;
@@ -30,7 +30,7 @@ const NANOSECONDS_PER_DAY: u64 = 86_400_000_000_000;
 fn check_events(alloc: Global, raw: &RawEvents<'_>) -> Result<Vec<usize>, TraceFault>
     requires { length raw.now.trace.events < 2 ^ 32 }
     ensures tasks { IfOk result (λ tasks. AreFirstEvents Task raw.now.trace.events tasks.items) }
-    ensures short { OnOk result (IsShort raw.now.trace.events) }
+    ensures short { OnOk result (HasFewEvents raw.now.trace.events) }
     ensures once { OnOk result (AreDistinct (named_events raw.now.trace.events)) }
     ensures err { IfErr result (λ fault. fault ≢ Memory → IsTraceFault raw.now.trace.events fault) }
 {
@@ -56,7 +56,7 @@ fn cut_by<'a>(
 ) -> Result<CutTrace<'a>, TraceFault>
     requires tasks { AreFirstEvents Task raw.now.trace.events tasks.now }
     requires timely { AreTimely raw.now.trace.events }
-    requires short { IsShort raw.now.trace.events }
+    requires short { HasFewEvents raw.now.trace.events }
     requires named { AreDistinct (named_events raw.now.trace.events) }
     requires messages { AreMessagesOnce raw.now.trace.events }
     requires offsets { AreOffsets raw.now.trace.events by_event.now }

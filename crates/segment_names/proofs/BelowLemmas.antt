@@ -10,7 +10,7 @@ use Rattle.trace_types.specs.declared.trace.Trace.{Trace}
 use Rattle.trace_types.specs.Parts.{by_number, by_text}
 use Rattle.trace_types.specs.Renaming.{IsSegmentRenamed}
 use Rattle.segment_names.specs.Known.{Known}
-use Rattle.segment_names.specs.Naming.{IsBelow, IsNamed}
+use Rattle.segment_names.specs.Naming.{HasKnownNumbers, IsNamed}
 
 -- numbering a list matches each number with what stands there
 abbrev pub Numbers : {X : Type 0} → List X → Type 0
@@ -20,7 +20,7 @@ some_and : {Y : Type 0} (o : Option Y) (P : Y → Type 0) → IsSomeAnd o P → 
 some_and None P h = absurd h
 some_and (Some y) P h = (y, refl, h)
 
-pub named_below : (known : Known) (named : NamedTrace) (trace : Trace) → Numbers known.names → Numbers known.tasks → IsNamed known named trace → IsBelow known named
+pub named_below : (known : Known) (named : NamedTrace) (trace : Trace) → Numbers known.names → Numbers known.tasks → IsNamed known named trace → HasKnownNumbers known named
 named_below known named trace names tasks is k d lt =
     let got : slice_get named.segments k ≡ Some (get_or named.segments k d) = slice_get-get_or named.segments k d lt in
     let there = subst (λ (o : Option NamedSegment). MatchOption o (Unit {0}) (λ v. IsSomeAnd (slice_get trace.segments k) (IsSegmentRenamed by_number by_text (enumerate_from 0 known.names) (enumerate_from 0 known.tasks) is.elements v))) got (AllZip-left (IsSegmentRenamed by_number by_text (enumerate_from 0 known.names) (enumerate_from 0 known.tasks) is.elements) named.segments trace.segments is.segments k) in

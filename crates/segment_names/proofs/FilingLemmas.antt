@@ -9,7 +9,8 @@ use Rattle.std.specs.Str.{bytes_eq}
 use Rattle.trace_types.specs.Segments.{SegmentName}
 use Rattle.segment_names.specs.declared.name_key.NameKey.{NameKey}
 use Rattle.segment_names.specs.Known.{same_name}
-use Rattle.segment_names.specs.inner.Filing.{AreDifferent, IsFiled, IsFiledAs, names_of_entries}
+use Rattle.event_table.specs.Texts.{AreDifferent}
+use Rattle.segment_names.specs.inner.Filing.{IsFiled, IsFiledAs, names_of_entries}
 use Rattle.segment_names.proofs.FindLemmas.{none-passes, position-none, position-at, positions-alike, index-means, found-there}
 use Rattle.segment_names.proofs.FirstLemmas.{differ-new}
 use Rattle.segment_names.proofs.TextLemmas.{text_means, text_own, name_means, name_own}

@@ -5,7 +5,7 @@ use Rattle.std.proofs.lemmas.List.Elements.{filter-append}
 use Rattle.std.proofs.lemmas.List.Folds.{list_any_at}
 use Rattle.std.proofs.lemmas.List.Quantifiers.{all_pairs_push}
 use Rattle.trace_types.specs.Firsts.{firsts_of}
-use Rattle.segment_names.specs.inner.Filing.{AreDifferent}
+use Rattle.event_table.specs.Texts.{AreDifferent}
 
 -- the list with one more at its end, unless it is there
 abbrev pub with_key : {X : Type 0} → (X → X → Bool) → List X → X → List X

@@ -11,7 +11,7 @@ use Rattle.trace_types.specs.Renaming.{AreOptionsMatched, IsSegmentRenamed}
 use Rattle.trace_types.specs.SegmentLists.{NamesDiffer, TasksStandTogether, JoinInTasks, ElementsCountUp}
 use Rattle.trace_types.specs.Segments.{SegmentName, name_of, task_of, start_of, end_of}
 use Rattle.segment_names.specs.Known.{Known}
-use Rattle.segment_names.specs.inner.Filing.{AreDifferent}
+use Rattle.event_table.specs.Texts.{AreDifferent}
 use Rattle.segment_names.specs.inner.Numbering.{AreNumbered, IsElementAt}
 use Rattle.segment_names.proofs.FindLemmas.{index-means}
 use Rattle.segment_names.proofs.TextLemmas.{text_means, text_own}

@@ -11,7 +11,8 @@ use Rattle.trace_types.specs.Firsts.{firsts_of}
 use Rattle.trace_types.specs.Segments.{SegmentName, name_of, task_of}
 use Rattle.segment_names.specs.declared.name_key.NameKey.{NameKey}
 use Rattle.segment_names.specs.Known.{Known, same_name, name_number, with_segments}
-use Rattle.segment_names.specs.inner.Filing.{AreDifferent, Filed, Grows, IsFiled, IsFiledAs, known_in, names_of_entries}
+use Rattle.event_table.specs.Texts.{AreDifferent}
+use Rattle.segment_names.specs.inner.Filing.{Filed, Grows, IsFiled, IsFiledAs, known_in, names_of_entries}
 use Rattle.segment_names.proofs.FilingLemmas.{key_tells}
 use Rattle.segment_names.proofs.FindLemmas.{any-some, any-none}
 use Rattle.segment_names.proofs.FirstLemmas.{firsts-there, firsts-new, firsts-same, firsts-step, none-at}

@@ -16,7 +16,7 @@ use Rattle.trace_types.specs.NamedSegments.{number_of_element}
 use Rattle.trace_types.specs.Segments.{name_of}
 use Rattle.segment_names.specs.Known.{Known, name_number}
 use Rattle.segment_names.specs.Naming.{IsUnknownAt}
-use Rattle.segment_names.specs.inner.Filing.{AreDifferent}
+use Rattle.event_table.specs.Texts.{AreDifferent}
 use Rattle.segment_names.specs.inner.Numbering.{CountsUp, IsElementAt, IsNumbered, NumbersFirst}
 use Rattle.segment_names.proofs.FilingLemmas.{still_there}
 use Rattle.segment_names.proofs.FirstLemmas.{firsts-push, firsts-same, firsts-there, firsts-new, with_key}

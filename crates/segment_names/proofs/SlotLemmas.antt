@@ -9,7 +9,7 @@ use Rattle.std.specs.Str.{bytes_eq}
 use Rattle.trace_types.specs.Firsts.{firsts_of}
 use Rattle.trace_types.specs.Limits.{most_names, most_tasks}
 use Rattle.trace_types.specs.declared.named_segment.NamedSegment.{NamedSegment}
-use Rattle.segment_names.specs.inner.Filing.{AreDifferent}
+use Rattle.event_table.specs.Texts.{AreDifferent}
 use Rattle.trace_types.specs.declared.segment.Segment.{Segment}
 use Rattle.trace_types.specs.Segments.{SegmentName, name_of}
 use Rattle.event_table.specs.Numbers.{text_under}

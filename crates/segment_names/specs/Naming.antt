@@ -19,8 +19,8 @@ IsNamed known named trace = IsTraceRenamed by_number by_text (enumerate_from 0 k
     (enumerate_from 0 known.tasks) named trace
 
 -- each name and each task of the trace is a number of the catalogue
-abbrev pub IsBelow : Known → NamedTrace → Type 0
-IsBelow known named = All (λ (s : NamedSegment). (s.name < length known.names)
+abbrev pub HasKnownNumbers : Known → NamedTrace → Type 0
+HasKnownNumbers known named = All (λ (s : NamedSegment). (s.name < length known.names)
     × (s.task < length known.tasks)) named.segments
 
 -- the segment at this index has a name that is not in the catalogue

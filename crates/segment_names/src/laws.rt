@@ -2,7 +2,7 @@
 ghost use Rattle.std.specs.List.{enumerate_from};
 ghost use Rattle.segment_names.specs.Known.{Known};
 ghost use Rattle.segment_names.specs.Limits.{IsKept};
-ghost use Rattle.segment_names.specs.Naming.{IsBelow, IsNamed};
+ghost use Rattle.segment_names.specs.Naming.{HasKnownNumbers, IsNamed};
 ghost use Rattle.trace_types.specs.Parts.{by_number, by_text};
 ghost use Rattle.trace_types.specs.Renaming.{RefuteAlike};
 ghost use Rattle.trace_types.specs.declared.named_trace.NamedTrace.{NamedTrace};
@@ -37,7 +37,7 @@ pub fn named_trace_refutes_alike()
 /// The names and tasks of a named trace are numbers of the catalogue.
 pub fn named_trace_is_below()
     ensures { (known : Known) (named : NamedTrace) (trace : Trace) → IsNamed known named trace
-        → IsBelow known named }
+        → HasKnownNumbers known named }
 {
     numbering_is_one_to_one::<NameText>();
     numbering_is_one_to_one::<Text>();

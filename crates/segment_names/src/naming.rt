@@ -8,7 +8,8 @@ ghost use Rattle.trace_types.specs.Segments.{name_of};
 ghost use Rattle.segment_names.specs.Known.{name_number};
 ghost use Rattle.segment_names.specs.Limits.{Fits};
 ghost use Rattle.segment_names.specs.Naming.{IsFirstUnknown, IsNamed, IsRefused};
-ghost use Rattle.segment_names.specs.inner.Filing.{AreDifferent, known_in};
+ghost use Rattle.event_table.specs.Texts.{AreDifferent};
+ghost use Rattle.segment_names.specs.inner.Filing.{known_in};
 ghost use Rattle.segment_names.specs.inner.Numbering.{AreNumbered, IsElementAt, IsCause};
 
 use crate::tables::{Tables, intern};

@@ -2,7 +2,8 @@ ghost use Rattle.std.specs.Prelude.{◌≡◌, List, ℕ, ◌∷◌, [], ◌++�
 ghost use Rattle.std.specs.Str.{bytes_eq};
 ghost use Rattle.trace_types.specs.Firsts.{firsts_of};
 ghost use Rattle.trace_types.specs.Segments.{name_of};
-ghost use Rattle.segment_names.specs.inner.Filing.{AreDifferent, IsFiledAs};
+ghost use Rattle.event_table.specs.Texts.{AreDifferent};
+ghost use Rattle.segment_names.specs.inner.Filing.{IsFiledAs};
 
 use crate::NameFault;
 use crate::hints::{HINTS, hint_of};

@@ -3,7 +3,7 @@ use Rattle.std.proofs.Common.{◌≡◌, ℕ, ◌+◌, List, [], ◌∷◌, leng
 use Rattle.std.specs.Prelude.{Result, Ok, Err, codes}
 use Rattle.std.proofs.lemmas.List.{append-nil}
 use Rattle.day_partitions.specs.Books as books
-use Rattle.day_partitions.specs.Books.{IsBook, all_traces, traces_of, with_fewer}
+use Rattle.day_partitions.specs.Books.{IsBook, all_traces, traces_kept_on, with_fewer}
 use Rattle.event_lines.specs.declared.command.Command.TheVariants as commands
 use Rattle.kept_books.specs.BookLaws.{DropShows, NewestShow}
 use Rattle.kept_books.specs.Shown.{AreShown, IsShown}
@@ -24,7 +24,7 @@ use Rattle.session.proofs.SheetLemmas.{zip_length}
 
 module _ {S : Type 0} (written : S → Option (List ℕ)) (faults : S → ℕ) where
   pub drop_step : (drop : DropShows) (one : CallPrintsOnePart written faults IsPart (Unit {0})) (before after : SessionState) (day count : ℕ) (result : Result (Unit {0}) PrintFault) (old new : S) (held holds : List ℕ)
-      → after ≡ session_with_book before (with_fewer before.book (books.without_day day before.book.days)) → count ≡ length (traces_of before.book.days day) → IsBook before.book → PrintsText written faults result old new held holds (count_row (codes "drop") day count)
+      → after ≡ session_with_book before (with_fewer before.book (books.days_without day before.book.days)) → count ≡ length (traces_kept_on before.book.days day) → IsBook before.book → PrintsText written faults result old new held holds (count_row (codes "drop") day count)
       → PrintsSteps written faults result old new (Control (commands.Drop day)) before after held holds
   drop_step drop one before after day count result old new held holds is counted book printed s shown =
       let d = drop before.known before.book s.kept day book shown.traces in
@@ -38,7 +38,7 @@ module _ {S : Type 0} (written : S → Option (List ℕ)) (faults : S → ℕ) w
       }
 
   pub keep_step : (shows : NewestShow) (one : CallPrintsOnePart written faults IsPart (Unit {0})) (before after : SessionState) (days count : ℕ) (result : Result (Unit {0}) PrintFault) (old new : S) (held holds : List ℕ)
-      → after ≡ session_with_book before (with_fewer before.book (books.newest days before.book.days)) → count + kept_count after ≡ kept_count before → IsBook before.book → PrintsText written faults result old new held holds (count_row (codes "keep") days count)
+      → after ≡ session_with_book before (with_fewer before.book (books.newest_days days before.book.days)) → count + kept_count after ≡ kept_count before → IsBook before.book → PrintsText written faults result old new held holds (count_row (codes "keep") days count)
       → PrintsSteps written faults result old new (Control (commands.Keep days)) before after held holds
   keep_step newest_shows one before after days count result old new held holds is counted book printed s shown =
       let n = newest_shows before.known before.book s.kept days book shown.traces in

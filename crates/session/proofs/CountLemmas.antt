@@ -4,7 +4,7 @@ use Rattle.std.proofs.lemmas.Bool.{cases_Bool, cond-true, cond-false}
 use Rattle.std.proofs.lemmas.List.{append-nil, length-append, length-map}
 use Rattle.std.proofs.lemmas.List.Sums.{sum_by-cons}
 use Rattle.day_partitions.specs.Batches.{AreSheetsFor, trace_count, with_all}
-use Rattle.day_partitions.specs.Books.{BookState, IsSheetOf, KeptDay, all_traces, kept_day, with_added, with_traces, without_day}
+use Rattle.day_partitions.specs.Books.{BookState, IsSheetOf, KeptDay, all_traces, kept_day, with_added, with_day_traces, days_without}
 use Rattle.day_partitions.specs.declared.dated_sheet.DatedSheet.{DatedSheet}
 use Rattle.batch_sheets.specs.declared.recording.DayLines.{DayLines}
 use Rattle.kept_books.specs.Shown.{AreShown, IsShown}
@@ -33,15 +33,15 @@ along : (all mid old one rest count : ℕ) → all ≡ mid + rest → mid ≡ ol
 along all mid old one rest count e f g = omega (arith, e, f, g)
 
 -- ---- more traces of a day
-long_with : (day : ℕ) (ts : List NamedTrace) (ks : List KeptDay) → length (all_traces (with_traces day ts ks)) ≡ length (all_traces ks) + length ts
+long_with : (day : ℕ) (ts : List NamedTrace) (ks : List KeptDay) → length (all_traces (with_day_traces day ts ks)) ≡ length (all_traces ks) + length ts
 long_with day ts [] = ap length (append-nil ts) ∙ sym (zero-add (length ts))
 long_with day ts (k ∷ ks) = elim (cases_Bool (nat_lt k.day day)) [
   | inl low ↦
-      ap (λ l. length (all_traces l)) (cond-true (nat_lt k.day day) (k ∷ with_traces day ts ks) (if k.day == day then kept_day day (k.traces ++ ts) ∷ ks else kept_day day ts ∷ k ∷ ks) low)
-      ∙ below _ _ _ _ _ (length-append k.traces (all_traces (with_traces day ts ks))) (long_with day ts ks)
+      ap (λ l. length (all_traces l)) (cond-true (nat_lt k.day day) (k ∷ with_day_traces day ts ks) (if k.day == day then kept_day day (k.traces ++ ts) ∷ ks else kept_day day ts ∷ k ∷ ks) low)
+      ∙ below _ _ _ _ _ (length-append k.traces (all_traces (with_day_traces day ts ks))) (long_with day ts ks)
       ∙ ap (λ n. n + length ts) (sym (length-append k.traces (all_traces ks)))
   | inr other ↦
-      ap (λ l. length (all_traces l)) (cond-false (nat_lt k.day day) (k ∷ with_traces day ts ks) (if k.day == day then kept_day day (k.traces ++ ts) ∷ ks else kept_day day ts ∷ k ∷ ks) other)
+      ap (λ l. length (all_traces l)) (cond-false (nat_lt k.day day) (k ∷ with_day_traces day ts ks) (if k.day == day then kept_day day (k.traces ++ ts) ∷ ks else kept_day day ts ∷ k ∷ ks) other)
       ∙ elim (cases_Bool (k.day == day)) [
         | inl is ↦
             ap (λ l. length (all_traces l)) (cond-true (k.day == day) (kept_day day (k.traces ++ ts) ∷ ks) (kept_day day ts ∷ k ∷ ks) is)
@@ -93,11 +93,11 @@ module _ (few : NoMoreAreSheeted) (known : Known) (workers every grace : ℕ) (v
       under all old count long e l = omega (arith, e, l)
 
 -- ---- a day dropped
-pub drop_few : (day : ℕ) (ks : List KeptDay) → length (all_traces (without_day day ks)) ≤ length (all_traces ks)
+pub drop_few : (day : ℕ) (ks : List KeptDay) → length (all_traces (days_without day ks)) ≤ length (all_traces ks)
 drop_few day [] = omega arith
 drop_few day (k ∷ ks) = elim (cases_Bool (not (k.day == day))) [
-  | inl stays ↦ more _ _ _ _ _ (ap (λ l. length (all_traces l)) (cond-true (not (k.day == day)) (k ∷ without_day day ks) (without_day day ks) stays) ∙ length-append k.traces (all_traces (without_day day ks))) (length-append k.traces (all_traces ks)) (drop_few day ks)
-  | inr goes ↦ less _ _ _ _ _ (ap (λ l. length (all_traces l)) (cond-false (not (k.day == day)) (k ∷ without_day day ks) (without_day day ks) goes)) (length-append k.traces (all_traces ks)) (drop_few day ks)
+  | inl stays ↦ more _ _ _ _ _ (ap (λ l. length (all_traces l)) (cond-true (not (k.day == day)) (k ∷ days_without day ks) (days_without day ks) stays) ∙ length-append k.traces (all_traces (days_without day ks))) (length-append k.traces (all_traces ks)) (drop_few day ks)
+  | inr goes ↦ less _ _ _ _ _ (ap (λ l. length (all_traces l)) (cond-false (not (k.day == day)) (k ∷ days_without day ks) (days_without day ks) goes)) (length-append k.traces (all_traces ks)) (drop_few day ks)
 ]
   where
     more : (left all own rest old : ℕ) → left ≡ own + rest → all ≡ own + old → rest ≤ old → left ≤ all

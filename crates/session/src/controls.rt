@@ -1,6 +1,6 @@
 ghost use Rattle.std.specs.Prelude.{◌≡◌, ◌+◌, ◌≤◌, length};
 ghost use Rattle.day_partitions.specs.Books as books;
-ghost use Rattle.day_partitions.specs.Books.{IsBook, traces_of, with_fewer};
+ghost use Rattle.day_partitions.specs.Books.{IsBook, traces_kept_on, with_fewer};
 ghost use Rattle.event_lines.specs.declared.command.Command.TheVariants as commands;
 ghost use Rattle.session_rules.specs.Parts.{count_row};
 ghost use Rattle.session_rules.specs.declared.job.Job.TheVariants as jobs;
@@ -44,8 +44,8 @@ impl Session {
     /// Drops a day from the book, and returns how many traces it had.
     fn drop_from_book(&mut self, day: u32) -> u32
         ensures dropped { self.new ≡ session_with_book self.old
-            (with_fewer self.old.book (books.without_day day self.old.book.days)) }
-        ensures count { result ≡ length (traces_of self.old.book.days day) }
+            (with_fewer self.old.book (books.days_without day self.old.book.days)) }
+        ensures count { result ≡ length (traces_kept_on self.old.book.days day) }
         ensures book { IsBook self.old.book }
     {
         let _days = self.book.days();
@@ -55,7 +55,7 @@ impl Session {
     /// Drops all days but the last so many from the book, and returns how many traces they had.
     fn keep_in_book(&mut self, days: u32) -> u32
         ensures kept { self.new ≡ session_with_book self.old
-            (with_fewer self.old.book (books.newest days self.old.book.days)) }
+            (with_fewer self.old.book (books.newest_days days self.old.book.days)) }
         ensures count { result + kept_count self.new ≡ kept_count self.old }
         ensures book { IsBook self.old.book }
     {

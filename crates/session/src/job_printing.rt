@@ -1,7 +1,8 @@
 ghost use Rattle.std.specs.Prelude.{◌≡◌, ◌≤◌};
+ghost use Rattle.session_rules.specs.Jobs.{IsNoAdd};
 ghost use Rattle.session_rules.specs.declared.job.Job.TheVariants as jobs;
 ghost use Rattle.session.specs.Carrying.{IsReady, IsReadyCommand, kept_count};
-ghost use Rattle.session.specs.inner.Steps.{IsNoAdd, PrintsSteps};
+ghost use Rattle.session.specs.inner.Steps.{PrintsSteps};
 ghost use Rattle.text_rows.specs.Printing.{print_faults};
 
 use crate::{Job, Session};

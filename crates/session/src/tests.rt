@@ -1,4 +1,4 @@
-ghost use Rattle.std.specs.Prelude.{◌≡◌, IsTrue};
+ghost use Rattle.std.specs.Prelude.{◌≡◌, ◌≤◌, length, IfOk, IfSome, IsTrue};
 ghost use Rattle.session.specs.Carrying.{IsReady, IsReadyCommand, requests_in};
 ghost use Rattle.trace_types.specs.Times.{AreTimely};
 
@@ -46,6 +46,32 @@ fn are_timely(events: &[Event]) -> bool
         .all(|event| event.time <= 4_102_444_800_000_000_000)
 }
 
+/// Makes the list of this one table. The only error is out of memory.
+fn one_part(alloc: Global, table: EventTable) -> Result<EventParts, AllocError>
+    ensures { IfOk result (λ parts. parts ≡ table) }
+{
+    let mut parts = EventParts::new(alloc);
+    parts.push_part(table)?;
+    Ok(parts)
+}
+
+/// Makes the events of a job, or none where a job may not have them or memory ran out.
+fn parts_of(alloc: Global, events: &[Event]) -> Option<EventParts>
+    ensures timely { IfSome result AreTimely }
+    ensures few { IfSome result (λ parts. length parts ≤ 1000) }
+{
+    if events.len() > 1000 || !lines_rise(events) || !are_timely(events) {
+        return None;
+    }
+    let Ok(table) = EventTable::of_events(alloc, events) else {
+        return None;
+    };
+    let Ok(parts) = one_part(alloc, table) else {
+        return None;
+    };
+    Some(parts)
+}
+
 /// Carries out an add of these events, or answers `Memory` where a job may not have them.
 fn add<R: Threads + Sync, S: Sink>(
     rt: &R,
@@ -53,20 +79,10 @@ fn add<R: Threads + Sync, S: Sink>(
     events: Vec<Event>,
     out: &mut S,
 ) -> Result<Session, CommandFault> {
-    if events.len() > 1000 {
-        return Err(CommandFault::Memory);
-    }
     if session.trace_count() > 1000 {
         return Err(CommandFault::Memory);
     }
-    if !lines_rise(&events) || !are_timely(&events) {
-        return Err(CommandFault::Memory);
-    }
-    let Ok(table) = EventTable::of_events(session.alloc, &events) else {
-        return Err(CommandFault::Memory);
-    };
-    let mut parts = EventParts::new(session.alloc);
-    let Ok(()) = parts.push_part(table) else {
+    let Some(parts) = parts_of(session.alloc, &events) else {
         return Err(CommandFault::Memory);
     };
     session.command(rt, Job::Add { events: parts }, out, &OpenGate)

@@ -11,7 +11,7 @@ use Rattle.weighted_dag.specs.Graphs.{Graph, order_of, weight_of, with_weights}
 use Rattle.what_if.specs.declared.forecast.Forecast.{Forecast}
 use Rattle.session_rules.specs.declared.named_change.NamedChange.{NamedChange}
 use Rattle.session_rules.specs.KeptTraces.{Kept}
-use Rattle.session_rules.specs.TraceTexts.{IsGraphOf, name_at}
+use Rattle.session_rules.specs.TraceTexts.{IsGraphOf, name_of_vertex}
 
 -- how long a segment of this name would take that now takes so long, rounded down
 abbrev pub time_under : NamedChange → SegmentName → ℕ → ℕ
@@ -28,7 +28,7 @@ pub record IsForecastOf (change : NamedChange) (kept : List Kept) (k : Kept) (f 
     pub is : IsGraphOf kept k order graph
     pub count : length weights ≡ order_of graph
     pub changed : (v : ℕ) → v < order_of graph
-        → slice_index weights v ≡ time_under change (name_at k order v) (weight_of graph v)
+        → slice_index weights v ≡ time_under change (name_of_vertex k order v) (weight_of graph v)
     pub before : IsLongestLength graph f.before
     pub after : IsLongestLength (with_weights graph weights) f.after
 

@@ -49,17 +49,17 @@ IsSame (Unshared a b) (Unshared c d) = IsSamePair a b c d
 
 module _ {A S N T E : Type 0} (p : Parts A S N T E) where
   -- the trace refutes the hypothesis, which is one on two different names or tasks
-  abbrev pub Refutes : Hypothesis N T → A → Type 0
-  Refutes (Before a b) trace = (a ≢ b) × RefutesBefore p a b trace
-  Refutes (Exclusive a b) trace = (a ≢ b) × RefutesExclusive p a b trace
-  Refutes (Apart a b) trace = (a ≢ b) × RefutesApart p a b trace
-  Refutes (Pipe t u) trace = (t ≢ u) × RefutesPipe p t u trace
-  Refutes (Unshared t u) trace = (t ≢ u) × RefutesUnshared p t u trace
+  abbrev pub RefutesHypothesis : Hypothesis N T → A → Type 0
+  RefutesHypothesis (Before a b) trace = (a ≢ b) × RefutesBefore p a b trace
+  RefutesHypothesis (Exclusive a b) trace = (a ≢ b) × RefutesExclusive p a b trace
+  RefutesHypothesis (Apart a b) trace = (a ≢ b) × RefutesApart p a b trace
+  RefutesHypothesis (Pipe t u) trace = (t ≢ u) × RefutesPipe p t u trace
+  RefutesHypothesis (Unshared t u) trace = (t ≢ u) × RefutesUnshared p t u trace
 
   -- different hypotheses, each of which some trace of the list refutes
   pub record AreRefuted (traces : List A) (hypotheses : List (Hypothesis N T)) : Type 0 where
     pub differ : AllPairs (λ h i. IsSame h i → ⊥) hypotheses
-    pub refuted : All (λ h. IsRefuted (Refutes h) traces) hypotheses
+    pub refuted : All (λ h. IsRefuted (RefutesHypothesis h) traces) hypotheses
 
   -- the number is at least that of the hypotheses that some trace of the list refutes
   abbrev pub IsAtLeastRefuted : List A → ℕ → Type 0

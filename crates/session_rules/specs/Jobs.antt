@@ -1,12 +1,13 @@
 -- The jobs of the lines of an input.
-use Rattle.std.specs.Prelude.{ℕ, List, [], ◌∷◌, ◌++◌}
+use Rattle.std.specs.Prelude.{ℕ, List, [], ◌∷◌, ◌++◌, ⊤}
 use Rattle.event_lines.specs.declared.command.Command as asked
 use Rattle.event_lines.specs.declared.command.Command.TheVariants as commands
 use Rattle.event_lines.specs.declared.line.Line.{Line}
 use Rattle.event_lines.specs.declared.line.Line.TheVariants as lines
 use Rattle.trace_types.specs.declared.event.Event as events
 use Rattle.session_rules.specs.declared.job.Job.{Job}
-use Rattle.session_rules.specs.declared.job.Job.TheVariants.{Add, Control}
+use Rattle.session_rules.specs.declared.job.Job.TheVariants.{Add, Control, Summary, WhatIf, Tail}
+use Rattle.session_rules.specs.declared.job.Job.TheVariants.{Why, Verify}
 
 -- the job of a command, where these events came since the last add
 abbrev pub job_of : List events.Event → asked.Command → Job
@@ -45,3 +46,13 @@ jobs_from batch (lines.Control line command ∷ lines) =
 -- the jobs of the lines of an input
 abbrev pub jobs_of : List Line → List Job
 jobs_of lines = jobs_from [] lines
+
+-- the job is not an add
+abbrev pub IsNoAdd : Job → Type 0
+IsNoAdd (Add events) = ⊥
+IsNoAdd (Control command) = ⊤
+IsNoAdd Summary = ⊤
+IsNoAdd (WhatIf change) = ⊤
+IsNoAdd Tail = ⊤
+IsNoAdd Why = ⊤
+IsNoAdd (Verify claims) = ⊤

@@ -24,7 +24,7 @@ pub record Figures : Type 0 where
   pub pipe : List (List ℕ × List ℕ)
 
 -- these are the figures of the kept traces
-pub record AreFigures (kept : List Kept) (figures : Figures) : Type 0 where
+pub record AreModelFigures (kept : List Kept) (figures : Figures) : Type 0 where
   pub days : CountsDistinct figures.days (map day_of kept)
   pub names : CountsDistinct figures.names (map name_of (segments_of by_kept kept))
   pub tasks : CountsDistinct figures.tasks (map task_of (segments_of by_kept kept))
@@ -62,7 +62,7 @@ pipe_row pair = row_of (codes "pipe" ∷ pair.0 ∷ pair.1 ∷ [])
 -- the bytes are the first row of the model of kept traces
 pub record IsModelHead (kept : List Kept) (bytes : List ℕ) : Type 0 where
   pub figures : Figures
-  pub told : AreFigures kept figures
+  pub told : AreModelFigures kept figures
   pub text : bytes ≡ header_row (length kept) figures
 
 -- the header, the ordered pairs, the exclusive pairs and the pipelines
@@ -76,5 +76,5 @@ model_text traces figures =
 -- the bytes are the text of the model of kept traces
 pub record IsModelText (kept : List Kept) (bytes : List ℕ) : Type 0 where
   pub figures : Figures
-  pub told : AreFigures kept figures
+  pub told : AreModelFigures kept figures
   pub text : bytes ≡ model_text (length kept) figures

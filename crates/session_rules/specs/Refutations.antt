@@ -13,7 +13,7 @@ use Rattle.trace_types.specs.NameOrder.{name_cmp, pair_cmp}
 use Rattle.trace_types.specs.Segments.{SegmentName}
 use Rattle.trace_types.specs.Surviving.{IsRefuted}
 use Rattle.session_rules.specs.Hypotheses as hypotheses
-use Rattle.session_rules.specs.Hypotheses.{Hypothesis, Refutes}
+use Rattle.session_rules.specs.Hypotheses.{Hypothesis, RefutesHypothesis}
 use Rattle.session_rules.specs.KeptTraces.{Kept, by_kept, day_of, traces_on}
 
 -- the relation as a hypothesis on texts
@@ -24,7 +24,7 @@ hypothesis_of (Pipe t u) = hypotheses.Pipe t u
 
 -- the kept trace refutes the relation, which is one of two different names or tasks
 abbrev pub RefutesMatter : Matter → Kept → Type 0
-RefutesMatter matter k = Refutes by_kept (hypothesis_of matter) k
+RefutesMatter matter k = RefutesHypothesis by_kept (hypothesis_of matter) k
 
 -- of the kept traces the first that refutes the relation, and its index among those of its day
 pub record IsFirstToRefute (kept : List Kept) (matter : Matter) (k : Kept) (index : ℕ) : Type 0

@@ -20,8 +20,8 @@ pub record IsGraphOf (kept : List Kept) (k : Kept) (order : List ℕ) (graph : G
   pub of_trace : IsTraceGraph by_kept kept k order graph
 
 -- the name of a vertex's segment
-abbrev pub name_at : Kept → List ℕ → ℕ → SegmentName
-name_at k order v =
+abbrev pub name_of_vertex : Kept → List ℕ → ℕ → SegmentName
+name_of_vertex k order v =
     option_map_or name_of (slice_get k.trace.segments (slice_index order v)) ([], [], [])
 
 -- a row of a trace: a word, its request, its day, its latency and more fields
@@ -36,7 +36,7 @@ path_text k order graph chain =
     trace_row (codes "path") k
     (decimal (chain_length graph chain) ∷ decimal (length chain) ∷ [])
     ++ flat_map (λ v. row_of (codes "step"
-    ∷ (name_at k order v).0 ∷ (name_at k order v).1 ∷ (name_at k order v).2
+    ∷ (name_of_vertex k order v).0 ∷ (name_of_vertex k order v).1 ∷ (name_of_vertex k order v).2
     ∷ decimal (weight_of graph v) ∷ [])) chain
 
 -- the bytes are the text of the critical path of a kept trace: of its longest chains the first
@@ -55,7 +55,7 @@ abbrev pub slack_text : Kept → List ℕ → Graph → ℕ → List ℕ → Lis
 slack_text k order graph longest slacks =
     trace_row (codes "trace") k (decimal longest ∷ [])
     ++ flat_map (λ v. row_of (codes "segment"
-    ∷ (name_at k order v).0 ∷ (name_at k order v).1 ∷ (name_at k order v).2
+    ∷ (name_of_vertex k order v).0 ∷ (name_of_vertex k order v).1 ∷ (name_of_vertex k order v).2
     ∷ decimal (weight_of graph v) ∷ decimal (slice_index slacks v) ∷ []))
     (range_with_len 0 (order_of graph))
 
@@ -82,7 +82,7 @@ graph_text k order graph =
     trace_row (codes "trace") k
     (decimal (order_of graph) ∷ decimal (length (edges_of graph)) ∷ [])
     ++ (flat_map (λ v. row_of (codes "vertex" ∷ decimal v
-    ∷ (name_at k order v).0 ∷ (name_at k order v).1 ∷ (name_at k order v).2
+    ∷ (name_of_vertex k order v).0 ∷ (name_of_vertex k order v).1 ∷ (name_of_vertex k order v).2
     ∷ decimal (weight_of graph v) ∷ [])) (range_with_len 0 (order_of graph))
     ++ flat_map (λ (edge : ℕ × ℕ).
     row_of (codes "edge" ∷ decimal edge.0 ∷ decimal edge.1 ∷ [])) (edges_of graph))

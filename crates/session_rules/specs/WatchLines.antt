@@ -1,19 +1,11 @@
 -- The watch lines of one day of a batch.
-use Rattle.std.specs.Prelude.{◌≡◌, ℕ, ◌+◌, ◌≤◌, List, [], ◌∷◌, ◌++◌, length, map, take}
+use Rattle.std.specs.Prelude.{◌≡◌, ℕ, ◌≤◌, List, map, take}
 use Rattle.std.specs.List.{All, AllPairs}
 use Rattle.trace_pass.specs.Halving.{share_of, shares_of}
-use Rattle.trace_pass.specs.Watch.{watch_counts}
+use Rattle.trace_pass.specs.Watch.{watch_marks}
 use Rattle.trace_pass.specs.declared.watch_lines.WatchLine.{WatchLine}
 use Rattle.session_rules.specs.Hypotheses.{IsAtLeastRefuted, IsAtMostRefuted}
 use Rattle.session_rules.specs.KeptTraces.{Kept, by_kept}
-
--- which lines workers with these shares have, of whom this one is the first: by worker, and then
--- by how many of its traces it had offered
-abbrev pub marks_from : {T : Type 0} → ℕ → ℕ → List (List T) → List (ℕ × ℕ)
-marks_from every worker [] = []
-marks_from every worker (share ∷ shares) =
-    map (λ (n : ℕ). (worker, n)) (watch_counts every (length share))
-    ++ marks_from every (worker + 1) shares
 
 -- the number of a line is at least that of the hypotheses that the worker's traces until then
 -- refute, and at most that of those that all traces of the day refute
@@ -26,7 +18,7 @@ pub record IsWithin (firsts all : List Kept) (number : ℕ) : Type 0 where
 pub record AreWatchLines (every workers : ℕ) (traces : List Kept) (lines : List WatchLine)
     : Type 0 where
   pub marks : map (λ (l : WatchLine). (l.worker, l.done)) lines ≡
-      marks_from every 0 (shares_of traces workers)
+      watch_marks every 0 (shares_of traces workers)
   pub within : All (λ (l : WatchLine).
       IsWithin (take l.done (share_of traces workers l.worker)) traces l.refuted) lines
   pub rising : AllPairs (λ (k : WatchLine) (l : WatchLine).

@@ -19,7 +19,6 @@ use Rattle.trace_types.specs.SegmentLists.{NamesDiffer}
 use Rattle.trace_paths.specs.CriticalPaths.{IsCriticalPath, IsNamedPath, IsPathUnder}
 use Rattle.trace_paths.specs.Durations.{duration, durations_of, has_name, paths_with, time_on}
 use Rattle.trace_paths.specs.Tables.{IsTableOf}
-use Rattle.slow_tail.specs.inner.TableRows.{IsShort}
 
 abbrev Seg : Type 0
 Seg = NamedSegment
@@ -98,13 +97,13 @@ table_more names before path old new t add =
     (sym (flat_map-append (λ (xs : List Seg). xs) before (path ∷ []) ∙ ap (λ (l : List Seg). joined before ++ l) (append-nil path))) added
 
 -- the lists of a table are short
-pub short_paths : (names : ℕ) (paths : List (List Seg)) (table : List (List ℕ)) → IsTableOf names (joined paths) table → All (IsNamedPath names) paths → length paths < 2 ^ 32 → All IsShort table
+pub short_paths : (names : ℕ) (paths : List (List Seg)) (table : List (List ℕ)) → IsTableOf names (joined paths) table → All (IsNamedPath names) paths → length paths < 2 ^ 32 → All (λ (ns : List ℕ). length ns < 2 ^ 32) table
 short_paths names paths table t named few n d lt =
     let count = t.count in
     let list : get_or table n d ≡ lasts n (joined paths) = get_or_default table n d [] lt ∙ t.lists n (omega arith) in
     let many = once_each n paths (λ k e within. (named k e within).differ) in
     let most = count_by-le-length (has_name by_number eqb n) paths in
-    subst IsShort (sym list) (omega arith)
+    subst (λ (ns : List ℕ). length ns < 2 ^ 32) (sym list) (omega arith)
 
 -- the traces that a list of references shows
 abbrev pub traces_at : List (Bor NamedTrace) → List NamedTrace

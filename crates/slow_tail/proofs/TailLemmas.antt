@@ -11,7 +11,7 @@ use Rattle.trace_paths.specs.CriticalPaths.{IsNamedPath}
 use Rattle.trace_paths.specs.Durations.{has_name, durations_of}
 use Rattle.trace_paths.specs.Tables.{IsTableOf}
 use Rattle.slow_tail.specs.declared.tail_row.TailRow.{TailRow}
-use Rattle.slow_tail.specs.inner.TableRows.{IsRowFrom}
+use Rattle.slow_tail.specs.inner.TableRows.{IsTailRowFrom}
 use Rattle.slow_tail.specs.SlowLaws.{AddUp}
 use Rattle.slow_tail.specs.SlowReports.{IsTailRow}
 use Rattle.slow_tail.specs.SlowTraces.{rest_of, slow_marks, slow_of, with_indices, is_slow}
@@ -38,7 +38,7 @@ name_within cmp marks names items i listed is lt =
 
 -- a row from the tables is a row of the name
 pub row_of : (names : ℕ) (slow rest : List (List NamedSegment)) (slow_table rest_table : List (List ℕ)) (row : TailRow) → IsTableOf names (joined slow) slow_table → IsTableOf names (joined rest) rest_table → All (IsNamedPath names) slow → All (IsNamedPath names) rest
-    → IsRowFrom slow_table rest_table row → IsTailRow by_number eqb slow rest row.name row
+    → IsTailRowFrom slow_table rest_table row → IsTailRow by_number eqb slow rest row.name row
 row_of names slow rest slow_table rest_table row s r named_slow named_rest is =
     let many = s.count in
     let below = is.below in

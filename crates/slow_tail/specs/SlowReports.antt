@@ -22,8 +22,8 @@ module _ {A S N T E : Type 0} (p : Parts A S N T E) (same : N → N → Bool) wh
     pub rest_sum : row.rest_sum ≡ time_on p same name rest
 
 -- the latencies of traces
-abbrev pub latencies_of : List NamedTrace → List ℕ
-latencies_of traces = map (λ (t : NamedTrace). t.latency) traces
+abbrev pub trace_latencies : List NamedTrace → List ℕ
+trace_latencies traces = map (λ (t : NamedTrace). t.latency) traces
 
 -- the report over a list of traces whose names have these texts: how many traces there are, how
 -- many are slow, which is one in twenty and exactly how many the definition has, the least latency
@@ -34,8 +34,8 @@ pub record IsSlowReport (known : List SegmentName) (traces : List NamedTrace) (r
   pub critical_paths : AreCriticalPaths by_number traces paths
   pub count : report.traces ≡ length traces
   pub slow : report.slow ≡ slow_count (length traces)
-  pub exact : count_by (λ (m : Bool). m) (slow_marks (latencies_of traces)) ≡ report.slow
-  pub floor : IsFloor (slow_of (latencies_of traces) (latencies_of traces)) report.floor
+  pub exact : count_by (λ (m : Bool). m) (slow_marks (trace_latencies traces)) ≡ report.slow
+  pub floor : IsFloor (slow_of (trace_latencies traces) (trace_latencies traces)) report.floor
   pub names : AreNamesOf known traces (map (λ (r : TailRow). r.name) report.rows)
-  pub rows : All (λ (r : TailRow). IsTailRow by_number nat_eq (slow_of (latencies_of traces) paths)
-      (rest_of (latencies_of traces) paths) r.name r) report.rows
+  pub rows : All (λ (r : TailRow). IsTailRow by_number nat_eq (slow_of (trace_latencies traces) paths)
+      (rest_of (trace_latencies traces) paths) r.name r) report.rows

@@ -1,6 +1,7 @@
-ghost use Rattle.std.specs.Prelude.{◌≡◌, ◌^◌, ◌<◌, All, IfOk, Some, length, map, slice_get, sum, true};
+ghost use Rattle.std.specs.Prelude.{◌≡◌, ◌^◌, ◌<◌, ℕ, List, All, IfOk, Some, length, map, slice_get};
+ghost use Rattle.std.specs.Prelude.{sum, true};
 ghost use Rattle.slow_tail.specs.declared.tail_row.TailRow.{TailRow};
-ghost use Rattle.slow_tail.specs.inner.TableRows.{IsRowFrom, IsShort};
+ghost use Rattle.slow_tail.specs.inner.TableRows.{IsTailRowFrom};
 ghost use Rattle.trace_paths.specs.NameOrders.{number_cmp};
 ghost use Rattle.trace_types.specs.Listing.{ListsExactly};
 
@@ -12,7 +13,7 @@ use trace_paths::names_in_order;
 
 /// Adds numbers up.
 fn add_up(numbers: &[u64]) -> u128
-    requires { IsShort numbers.now }
+    requires { length numbers.now < 2 ^ 32 }
     ensures { result ≡ sum numbers.now }
 {
     let mut sum = 0;
@@ -25,8 +26,8 @@ fn add_up(numbers: &[u64]) -> u128
 /// Makes the row of a name, by how long its segments last on the critical paths of slow traces and
 /// of the rest.
 fn make_row(name: u32, slow: &[u64], rest: &[u64]) -> TailRow
-    requires slow { IsShort slow.now }
-    requires rest { IsShort rest.now }
+    requires slow { length slow.now < 2 ^ 32 }
+    requires rest { length rest.now < 2 ^ 32 }
     ensures name { result.name ≡ name }
     ensures slow_on { result.slow_on ≡ length slow.now }
     ensures slow_sum { result.slow_sum ≡ sum slow.now }
@@ -52,12 +53,12 @@ pub(crate) fn make_rows(
     requires marked { length marked.now ≡ length catalogue.now.names }
     requires slow { length tables.now.slow ≡ length catalogue.now.names }
     requires rest { length tables.now.rest ≡ length catalogue.now.names }
-    requires short_slow { All IsShort tables.now.slow }
-    requires short_rest { All IsShort tables.now.rest }
+    requires short_slow { All (λ (ns : List ℕ). length ns < 2 ^ 32) tables.now.slow }
+    requires short_rest { All (λ (ns : List ℕ). length ns < 2 ^ 32) tables.now.rest }
     ensures names { IfOk result (λ rows. ListsExactly (number_cmp catalogue.now.names)
         (λ n. slice_get marked.now n ≡ Some true) (map (λ (r : TailRow). r.name) rows.items)) }
     ensures each { IfOk result (λ rows.
-        All (IsRowFrom tables.now.slow tables.now.rest) rows.items) }
+        All (IsTailRowFrom tables.now.slow tables.now.rest) rows.items) }
 {
     let names = names_in_order(alloc, catalogue, marked)?;
     let mut rows = Vec::with_capacity(alloc, names.len())?;

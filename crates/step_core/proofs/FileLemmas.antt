@@ -11,7 +11,7 @@ use Rattle.word_rows.specs.declared.events.StepEvent.TheVariants.{Clear, Load, S
 use Rattle.word_rows.specs.Machine.{HasRow, HaveRows}
 use Rattle.word_rows.specs.Rows.{is_row}
 use Rattle.step_core.specs.Numbers.{plain_number}
-use Rattle.step_core.specs.StepLines.{all_values, clear_of, entry_of, named_step, one_number, row_of_words, step_of_numbers, step_of_words, step_said, two_numbers, words_of}
+use Rattle.step_core.specs.StepLines.{all_values, clear_of, entry_of, named_step, one_number, row_of_words, step_of_numbers, step_of_words, step_said, two_numbers, line_words}
 use Rattle.step_core.specs.StepFiles.{steps_of_lines}
 
 -- these steps, and then those of the lines after them, or the number of the first bad line
@@ -83,7 +83,7 @@ words_have_row (name ∷ words) = named_has_row name words
 -- the rows of all steps have the form of a row
 pub steps_have_rows : (lines : List (ℕ × List ℕ)) (events : List StepEvent) → steps_of_lines lines ≡ Ok events → HaveRows events
 steps_have_rows [] events e = let f : events ≡ [] = cc in rw f tt
-steps_have_rows (line ∷ lines) events e = by (step_said line.1) (steps_of_lines lines) refl refl (words_have_row (words_of line.1)) (λ more g. steps_have_rows lines more g)
+steps_have_rows (line ∷ lines) events e = by (step_said line.1) (steps_of_lines lines) refl refl (words_have_row (line_words line.1)) (λ more g. steps_have_rows lines more g)
   where
     by : (one : Option StepEvent) (rest : Result (List StepEvent) ℕ) → step_said line.1 ≡ one → steps_of_lines lines ≡ rest → IfSome one HasRow → ((more : List StepEvent) → steps_of_lines lines ≡ Ok more → HaveRows more) → HaveRows events
     by None rest f g h others = let k : Err line.0 ≡ Ok events = rw f at e in cc

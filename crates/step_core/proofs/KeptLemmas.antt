@@ -12,7 +12,7 @@ use Rattle.word_rows.specs.Keeping.{StepKeepsSound}
 use Rattle.word_rows.specs.Machine.{StepState, IsSoundState, Fault, no_seat, row_open, bad_share, bad_word, shares_out, HasRow, fault_of, reply_of, next_state, outcome, view_at, step, steps, after, opening_state}
 use Rattle.step_core.specs.declared.step_fault.StepFault.{StepFault}
 use Rattle.step_core.specs.StepFaults.{HasStepFault}
-use Rattle.step_core.specs.inner.Briefs.{brief_view, brief_state, Follows, IsSteady, AreKept}
+use Rattle.step_core.specs.inner.Briefs.{brief_view, brief_state, Follows, IsSteady, AreBriefOf}
 use Rattle.step_core.specs.inner.Naming.{step_fault}
 use Rattle.step_core.proofs.BriefLemmas.{fault_brief, reply_brief, steady_brief}
 
@@ -44,7 +44,7 @@ next_seats s (split seat n) = omega (arith, length-set s.views seat (left_view n
 next_seats s (join seat other) = omega (arith, length-set s.views seat (joined_view (view_at s seat) (view_at s other)), length-set (set s.views seat (joined_view (view_at s seat) (view_at s other))) other empty_view)
 next_seats s (close seat) = omega arith
 
-module _ (width all : ℕ) (es : List StepEvent) (t : StepState) (k : AreKept t (after width all es).0) (e : StepEvent) where
+module _ (width all : ℕ) (es : List StepEvent) (t : StepState) (k : AreBriefOf t (after width all es).0) (e : StepEvent) where
   abbrev s : StepState
   s = (after width all es).0
 
@@ -71,7 +71,7 @@ module _ (width all : ℕ) (es : List StepEvent) (t : StepState) (k : AreKept t 
     next_is : (after width all more).0 ≡ next_state s e
     next_is = after_step ∙ ap (λ (p : StepState × Result Reply Fault). p.0) stepped
 
-    pub kept_next : StepKeepsSound → HasRow e → (new : StepState) → Follows t e new → AreKept new (after width all more).0
+    pub kept_next : StepKeepsSound → HasRow e → (new : StepState) → Follows t e new → AreBriefOf new (after width all more).0
     kept_next law row new f = record {
       brief = f s k.brief ∙ ap brief_state (sym next_is);
       sound = subst IsSoundState (sym after_step) (law s e k.sound row);

@@ -3,8 +3,8 @@ use Rattle.std.proofs.Common.{◌≡◌, ℕ, List, [], ◌∷◌, Bool, true, f
 use Rattle.std.specs.Borrow.{Bor}
 use Rattle.std.specs.Prelude.{is_some, option_copied}
 use Rattle.std.specs.List.{slice_split}
-use Rattle.step_core.specs.StepLines.{entry_of, is_colon, is_space, one_number, two_numbers, words_of}
-use Rattle.step_core.specs.inner.Cutting.{parts_left}
+use Rattle.step_core.specs.StepLines.{entry_of, is_colon, is_space, one_number, two_numbers, line_words}
+use Rattle.step_core.specs.LinesLeft.{parts_left}
 
 -- bytes have a first part
 first_of : (separates : ℕ → Bool) (bytes : List ℕ) → (first : List ℕ) × (rest : List (List ℕ)) × (slice_split separates bytes ≡ first ∷ rest)
@@ -21,11 +21,11 @@ copied None b e f = cc
 copied (Some r) b e f = refl
 
 -- more words than one are not one number
-pub not_one : (text first : List ℕ) (rest : Option (List ℕ)) → words_of text ≡ first ∷ parts_left is_space rest → is_some rest ≡ true → None ≡ one_number (words_of text)
+pub not_one : (text first : List ℕ) (rest : Option (List ℕ)) → line_words text ≡ first ∷ parts_left is_space rest → is_some rest ≡ true → None ≡ one_number (line_words text)
 not_one text first None cut more = cc
 not_one text first (Some bytes) cut more = let f = first_of is_space bytes in rw (cut, f.2) refl
 
-pub not_two : (text first second bytes : List ℕ) (rest : Option (List ℕ)) → words_of text ≡ first ∷ words_of bytes → words_of bytes ≡ second ∷ parts_left is_space rest → is_some rest ≡ true → None ≡ two_numbers (words_of text)
+pub not_two : (text first second bytes : List ℕ) (rest : Option (List ℕ)) → line_words text ≡ first ∷ line_words bytes → line_words bytes ≡ second ∷ parts_left is_space rest → is_some rest ≡ true → None ≡ two_numbers (line_words text)
 not_two text first second bytes None cut next more = cc
 not_two text first second bytes (Some left) cut next more = let f = first_of is_space left in rw (cut, next, f.2) refl
 

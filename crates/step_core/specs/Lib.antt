@@ -1,3 +1,4 @@
+pub mod LinesLeft
 pub mod Numbers
 pub mod StepFaults
 pub mod StepFiles

@@ -21,8 +21,8 @@ abbrev pub is_colon : ℕ → Bool
 is_colon byte = byte == 58
 
 -- the words of a line: its parts around the spaces
-abbrev pub words_of : List ℕ → List (List ℕ)
-words_of line = slice_split is_space line
+abbrev pub line_words : List ℕ → List (List ℕ)
+line_words line = slice_split is_space line
 
 -- one word that is a number
 abbrev pub one_number : List (List ℕ) → Option ℕ
@@ -81,24 +81,24 @@ step_of_words [] = None
 
 -- the step that a line says; none where it has another form
 abbrev pub step_said : List ℕ → Option StepEvent
-step_said line = step_of_words (words_of line)
+step_said line = step_of_words (line_words line)
 
 -- a width from 1 to 8,302, and at least one share
 abbrev pub is_start : Start → Bool
 is_start start = is_in_range 1 8302 start.width && not (start.shares == 0)
 
 -- the start with this width and number of shares, where they are in range
-abbrev pub start_of : ℕ × ℕ → Option Start
-start_of p =
+abbrev pub start_in_range : ℕ × ℕ → Option Start
+start_in_range p =
     let start : Start = record { width = p.0; shares = p.1 } in
     if is_start start then Some start else None
 
 -- the start of the words of a line: `open WIDTH SHARES`
 abbrev pub start_of_words : List (List ℕ) → Option Start
 start_of_words (name ∷ words) =
-    if bytes_eq name (codes "open") then option_and_then start_of (two_numbers words) else None
+    if bytes_eq name (codes "open") then option_and_then start_in_range (two_numbers words) else None
 start_of_words [] = None
 
 -- the start that a line says; none where it has another form
 abbrev pub start_said : List ℕ → Option Start
-start_said line = start_of_words (words_of line)
+start_said line = start_of_words (line_words line)

@@ -1,4 +1,3 @@
 -- What private contracts alone cite.
 pub mod Briefs
-pub mod Cutting
 pub mod Naming

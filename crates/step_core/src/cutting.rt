@@ -1,6 +1,6 @@
 ghost use Rattle.std.specs.Prelude.{◌≡◌, ◌+◌, ◌==◌, ◌∷◌, length, option_copied};
 ghost use Rattle.std.specs.List.{slice_split};
-ghost use Rattle.step_core.specs.inner.Cutting.{parts_left, room_left};
+ghost use Rattle.step_core.specs.LinesLeft.{parts_left, room_left};
 
 use memchr::memchr;
 

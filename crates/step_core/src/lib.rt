@@ -24,6 +24,7 @@ mod tables;
 mod tests;
 
 pub use machine::Machine;
+pub use numbered_lines::{NumberedLine, next_line};
 pub use numbers::plain_number;
 pub use reading::read_steps;
 pub use start::Start;

@@ -20,13 +20,13 @@ pub struct Machine {
 
 impl Model for Machine {
     ghost use Rattle.word_rows.specs.Machine.{StepState, after};
-    ghost use Rattle.step_core.specs.inner.Briefs.{AreKept};
+    ghost use Rattle.step_core.specs.inner.Briefs.{AreBriefOf};
 
     ghost Value = { StepState };
 
     ghost view = { λ m. (after m.width m.shares m.events.items).0 };
 
-    ghost invariant = { λ m. AreKept m.tables (after m.width m.shares m.events.items).0 };
+    ghost invariant = { λ m. AreBriefOf m.tables (after m.width m.shares m.events.items).0 };
 }
 
 impl Machine {

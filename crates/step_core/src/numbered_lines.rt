@@ -1,24 +1,24 @@
 ghost use Rattle.std.specs.Prelude.{◌≡◌, ◌+◌, ◌≤◌, ◌<◌, ◌^◌, ◌∷◌, [], option_copied};
 ghost use Rattle.std.specs.Prelude.{MatchOption, IfSome};
-ghost use Rattle.step_core.specs.inner.Cutting.{lines_left, room_left};
+ghost use Rattle.step_core.specs.LinesLeft.{lines_left, room_left};
 
 use crate::cutting::first_part;
 use event_lines::is_blank_line;
 
 /// A line that is not blank, and what follows it.
 #[derive(Clone, Copy, Debug)]
-pub(crate) struct NumberedLine<'b> {
+pub struct NumberedLine<'b> {
     /// The number of the line.
-    pub(crate) number: u32,
+    pub number: u32,
     /// The bytes of the line.
-    pub(crate) line: &'b [u8],
+    pub line: &'b [u8],
     /// The bytes after it; none where it is the last.
-    pub(crate) rest: Option<&'b [u8]>,
+    pub rest: Option<&'b [u8]>,
 }
 
 /// Finds the first line that is not blank, in what is left of an input; the first line that is left
 /// has this number.
-pub(crate) fn next_line(number: u32, rest: Option<&[u8]>) -> Option<NumberedLine<'_>>
+pub fn next_line(number: u32, rest: Option<&[u8]>) -> Option<NumberedLine<'_>>
     requires { number + room_left (option_copied rest) < 2 ^ 32 }
     ensures lines { MatchOption result (lines_left number (option_copied rest.entry) ≡ [])
         (λ n. lines_left number (option_copied rest.entry)

@@ -3,7 +3,7 @@ ghost use Rattle.std.specs.Prelude.{IfSome, IsTrue, Ok, option_copied};
 ghost use Rattle.word_rows.specs.Machine.{HaveRows};
 ghost use Rattle.step_core.specs.StepFiles.{file_said, steps_of_lines, IsStepLineError};
 ghost use Rattle.step_core.specs.StepLines.{is_start};
-ghost use Rattle.step_core.specs.inner.Cutting.{lines_left, room_left};
+ghost use Rattle.step_core.specs.LinesLeft.{lines_left, room_left};
 
 #[cfg(test)]
 mod tests;

@@ -1,5 +1,5 @@
 ghost use Rattle.std.specs.Prelude.{◌≡◌, IfOk, Some};
-ghost use Rattle.step_core.specs.StepLines.{entry_of, row_of_words, words_of};
+ghost use Rattle.step_core.specs.StepLines.{entry_of, row_of_words, line_words};
 
 use crate::cutting::first_part;
 use crate::numbers::{mask_number, plain_number};
@@ -23,7 +23,7 @@ fn read_entry(word: &[u8]) -> Option<Entry>
 /// Reads the entries of a row, with exactly one space between them; none where they have another
 /// form, or not the form of a row. The only error is that memory ran out.
 pub(crate) fn read_row(alloc: Global, text: &[u8]) -> Result<Option<Row>, AllocError>
-    ensures { IfOk result (λ row. row ≡ row_of_words (words_of text.now)) }
+    ensures { IfOk result (λ row. row ≡ row_of_words (line_words text.now)) }
 {
     let mut entries = Vec::new(alloc);
     let mut left = Some(text);

@@ -1,6 +1,6 @@
 ghost use Rattle.std.specs.Prelude.{◌≡◌, IfOk};
 ghost use Rattle.step_core.specs.StepLines.{clear_of, one_number, start_said, step_of_numbers};
-ghost use Rattle.step_core.specs.StepLines.{step_said, two_numbers, words_of};
+ghost use Rattle.step_core.specs.StepLines.{step_said, two_numbers, line_words};
 
 use crate::Start;
 use crate::cutting::first_part;
@@ -14,7 +14,7 @@ const MAX_WIDTH: u32 = 8302;
 
 /// Reads one number; none where the words are not just that.
 fn one_number(words: &[u8]) -> Option<u32>
-    ensures { result ≡ one_number (words_of words.now) }
+    ensures { result ≡ one_number (line_words words.now) }
 {
     let part = first_part(words, b' ');
     if part.rest.is_some() {
@@ -25,7 +25,7 @@ fn one_number(words: &[u8]) -> Option<u32>
 
 /// Reads two numbers; none where the words are not just these.
 fn two_numbers(words: &[u8]) -> Option<(u32, u32)>
-    ensures { result ≡ two_numbers (words_of words.now) }
+    ensures { result ≡ two_numbers (line_words words.now) }
 {
     let part = first_part(words, b' ');
     let second = first_part(part.rest?, b' ');
@@ -39,7 +39,7 @@ fn two_numbers(words: &[u8]) -> Option<(u32, u32)>
 
 /// Reads the words after `clear`: a seat and a row.
 fn read_clear(alloc: Global, words: &[u8]) -> Result<Option<StepEvent>, AllocError>
-    ensures { IfOk result (λ event. event ≡ clear_of (words_of words.now)) }
+    ensures { IfOk result (λ event. event ≡ clear_of (line_words words.now)) }
 {
     let part = first_part(words, b' ');
     let Some(seat) = plain_number(part.first) else {
@@ -56,7 +56,7 @@ fn read_clear(alloc: Global, words: &[u8]) -> Result<Option<StepEvent>, AllocErr
 
 /// Reads the words after the name of a step that has no row.
 fn read_numbers(name: &[u8], words: &[u8]) -> Option<StepEvent>
-    ensures { result ≡ step_of_numbers name.now (words_of words.now) }
+    ensures { result ≡ step_of_numbers name.now (line_words words.now) }
 {
     if name == b"load".as_slice() {
         let (seat, word) = two_numbers(words)?;

@@ -12,18 +12,16 @@ use Rattle.std.proofs.lemmas.Map.Steps.{length-le_from_distinct_below}
 use Rattle.std.proofs.lemmas.Map.Made.{IsDistinct-from_AllPairs}
 use Rattle.std.proofs.lemmas.Map.Views.{Contains-from_any}
 use Rattle.std.proofs.lemmas.Option.{slice_get_cases, slice_get_within, get_or_from_slice_get}
-use Rattle.refute_tests.specs.Survivors.{AreSurvivors}
 use Rattle.trace_types.specs.declared.named_segment.NamedSegment.{NamedSegment}
 use Rattle.trace_types.specs.declared.named_trace.NamedTrace.{NamedTrace}
 use Rattle.trace_types.specs.NamedSegments.{number_of_name}
 use Rattle.trace_types.specs.Parts.{by_number}
-use Rattle.trace_types.specs.Refuting.{RefutesExclusive}
 use Rattle.trace_types.specs.SegmentLists.{NamesDiffer}
-use Rattle.trace_types.specs.Surviving.{Survives}
 use Rattle.model_meet.specs.ModelStates.{ModelState}
+use Rattle.model_meet.specs.RelationBits.{KeepsExclusion}
 use Rattle.weighted_dag.specs.Graphs.{Graph, IsEdge, IsGraph, weight_of}
 use Rattle.trace_graph.specs.VertexOrder.{IsEarlier, IsVertexOrder}
-use Rattle.trace_graph.specs.TraceGraphs.{HasVertices, IsDependency, IsTraceGraph}
+use Rattle.trace_graph.specs.TraceGraphs.{HasVertices, IsDependencyBy, IsGraphBy}
 use Rattle.trace_graph.specs.inner.Keys.{AreKeys, IsKeyBefore, Key, duration_of, index_in, key_at, name_in, no_key}
 use Rattle.trace_graph.specs.inner.Successors.{AreKnown, AreLists, name_at}
 
@@ -73,7 +71,7 @@ time_asym x y i j (inl a) (inr b) = let e : y ≡ x = b.0 in omega (arith, ints)
 time_asym x y i j (inr a) (inl b) = let e : x ≡ y = a.0 in omega (arith, ints)
 time_asym x y i j (inr a) (inr b) = let l : i < j = a.1 in let r : j < i = b.1 in omega arith
 
-earlier_asym : (s t : NamedSegment) (i j : ℕ) → IsEarlier by_number s i t j → IsEarlier by_number t j s i → ⊥
+pub earlier_asym : (s t : NamedSegment) (i j : ℕ) → IsEarlier by_number s i t j → IsEarlier by_number t j s i → ⊥
 earlier_asym s t i j (inl a) (inl b) = omega (arith, ints)
 earlier_asym s t i j (inl a) (inr b) = let e : t.start ≡ s.start = b.0 in omega (arith, ints)
 earlier_asym s t i j (inr a) (inl b) = let e : s.start ≡ t.start = a.0 in omega (arith, ints)
@@ -89,7 +87,7 @@ pub record IsVertex (segments : List NamedSegment) (keys : List Key) (v : ℕ) :
 vertex_of : (segments : List NamedSegment) (keys : List Key) → AreKeys segments keys → (v : ℕ) → v < length keys → IsVertex segments keys v
 vertex_of segments keys a v lt = let (s, got, start, end) = a.right v lt in record { s = s; got = got; start = start; end = end }
 
-same_segment : (segments : List NamedSegment) (i j : ℕ) (s t : NamedSegment) → slice_get segments i ≡ Some s → slice_get segments j ≡ Some t → i ≡ j → s ≡ t
+pub same_segment : (segments : List NamedSegment) (i j : ℕ) (s t : NamedSegment) → slice_get segments i ≡ Some s → slice_get segments j ≡ Some t → i ≡ j → s ≡ t
 same_segment segments i j s t is ts same = sym (get_or_from_slice_get segments i s s is) ∙ (ap (λ (k : ℕ). get_or segments k s) same ∙ get_or_from_slice_get segments j t s ts)
 
 module _ (segments : List NamedSegment) (keys : List Key) (a : AreKeys segments keys) where
@@ -268,50 +266,47 @@ module _ (trace : NamedTrace) (model : ModelState) (keys : List Key) (a : AreKey
         ap (λ (n : ℕ). s.start +ℤ pos n) weight ∙ duration_added s.start s.end s.ordered;
   }
 
-  module _ (traces : List NamedTrace) (tells : AreSurvivors traces model.words) where
-    is_dependency : (v w i j : ℕ) → slice_get order v ≡ Some i → slice_get order w ≡ Some j → IsEdge made v w → IsDependency by_number traces trace i j
-    is_dependency v w i j iv jw edge =
-        let (first, ei) = index_of v i iv in
-        let (second, ej) = index_of w j jw in
-        let one = vertex_of trace.segments keys a v first in
-        let other = vertex_of trace.segments keys a w second in
-        let lt : v < w = form.later v w edge in
-        let told = (b.exact v [] (omega (arith, many_names))).told traces tells w lt (omega (arith, many_names)) in
-        record {
-          s = one.s;
-          t = other.s;
-          first = subst (λ (k : ℕ). slice_get trace.segments k ≡ Some one.s) ei one.got;
-          second = subst (λ (k : ℕ). slice_get trace.segments k ≡ Some other.s) ej other.got;
-          earlier = subst (λ (k : ℕ). IsEarlier by_number one.s k other.s j) ei (subst (λ (k : ℕ). IsEarlier by_number one.s (key_at keys v).2 other.s k) ej (lower_first trace.segments keys a v w one.s other.s lt second one.got other.got));
-          survives = subst (λ (n : ℕ). Survives (RefutesExclusive by_number n other.s.name) traces) (vertex_name trace.segments keys a v one.s first one.got)
-              (subst (λ (n : ℕ). Survives (RefutesExclusive by_number (name_at names v) n) traces) (vertex_name trace.segments keys a w other.s second other.got) (told.0 edge));
-        }
+  is_dependency : (v w i j : ℕ) → slice_get order v ≡ Some i → slice_get order w ≡ Some j → IsEdge made v w → IsDependencyBy by_number (KeepsExclusion model.words) trace i j
+  is_dependency v w i j iv jw edge =
+      let (first, ei) = index_of v i iv in
+      let (second, ej) = index_of w j jw in
+      let one = vertex_of trace.segments keys a v first in
+      let other = vertex_of trace.segments keys a w second in
+      let lt : v < w = form.later v w edge in
+      let kept = (b.exact v [] (omega (arith, many_names))).exact w lt (omega (arith, many_names)) in
+      record {
+        s = one.s;
+        t = other.s;
+        first = subst (λ (k : ℕ). slice_get trace.segments k ≡ Some one.s) ei one.got;
+        second = subst (λ (k : ℕ). slice_get trace.segments k ≡ Some other.s) ej other.got;
+        earlier = subst (λ (k : ℕ). IsEarlier by_number one.s k other.s j) ei (subst (λ (k : ℕ). IsEarlier by_number one.s (key_at keys v).2 other.s k) ej (lower_first trace.segments keys a v w one.s other.s lt second one.got other.got));
+        excludes = subst (λ (n : ℕ). KeepsExclusion model.words n other.s.name) (vertex_name trace.segments keys a v one.s first one.got)
+            (subst (λ (n : ℕ). KeepsExclusion model.words (name_at names v) n) (vertex_name trace.segments keys a w other.s second other.got) (kept.0 edge));
+      }
 
-    is_edge : (v w i j : ℕ) → slice_get order v ≡ Some i → slice_get order w ≡ Some j → IsDependency by_number traces trace i j → IsEdge made v w
-    is_edge v w i j iv jw d =
-        let (first, ei) = index_of v i iv in
-        let (second, ej) = index_of w j jw in
-        let is : slice_get trace.segments (key_at keys v).2 ≡ Some d.s = subst (λ (k : ℕ). slice_get trace.segments k ≡ Some d.s) (sym ei) d.first in
-        let ts : slice_get trace.segments (key_at keys w).2 ≡ Some d.t = subst (λ (k : ℕ). slice_get trace.segments k ≡ Some d.t) (sym ej) d.second in
-        let before : IsEarlier by_number d.s (key_at keys v).2 d.t (key_at keys w).2 = subst (λ (k : ℕ). IsEarlier by_number d.s k d.t (key_at keys w).2) (sym ei) (subst (λ (k : ℕ). IsEarlier by_number d.s i d.t k) (sym ej) d.earlier) in
-        ⊎_elim
-        (λ (lt : v < w).
-        let told = (b.exact v [] (omega (arith, many_names))).told traces tells w lt (omega (arith, many_names)) in
-        told.1 (subst (λ (n : ℕ). Survives (RefutesExclusive by_number n (name_at names w)) traces) (sym (vertex_name trace.segments keys a v d.s first is))
-        (subst (λ (n : ℕ). Survives (RefutesExclusive by_number d.s.name n) traces) (sym (vertex_name trace.segments keys a w d.t second ts)) d.survives)))
-        (λ (ge : w ≤ v). ⊎_elim
-        (λ (lt : w < v). absurd (earlier_asym d.s d.t (key_at keys v).2 (key_at keys w).2 before (lower_first trace.segments keys a w v d.t d.s lt first ts is)))
-        (λ (le : v ≤ w). let same : w ≡ v = omega arith in
-        let both : d.t ≡ d.s = same_segment trace.segments (key_at keys w).2 (key_at keys v).2 d.t d.s ts is (ap (λ (k : ℕ). (key_at keys k).2) same) in
-        let self : IsEarlier by_number d.s (key_at keys v).2 d.s (key_at keys v).2 = subst (λ (x : NamedSegment). IsEarlier by_number d.s (key_at keys v).2 x (key_at keys v).2) both (subst (λ (k : ℕ). IsEarlier by_number d.s (key_at keys v).2 d.t (key_at keys k).2) same before) in
-        absurd (earlier_asym d.s d.s (key_at keys v).2 (key_at keys v).2 self self))
-        (cases_lt w v))
-        (cases_lt v w)
+  is_edge : (v w i j : ℕ) → slice_get order v ≡ Some i → slice_get order w ≡ Some j → IsDependencyBy by_number (KeepsExclusion model.words) trace i j → IsEdge made v w
+  is_edge v w i j iv jw d =
+      let (first, ei) = index_of v i iv in
+      let (second, ej) = index_of w j jw in
+      let is : slice_get trace.segments (key_at keys v).2 ≡ Some d.s = subst (λ (k : ℕ). slice_get trace.segments k ≡ Some d.s) (sym ei) d.first in
+      let ts : slice_get trace.segments (key_at keys w).2 ≡ Some d.t = subst (λ (k : ℕ). slice_get trace.segments k ≡ Some d.t) (sym ej) d.second in
+      let before : IsEarlier by_number d.s (key_at keys v).2 d.t (key_at keys w).2 = subst (λ (k : ℕ). IsEarlier by_number d.s k d.t (key_at keys w).2) (sym ei) (subst (λ (k : ℕ). IsEarlier by_number d.s i d.t k) (sym ej) d.earlier) in
+      ⊎_elim
+      (λ (lt : v < w).
+      let kept = (b.exact v [] (omega (arith, many_names))).exact w lt (omega (arith, many_names)) in
+      kept.1 (subst (λ (n : ℕ). KeepsExclusion model.words n (name_at names w)) (sym (vertex_name trace.segments keys a v d.s first is))
+      (subst (λ (n : ℕ). KeepsExclusion model.words d.s.name n) (sym (vertex_name trace.segments keys a w d.t second ts)) d.excludes)))
+      (λ (ge : w ≤ v). ⊎_elim
+      (λ (lt : w < v). absurd (earlier_asym d.s d.t (key_at keys v).2 (key_at keys w).2 before (lower_first trace.segments keys a w v d.t d.s lt first ts is)))
+      (λ (le : v ≤ w). let same : w ≡ v = omega arith in
+      let both : d.t ≡ d.s = same_segment trace.segments (key_at keys w).2 (key_at keys v).2 d.t d.s ts is (ap (λ (k : ℕ). (key_at keys k).2) same) in
+      let self : IsEarlier by_number d.s (key_at keys v).2 d.s (key_at keys v).2 = subst (λ (x : NamedSegment). IsEarlier by_number d.s (key_at keys v).2 x (key_at keys v).2) both (subst (λ (k : ℕ). IsEarlier by_number d.s (key_at keys v).2 d.t (key_at keys k).2) same before) in
+      absurd (earlier_asym d.s d.s (key_at keys v).2 (key_at keys v).2 self self))
+      (cases_lt w v))
+      (cases_lt v w)
 
-    pub graph_made : IsTraceGraph by_number traces trace order made
-    graph_made = record {
-      vertices = vertices_made.vertices;
-      count = vertices_made.count;
-      weights = vertices_made.weights;
-      edges = λ v w i j iv jw. (is_dependency v w i j iv jw, is_edge v w i j iv jw);
-    }
+  pub graph_made : IsGraphBy by_number (KeepsExclusion model.words) trace order made
+  graph_made = record {
+    has = vertices_made;
+    edges = λ v w i j iv jw. (is_dependency v w i j iv jw, is_edge v w i j iv jw);
+  }

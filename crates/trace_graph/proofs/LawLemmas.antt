@@ -13,7 +13,7 @@ module _ {A S N T E : Type 0} (p : Parts A S N T E) (traces : List A) (trace : A
   pub edges_do_not_overlap : Contains traces trace → (edge : IsDependency p traces trace i j) → DoNotOverlap p trace edge.s edge.t
   edges_do_not_overlap (k, lt, is) edge = by_lt_z (p.start edge.s +ℤ pos (p.grace trace)) (p.end edge.t)
       (λ (one : StartsEarly p trace edge.s edge.t). by_lt_z (p.start edge.t +ℤ pos (p.grace trace)) (p.end edge.s)
-      (λ (other : StartsEarly p trace edge.t edge.s). absurd (edge.survives k trace lt
+      (λ (other : StartsEarly p trace edge.t edge.s). absurd (edge.excludes k trace lt
       (subst (RefutesExclusive p (p.name edge.s) (p.name edge.t)) (sym is)
       (edge.s, edge.t, contains_got (p.segments trace) i edge.s edge.first, contains_got (p.segments trace) j edge.t edge.second, refl, refl, (one, other)))))
       inl)

@@ -61,22 +61,25 @@ module _ {A S N T E B X M U F : Type 0} (p : Parts A S N T E) (q : Parts B X M U
   dependency_there i j d =
       let (x, ix, f) = here i d.s d.first in
       let (y, jy, g) = here j d.t d.second in
-      record { s = x; t = y; first = ix; second = jy; earlier = forward d.s d.t x y i j f g d.earlier; survives = (alike (p.name d.s) (p.name d.t) (q.name x) (q.name y) f.name g.name).0 d.survives }
+      record { s = x; t = y; first = ix; second = jy; earlier = forward d.s d.t x y i j f g d.earlier; excludes = (alike (p.name d.s) (p.name d.t) (q.name x) (q.name y) f.name g.name).0 d.excludes }
 
   dependency_here : (i j : ℕ) → IsDependency q others other i j → IsDependency p traces trace i j
   dependency_here i j d =
       let (s, ix, f) = there i d.s d.first in
       let (t, jy, g) = there j d.t d.second in
-      record { s = s; t = t; first = ix; second = jy; earlier = backward s t d.s d.t i j f g d.earlier; survives = (alike (p.name s) (p.name t) (q.name d.s) (q.name d.t) f.name g.name).1 d.survives }
+      record { s = s; t = t; first = ix; second = jy; earlier = backward s t d.s d.t i j f g d.earlier; excludes = (alike (p.name s) (p.name t) (q.name d.s) (q.name d.t) f.name g.name).1 d.excludes }
 
   pub same_graph : (order : List ℕ) (g : Graph) → IsTraceGraph p traces trace order g → IsTraceGraph q others other order g
   same_graph order g a = record {
-    vertices = same_vertices order a.vertices;
-    count = a.count;
-    weights = λ v i x at got.
-        let (s, is, f) = there i x got in
-        let sum : (p.start s +ℤ pos (weight_of g v)) ≡ p.end s = a.weights v i s at is in
-        ap (λ (z : ℤ). z +ℤ pos (weight_of g v)) f.start ∙ (sum ∙ sym f.end);
+    has = record {
+      form = a.has.form;
+      vertices = same_vertices order a.has.vertices;
+      count = a.has.count;
+      weights = λ v i x at got.
+          let (s, is, f) = there i x got in
+          let sum : (p.start s +ℤ pos (weight_of g v)) ≡ p.end s = a.has.weights v i s at is in
+          ap (λ (z : ℤ). z +ℤ pos (weight_of g v)) f.start ∙ (sum ∙ sym f.end);
+    };
     edges = λ v w i j at there. (
       (λ edge. dependency_there i j ((a.edges v w i j at there).0 edge)),
       (λ d. (a.edges v w i j at there).1 (dependency_here i j d)),

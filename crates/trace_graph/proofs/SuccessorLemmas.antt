@@ -6,11 +6,7 @@ use Rattle.std.proofs.lemmas.Bool.{cases_lt, false≢true}
 use Rattle.std.proofs.lemmas.List.{get_or_append_left, get_or_at, get_or_push, length_push, take_at, take_more_set, take-set}
 use Rattle.std.proofs.lemmas.List.Elements.{Contains-push, Contains-push_cases, Contains-append_left, Contains-get_or}
 use Rattle.model_meet.specs.ModelStates.{ModelState}
-use Rattle.refute_tests.specs.Survivors.{AreSurvivors}
-use Rattle.trace_types.specs.Parts.{by_number}
-use Rattle.trace_types.specs.Refuting.{RefutesExclusive}
-use Rattle.trace_types.specs.Surviving.{Survives}
-use Rattle.trace_types.specs.declared.named_trace.NamedTrace.{NamedTrace}
+use Rattle.model_meet.specs.RelationBits.{KeepsExclusion}
 use Rattle.trace_graph.specs.inner.Successors.{AreExclusive, AreLists, name_at}
 
 -- a rising list with a greater number at its end rises
@@ -33,54 +29,54 @@ rising_push xs b rises below k h = ⊎_elim
     (cases_lt (k + 1) (length xs))
 
 module _ (model : ModelState) (names : List ℕ) (v : ℕ) where
-  -- no trace that the words tell of refutes that v and w are mutually exclusive
-  abbrev pub Excludes : List NamedTrace → ℕ → Type 0
-  Excludes traces w = Survives (RefutesExclusive by_number (name_at names v) (name_at names w)) traces
+  -- v and w are mutually exclusive by the words
+  abbrev pub Excludes : ℕ → Type 0
+  Excludes w = KeepsExclusion model.words (name_at names v) (name_at names w)
 
   pub none_yet : AreExclusive model names v (v + 1) []
   none_yet = record {
     rising = λ k h. absurd (omega arith);
     later = λ w (k, lt, is). absurd (omega arith);
-    told = λ traces s w after before. absurd (omega arith);
+    exact = λ w after before. absurd (omega arith);
   }
 
-  pub one_more : (n : ℕ) (list : List ℕ) → v < n → AreExclusive model names v n list → ((traces : List NamedTrace) → AreSurvivors traces model.words → Excludes traces n) → AreExclusive model names v (n + 1) (list ++ n ∷ [])
+  pub one_more : (n : ℕ) (list : List ℕ) → v < n → AreExclusive model names v n list → Excludes n → AreExclusive model names v (n + 1) (list ++ n ∷ [])
   one_more n list after a holds = record {
     rising = rising_push list n a.rising (λ w has. (a.later w has).1);
     later = λ w has. ⊎_elim
         (λ (old : Contains list w). let (lower, upper) = a.later w old in (lower, (let u : w < n = upper in omega arith)))
         (λ (same : n ≡ w). (subst (λ (x : ℕ). v < x) same after, (let e : n ≡ w = same in omega arith)))
         (Contains-push_cases list n w has);
-    told = λ traces s w lower upper. (
+    exact = λ w lower upper. (
       (λ has. ⊎_elim
-          (λ (old : Contains list w). (a.told traces s w lower (a.later w old).1).0 old)
-          (λ (same : n ≡ w). subst (Excludes traces) same (holds traces s))
+          (λ (old : Contains list w). (a.exact w lower (a.later w old).1).0 old)
+          (λ (same : n ≡ w). subst Excludes same holds)
           (Contains-push_cases list n w has)),
       (λ excluded. ⊎_elim
-          (λ (below : w < n). Contains-append_left list (n ∷ []) w ((a.told traces s w lower below).1 excluded))
+          (λ (below : w < n). Contains-append_left list (n ∷ []) w ((a.exact w lower below).1 excluded))
           (λ (above : n ≤ w). let e : n ≡ w = omega arith in subst (Contains (list ++ n ∷ [])) e (Contains-push list n))
           (cases_lt w n)),
     );
   }
 
-  pub none_more : (n : ℕ) (list : List ℕ) → AreExclusive model names v n list → ((traces : List NamedTrace) → AreSurvivors traces model.words → Excludes traces n → ⊥) → AreExclusive model names v (n + 1) list
+  pub none_more : (n : ℕ) (list : List ℕ) → AreExclusive model names v n list → (Excludes n → ⊥) → AreExclusive model names v (n + 1) list
   none_more n list a fails = record {
     rising = a.rising;
     later = λ w has. let (lower, upper) = a.later w has in (lower, (let u : w < n = upper in omega arith));
-    told = λ traces s w lower upper. (
-      (λ has. (a.told traces s w lower (a.later w has).1).0 has),
+    exact = λ w lower upper. (
+      (λ has. (a.exact w lower (a.later w has).1).0 has),
       (λ excluded. ⊎_elim
-          (λ (below : w < n). (a.told traces s w lower below).1 excluded)
-          (λ (above : n ≤ w). let e : n ≡ w = omega arith in absurd (fails traces s (subst (Excludes traces) (sym e) excluded)))
+          (λ (below : w < n). (a.exact w lower below).1 excluded)
+          (λ (above : n ≤ w). let e : n ≡ w = omega arith in absurd (fails (subst Excludes (sym e) excluded)))
           (cases_lt w n)),
     );
   }
 
 -- the next vertex is written, and counts where it is one of them
-pub one_written : (model : ModelState) (names : List ℕ) (v n count : ℕ) (found : List ℕ) (is : Bool) → v < n → count < length found → AreExclusive model names v n (take count found) → ((traces : List NamedTrace) → AreSurvivors traces model.words → (is ≡ true) ↔ Excludes model names v traces n)
+pub one_written : (model : ModelState) (names : List ℕ) (v n count : ℕ) (found : List ℕ) (is : Bool) → v < n → count < length found → AreExclusive model names v n (take count found) → ((is ≡ true) ↔ Excludes model names v n)
     → AreExclusive model names v (n + 1) (take (count + from_bool is) (set found count n))
-one_written model names v n count found true after room a told = subst (AreExclusive model names v (n + 1)) (sym (take_more_set found count n room)) (one_more model names v n (take count found) after a (λ traces s. (told traces s).0 refl))
-one_written model names v n count found false after room a told = subst (λ (k : ℕ). AreExclusive model names v (n + 1) (take k (set found count n))) (let e : count ≡ count + from_bool false = omega arith in e) (subst (AreExclusive model names v (n + 1)) (sym (take-set found count n)) (none_more model names v n (take count found) a (λ traces s survives. false≢true ((told traces s).1 survives))))
+one_written model names v n count found true after room a told = subst (AreExclusive model names v (n + 1)) (sym (take_more_set found count n room)) (one_more model names v n (take count found) after a (told.0 refl))
+one_written model names v n count found false after room a told = subst (λ (k : ℕ). AreExclusive model names v (n + 1) (take k (set found count n))) (let e : count ≡ count + from_bool false = omega arith in e) (subst (AreExclusive model names v (n + 1)) (sym (take-set found count n)) (none_more model names v n (take count found) a (λ kept. false≢true (told.1 kept))))
 
 pub lists_push : (model : ModelState) (names : List ℕ) (n : ℕ) (lists : List (List ℕ)) (list : List ℕ) → AreLists model names n lists → AreExclusive model names n (length names) list → AreLists model names (n + 1) (lists ++ list ∷ [])
 lists_push model names n lists list a one = record {

@@ -1,7 +1,8 @@
 ghost use Rattle.std.specs.Prelude.{List, IfOk};
+ghost use Rattle.model_meet.specs.RelationBits.{KeepsExclusion};
 ghost use Rattle.refute_tests.specs.Clearing.{HaveNamesBelow};
 ghost use Rattle.refute_tests.specs.Survivors.{AreSurvivors};
-ghost use Rattle.trace_graph.specs.TraceGraphs.{HasVertices, IsTraceGraph};
+ghost use Rattle.trace_graph.specs.TraceGraphs.{HasVertices, IsGraphBy, IsTraceGraph};
 ghost use Rattle.trace_types.specs.Parts.{by_number};
 ghost use Rattle.trace_types.specs.declared.named_trace.NamedTrace.{NamedTrace};
 
@@ -18,9 +19,12 @@ use weighted_dag::{Dag, NumberList};
 /// Makes the graph of a trace whose names are below the model's: a vertex for each segment, in the
 /// order of their starts, ends and indices, and an edge to each later segment whose name is
 /// mutually exclusive with its own (Chow et al., "The Mystery Machine", OSDI 2014, section 3.4). The
-/// only error is that memory ran out.
+/// words' bits alone decide it, so it is exact also for words that no traces leave. The only error
+/// is that memory ran out.
 pub fn graph(alloc: Global, trace: &NamedTrace, model: &Model) -> Result<OrderedGraph, AllocError>
     requires { HaveNamesBelow model.now.names trace.now }
+    ensures exact { IfOk result (λ g. IsGraphBy by_number (KeepsExclusion model.now.words)
+        trace.now g.order g.dag) }
     ensures vertices { IfOk result (λ g. HasVertices by_number trace.now g.order g.dag) }
     ensures graph { IfOk result (λ g. (traces : List NamedTrace) → AreSurvivors traces
         model.now.words → IsTraceGraph by_number traces trace.now g.order g.dag) }
@@ -36,6 +40,8 @@ pub fn graph_by(
     exclusions: &Exclusions,
 ) -> Result<OrderedGraph, AllocError>
     requires { HaveNamesBelow exclusions.now.names trace.now }
+    ensures exact { IfOk result (λ g. IsGraphBy by_number (KeepsExclusion exclusions.now.words)
+        trace.now g.order g.dag) }
     ensures vertices { IfOk result (λ g. HasVertices by_number trace.now g.order g.dag) }
     ensures graph { IfOk result (λ g. (traces : List NamedTrace) → AreSurvivors traces
         exclusions.now.words → IsTraceGraph by_number traces trace.now g.order g.dag) }
@@ -50,6 +56,8 @@ fn make_graph<P: PairTest>(
     pairs: P,
 ) -> Result<OrderedGraph, AllocError>
     requires { HaveNamesBelow (P.model pairs).names trace.now }
+    ensures exact { IfOk result (λ g. IsGraphBy by_number (KeepsExclusion (P.model pairs).words)
+        trace.now g.order g.dag) }
     ensures vertices { IfOk result (λ g. HasVertices by_number trace.now g.order g.dag) }
     ensures graph { IfOk result (λ g. (traces : List NamedTrace) → AreSurvivors traces
         (P.model pairs).words → IsTraceGraph by_number traces trace.now g.order g.dag) }
@@ -59,6 +67,7 @@ fn make_graph<P: PairTest>(
     let names = names_of(alloc, segments, keys.as_slice())?;
     let weights = durations_of(alloc, keys.as_slice())?;
     let successors = list_successors(alloc, pairs, names.as_slice())?;
+    pairs.tells_exclusions();
     let order = indices_of(alloc, keys.as_slice())?;
     Ok(OrderedGraph {
         order: NumberList::of(order),

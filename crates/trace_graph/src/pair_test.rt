@@ -2,24 +2,24 @@ use model_meet::{ExclusionRows, Model};
 
 /// What tells whether two names are mutually exclusive.
 pub(crate) trait PairTest: Copy {
-    ghost use Rattle.std.specs.Prelude.{◌≢◌, ◌<◌, ◌↔◌, List, IsTrue};
+    ghost use Rattle.std.specs.Prelude.{◌≢◌, ◌<◌, ◌↔◌, IsTrue};
+    ghost use Rattle.model_meet.specs.ExclusionTables.{TellsExclusions};
     ghost use Rattle.model_meet.specs.ModelStates.{ModelState};
-    ghost use Rattle.refute_tests.specs.Survivors.{AreSurvivors};
-    ghost use Rattle.trace_types.specs.Parts.{by_number};
-    ghost use Rattle.trace_types.specs.Refuting.{RefutesExclusive};
-    ghost use Rattle.trace_types.specs.Surviving.{Survives};
-    ghost use Rattle.trace_types.specs.declared.named_trace.NamedTrace.{NamedTrace};
+    ghost use Rattle.model_meet.specs.RelationBits.{KeepsExclusion};
 
     /// The model by which it tells.
     ghost model: { Self → ModelState };
 
-    /// Tells whether no trace refutes that two names are mutually exclusive.
+    /// Tells whether the bit of the mutual exclusion of two names is 1.
     fn exclusive(self, a: u32, b: u32) -> bool
         requires differ { a ≢ b }
         requires first { a < (model self).names }
         requires second { b < (model self).names }
-        ensures { (traces : List NamedTrace) → AreSurvivors traces (model self).words
-            → IsTrue result ↔ Survives (RefutesExclusive by_number a b) traces };
+        ensures { IsTrue result ↔ KeepsExclusion (model self).words a b };
+
+    /// Does nothing: the bits tell which mutual exclusions no trace refutes.
+    fn tells_exclusions(self)
+        ensures { TellsExclusions (model self) };
 }
 
 impl PairTest for &Model<'_> {
@@ -27,6 +27,10 @@ impl PairTest for &Model<'_> {
 
     fn exclusive(self, a: u32, b: u32) -> bool {
         Model::exclusive(self, a, b)
+    }
+
+    fn tells_exclusions(self) {
+        Model::tells_exclusions(self)
     }
 }
 
@@ -37,5 +41,9 @@ impl PairTest for ExclusionRows<'_> {
 
     fn exclusive(self, a: u32, b: u32) -> bool {
         ExclusionRows::exclusive(self, a, b)
+    }
+
+    fn tells_exclusions(self) {
+        ExclusionRows::tells_exclusions(self)
     }
 }

@@ -10,3 +10,4 @@ pub mod LawLemmas
 pub mod TestLemmas
 pub mod Worked
 pub mod ClosingLemmas
+pub mod LittleWorkLemmas

@@ -8,7 +8,7 @@ use Rattle.hypothesis_index.specs.declared.bit_place.BitPlace.{BitPlace}
 use Rattle.hypothesis_index.specs.declared.relation.Relation.{Relation}
 use Rattle.hypothesis_index.specs.declared.relation.Relation.TheVariants.{Before, Exclusive, Apart, Pipe, Unshared}
 use Rattle.pipeline_tests.specs.DayLaws.{RowsClearRefuted}
-use Rattle.pipeline_tests.specs.Rows.{IsRefutedPlace}
+use Rattle.refute_tests.specs.Survivors.{IsRefutedPlace}
 use Rattle.trace_types.specs.Surviving.{IsRefuted}
 use Rattle.trace_types.specs.declared.named_trace.NamedTrace.{NamedTrace}
 use Rattle.word_rows.specs.declared.entries.Entry.{Entry}
@@ -16,7 +16,7 @@ use Rattle.word_rows.specs.Accounts.{AreZero}
 use Rattle.word_rows.specs.Meeting.{ClearsBelow}
 use Rattle.word_rows.specs.Rows.{below, clears, rows_below, rows_clear}
 use Rattle.word_rows.specs.Words.{AreWords, bit_of}
-use Rattle.trace_pass.specs.Counts.{IsAtLeastRefuted, IsAtMostRefuted, zeros}
+use Rattle.trace_pass.specs.Counts.{IsAtLeastRefutedCount, IsAtMostRefutedCount, zeros}
 use Rattle.trace_pass.specs.Rows.{AreRowsWithin}
 use Rattle.trace_pass.proofs.CountLemmas.{chosen, is_zero, pigeons, zeros_count}
 
@@ -55,7 +55,7 @@ rows_clear_below law n (row ∷ rows) i b t c = let p = and_parts (below n row) 
 
 -- words that lack the bits of all refuted relations have at least as many zeros
 pub least_from : PlacesDiffer → PlacesFit → (ts : List NamedTrace) (words : List ℕ) → AreWords words
-    → ((r : Relation) → IsRelation r → IsRefuted (Refutes r) ts → ((place_of r).word < length words) × (bit_of words (place_of r).word (place_of r).bit ≡ 0)) → IsAtLeastRefuted ts (zeros words)
+    → ((r : Relation) → IsRelation r → IsRefuted (Refutes r) ts → ((place_of r).word < length words) × (bit_of words (place_of r).word (place_of r).bit ≡ 0)) → IsAtLeastRefutedCount ts (zeros words)
 least_from differ fit ts words bound clear rs are =
     let z = zeros_count words bound in
     let most : length rs ≤ _ = pigeons number_of (is_zero words) (64 * length words) rs apart inside in omega arith
@@ -75,7 +75,7 @@ least_from differ fit ts words bound clear rs are =
         (omega arith, eq-eqb _ 0 (ap (λ (i : ℕ). bit_of words i (number_of r % 64)) q ∙ ap (bit_of words p.word) m ∙ here.1))
 
 -- words that lack all bits of the whole rows have at least as many zeros as there are refuted relations
-pub least_refuted : PlacesDiffer → PlacesFit → ClearsBelow → RowsClearRefuted → (names : ℕ) (ts : List NamedTrace) (rows : List (List Entry)) (words : List ℕ) → AreRowsWithin names ts rows → length words ≡ width_of names → AreWords words → AreZero words (rows_clear rows) → IsAtLeastRefuted ts (zeros words)
+pub least_refuted : PlacesDiffer → PlacesFit → ClearsBelow → RowsClearRefuted → (names : ℕ) (ts : List NamedTrace) (rows : List (List Entry)) (words : List ℕ) → AreRowsWithin names ts rows → length words ≡ width_of names → AreWords words → AreZero words (rows_clear rows) → IsAtLeastRefutedCount ts (zeros words)
 least_refuted differ fit law refuted names ts rows words have wide bound clear = least_from differ fit ts words bound cleared
   where
     cleared : (r : Relation) → IsRelation r → IsRefuted (Refutes r) ts → ((place_of r).word < length words) × (bit_of words (place_of r).word (place_of r).bit ≡ 0)
@@ -88,7 +88,7 @@ least_refuted differ fit law refuted names ts rows words have wide bound clear =
         (within, clear p.word p.bit within (bit_fits fit r h) c)
 
 -- words that lack only bits of refuted relations have at most as many zeros
-pub most_refuted : (ts : List NamedTrace) (words : List ℕ) → AreWords words → ((i b : ℕ) → i < length words → b < 64 → bit_of words i b ≡ 0 → IsRefutedPlace ts i b) → IsAtMostRefuted ts (zeros words)
+pub most_refuted : (ts : List NamedTrace) (words : List ℕ) → AreWords words → ((i b : ℕ) → i < length words → b < 64 → bit_of words i b ≡ 0 → IsRefutedPlace ts i b) → IsAtMostRefutedCount ts (zeros words)
 most_refuted ts words bound only =
     let z = zeros_count words bound in
     let c = chosen number_of (λ r. IsRelation r × IsRefuted (Refutes r) ts) (is_zero words) (64 * length words) pick in

@@ -15,27 +15,27 @@ zeros [] = 0
 zeros (word ∷ words) = count_zeros w64 word + zeros words
 
 -- different relations, each of which some trace of the list refutes
-pub record AreRefuted (traces : List NamedTrace) (relations : List Relation) : Type 0 where
+pub record AreRefutedRelations (traces : List NamedTrace) (relations : List Relation) : Type 0 where
   pub differ : AllPairs (λ r s. r ≢ s) relations
   pub refuted : All (λ r. IsRelation r × IsRefuted (Refutes r) traces) relations
 
 -- the number is at least that of the relations that some trace of the list refutes
-abbrev pub IsAtLeastRefuted : List NamedTrace → ℕ → Type 0
-IsAtLeastRefuted traces n = (relations : List Relation) → AreRefuted traces relations
+abbrev pub IsAtLeastRefutedCount : List NamedTrace → ℕ → Type 0
+IsAtLeastRefutedCount traces n = (relations : List Relation) → AreRefutedRelations traces relations
     → length relations ≤ n
 
 -- the number is at most that of the relations that some trace of the list refutes
-abbrev pub IsAtMostRefuted : List NamedTrace → ℕ → Type 0
-IsAtMostRefuted traces n = (relations : List Relation) × AreRefuted traces relations
+abbrev pub IsAtMostRefutedCount : List NamedTrace → ℕ → Type 0
+IsAtMostRefutedCount traces n = (relations : List Relation) × AreRefutedRelations traces relations
     × (n ≤ length relations)
 
 -- the number of relations that some trace of the list refutes
 pub record IsRefutedCount (traces : List NamedTrace) (n : ℕ) : Type 0 where
-  pub least : IsAtLeastRefuted traces n
-  pub most : IsAtMostRefuted traces n
+  pub least : IsAtLeastRefutedCount traces n
+  pub most : IsAtMostRefutedCount traces n
 
 -- the bounds of a watch number: it counts the relations that the worker's first traces refute, and
 -- only such that some trace of the day refutes
 pub record IsWithinRefuted (firsts all : List NamedTrace) (number : ℕ) : Type 0 where
-  pub least : IsAtLeastRefuted firsts number
-  pub most : IsAtMostRefuted all number
+  pub least : IsAtLeastRefutedCount firsts number
+  pub most : IsAtMostRefutedCount all number

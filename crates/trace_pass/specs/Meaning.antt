@@ -9,7 +9,7 @@ use Rattle.trace_pass.specs.Counts.{IsRefutedCount, zeros}
 use Rattle.trace_pass.specs.Halving.{shares_of}
 use Rattle.trace_pass.specs.Rows.{LackOnlyRefuted}
 use Rattle.trace_pass.specs.States.{RecordingState}
-use Rattle.trace_pass.specs.Watch.{AreAtMostRefuted, AreWatchLines, HasWatched}
+use Rattle.trace_pass.specs.Watch.{AreAtMostRefuted, AreNumberedWatchLines, HasWatched}
 use Rattle.trace_pass.specs.declared.watch_lines.WatchLine.{WatchLine}
 
 -- there is one share for each worker, and one after the other they are the traces
@@ -45,4 +45,4 @@ NumbersAreWithin = (every width workers : ℕ) (traces : List NamedTrace)
     (old new : RecordingState) (lines : List WatchLine)
     → HasWatched every width (shares_of traces workers) old new lines
     → LackOnlyRefuted new.pass.view.readings traces
-    → AreWatchLines every workers traces lines
+    → AreNumberedWatchLines every workers traces lines

@@ -1,7 +1,8 @@
 -- The rows of recorded traces, and what readings of them may lack.
 use Rattle.std.specs.Prelude.{◌≡◌, ℕ, ◌<◌, true, List}
 use Rattle.hypothesis_index.specs.Places.{width_of}
-use Rattle.pipeline_tests.specs.Rows.{AreWholeRows, IsRefutedPlace}
+use Rattle.pipeline_tests.specs.Rows.{AreWholeRows}
+use Rattle.refute_tests.specs.Survivors.{IsRefutedPlace}
 use Rattle.trace_types.specs.declared.named_trace.NamedTrace.{NamedTrace}
 use Rattle.word_rows.specs.declared.entries.Entry.{Entry}
 use Rattle.word_rows.specs.declared.views.Reading.{Reading}

@@ -4,7 +4,7 @@ use Rattle.pipeline_tests.specs.Rows.{IsWholeRow}
 use Rattle.trace_types.specs.declared.named_trace.NamedTrace.{NamedTrace}
 use Rattle.word_rows.specs.declared.entries.Entry.{Entry}
 use Rattle.word_rows.specs.Changes.{first_view, with_done}
-use Rattle.word_rule.specs.Holdings.{Holding, IsOf, Opened, together}
+use Rattle.word_rule.specs.Holdings.{Holding, IsOfTable, Opened, together}
 use Rattle.word_rule.specs.Histories.{IsClearBetween, IsOnePast, KnowsMore, offered_until}
 
 -- a recorder: its table, and below which number the names of its traces are
@@ -12,8 +12,8 @@ pub record RecorderState : Type 0 where
   pub table : Opened
   pub names : ℕ
 
--- a recording: its pass, the traces that it offered, in order, and below which number their names
--- are
+-- a recording: its pass, the traces that it offered, in order, and a number above those of their
+-- names
 pub record RecordingState : Type 0 where
   pub pass : Holding
   pub traces : List NamedTrace
@@ -21,7 +21,7 @@ pub record RecordingState : Type 0 where
 
 -- the recording is of this recorder: its pass is of the recorder's table
 pub record IsOfRecorder (recorder : RecorderState) (recording : RecordingState) : Type 0 where
-  pub pass : IsOf recorder.table recording.pass
+  pub pass : IsOfTable recorder.table recording.pass
   pub names : recording.names ≡ recorder.names
 
 -- the recording that a recorder opens with: its pass has all shares and knows nothing

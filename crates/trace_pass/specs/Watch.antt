@@ -4,7 +4,7 @@ use Rattle.std.specs.List.{All, AllPairs, filter, flat_map, range_with_len}
 use Rattle.trace_types.specs.declared.named_trace.NamedTrace.{NamedTrace}
 use Rattle.word_rows.specs.Changes.{readings_from}
 use Rattle.word_rows.specs.Words.{AreWords}
-use Rattle.trace_pass.specs.Counts.{IsAtLeastRefuted, IsAtMostRefuted, IsWithinRefuted, zeros}
+use Rattle.trace_pass.specs.Counts.{IsAtLeastRefutedCount, IsAtMostRefutedCount, IsWithinRefuted, zeros}
 use Rattle.trace_pass.specs.Halving.{share_at, share_of, shares_of}
 use Rattle.trace_pass.specs.States.{RecordingState}
 use Rattle.trace_pass.specs.declared.watch_lines.WatchLine.{WatchLine}
@@ -19,7 +19,7 @@ watch_counts every traces = filter (is_multiple every) (range_with_len 1 traces)
 
 -- which lines workers with these shares write, of whom this one is the first: by worker, and then
 -- by how many of its traces it had offered
-abbrev pub watch_marks : ℕ → ℕ → List (List NamedTrace) → List (ℕ × ℕ)
+abbrev pub watch_marks : {T : Type 0} → ℕ → ℕ → List (List T) → List (ℕ × ℕ)
 watch_marks every worker [] = []
 watch_marks every worker (share ∷ shares) =
     map (λ (n : ℕ). (worker, n)) (watch_counts every (length share))
@@ -38,7 +38,7 @@ pub record HasWatched (every width : ℕ) (shares : List (List NamedTrace))
   pub numbers : map (λ (l : WatchLine). l.refuted) lines ≡ map zeros blocks
   -- it is at least the number of relations that the worker's traces until then refute
   pub least : All (λ (l : WatchLine).
-      IsAtLeastRefuted (take l.done (share_at shares l.worker)) l.refuted) lines
+      IsAtLeastRefutedCount (take l.done (share_at shares l.worker)) l.refuted) lines
   -- and it never falls along a worker
   pub rising : AllPairs (λ (k : WatchLine) (l : WatchLine).
       k.worker ≡ l.worker → k.refuted ≤ l.refuted) lines
@@ -46,12 +46,12 @@ pub record HasWatched (every width : ℕ) (shares : List (List NamedTrace))
 -- the upper bound of watch numbers: each is at most the number of relations that some trace of the
 -- list refutes
 abbrev pub AreAtMostRefuted : List NamedTrace → List WatchLine → Type 0
-AreAtMostRefuted traces lines = All (λ (l : WatchLine). IsAtMostRefuted traces l.refuted) lines
+AreAtMostRefuted traces lines = All (λ (l : WatchLine). IsAtMostRefutedCount traces l.refuted) lines
 
 -- the watch lines of traces that so many workers offered: by worker and then by how many of its
 -- traces; each number is between what these refute and what all traces refute, and never falls
 -- along a worker
-pub record AreWatchLines (every workers : ℕ) (traces : List NamedTrace)
+pub record AreNumberedWatchLines (every workers : ℕ) (traces : List NamedTrace)
     (lines : List WatchLine) : Type 0 where
   pub marks : map (λ (l : WatchLine). (l.worker, l.done)) lines ≡
       watch_marks every 0 (shares_of traces workers)

@@ -1,6 +1,6 @@
 ghost use Rattle.std.specs.Prelude.{◌≡◌, ◌^◌, ◌<◌, ◌≤◌, ◌++◌, IfErr, IfOk};
 ghost use Rattle.std.specs.Thread.{IsSync};
-ghost use Rattle.word_rule.specs.Holdings.{IsOf, together};
+ghost use Rattle.word_rule.specs.Holdings.{IsOfTable, together};
 ghost use Rattle.trace_pass.specs.Halving.{first_part};
 ghost use Rattle.trace_pass.specs.inner.Parts.{HasRows, IsCutInto, part_of, recording_of, rest_of};
 ghost use Rattle.trace_pass.specs.inner.Working.{AreHalves, CanOffer, HasRecorded, HasStoppedAt};
@@ -65,8 +65,8 @@ fn join_halves(
     recorded: usize,
     second: (Pass, Vec<WatchLine>),
 ) -> Result<(Pass, Vec<WatchLine>), Stopped>
-    requires first { IsOf recorder.now.table first.0 }
-    requires second { IsOf recorder.now.table second.0 }
+    requires first { IsOfTable recorder.now.table first.0 }
+    requires second { IsOfTable recorder.now.table second.0 }
     ensures pass { IfOk result (λ r. r.0 ≡ together first.0 second.0) }
     ensures lines { IfOk result (λ r. r.1.items ≡ first.1.items ++ second.1.items) }
     ensures fault { IfErr result (λ f. (f.pass ≡ first.0) × (f.recorded ≡ recorded)) }

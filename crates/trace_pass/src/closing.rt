@@ -1,6 +1,6 @@
 ghost use Rattle.std.specs.Prelude.{◌≡◌, ◌≤◌, length, IfErr, IfOk};
 ghost use Rattle.refute_tests.specs.Survivors.{AreSurvivors};
-ghost use Rattle.word_rule.specs.Faults.{IsFault};
+ghost use Rattle.word_rule.specs.Faults.{IsCloseFault};
 ghost use Rattle.word_rule.specs.Histories.{EndsWith};
 ghost use Rattle.word_rule.specs.Holdings.{Holding, Opened};
 ghost use Rattle.trace_pass.specs.Faults.{IsRecorderFault};
@@ -36,7 +36,7 @@ pub enum RecorderFault {
 /// Puts the recorder and the recording together again, of whose table and pass this was the fault.
 fn give_back(fault: CloseFault, alloc: Global, traces: Vec<NamedTrace>, names: u32) -> RecorderFault
     requires { HasParts names traces.items fault }
-    ensures { (table : Opened) (pass : Holding) → IsFault table pass fault
+    ensures { (table : Opened) (pass : Holding) → IsCloseFault table pass fault
         → IsRecorderFault (record { table = table; names = names })
         (record { pass = pass; traces = traces.items; names = names }) result }
 {

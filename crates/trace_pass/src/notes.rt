@@ -1,6 +1,7 @@
 ghost use Rattle.std.specs.Prelude.{◌≡◌};
 ghost use Rattle.word_rows.specs.Changes.{new_view};
-ghost use Rattle.word_rule.specs.Holdings.{IsOf, together, with_view};
+ghost use Rattle.word_rule.specs.Histories.{IsOfOneHistory};
+ghost use Rattle.word_rule.specs.Holdings.{IsOfTable, together, with_view};
 ghost use Rattle.trace_pass.specs.States.{IsOfRecorder, with_pass};
 
 use crate::recorders::Recorder;
@@ -37,11 +38,15 @@ impl Recorder {
         Note { note }
     }
 
-    /// Takes in a note: the recording has then seen what the note has. Takes no memory.
+    /// Takes in a note: the recording has then seen what the note has. What both knew is of one
+    /// history. Takes no memory.
     pub fn meet(&self, recording: &mut Recording, note: Note)
         requires recording { IsOfRecorder self.now recording.old }
-        requires note { IsOf self.now.table note }
-        ensures { recording.new ≡ with_pass recording.old (together recording.old.pass note) }
+        requires note { IsOfTable self.now.table note }
+        ensures together { recording.new ≡
+            with_pass recording.old (together recording.old.pass note) }
+        ensures one { IsOfOneHistory self.now.table.width self.now.table.all
+            recording.new.pass.pasts recording.new.pass.view }
     {
         self.table.meet(&mut recording.pass, note.note);
     }

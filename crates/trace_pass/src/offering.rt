@@ -1,6 +1,6 @@
 ghost use Rattle.std.specs.Prelude.{◌≡◌, ◌^◌, ◌<◌, ◌++◌, All, length, IfErr, IfOk};
 ghost use Rattle.refute_tests.specs.Clearing.{HaveNamesBelow};
-ghost use Rattle.word_rule.specs.Histories.{KnowsMore};
+ghost use Rattle.word_rule.specs.Histories.{IsOfOneHistory, KnowsMore};
 ghost use Rattle.trace_pass.specs.Halving.{shares_of};
 ghost use Rattle.trace_pass.specs.States.{HasStopped, IsOfRecorder};
 ghost use Rattle.trace_pass.specs.Watch.{HasWatched};
@@ -65,6 +65,10 @@ pub fn offer_all<R: Threads + Sync, G: Gate + Sync>(
     // What the recording knew of the history before still stands in it.
     ensures more { IfOk result (λ r. KnowsMore recording.pass.pasts r.0.pass.pasts) }
 
+    // What it knows then is of one history, after which a seat has its view.
+    ensures one { IfOk result (λ r. IsOfOneHistory recorder.now.table.width
+        recorder.now.table.all r.0.pass.pasts r.0.pass.view) }
+
     // The recording has offered the first of the traces, each once, and may hold fewer shares.
     ensures fault { IfErr result (λ f. HasStopped recorder.now recording traces.items
         f.recording) }
@@ -94,7 +98,8 @@ pub fn offer_all<R: Threads + Sync, G: Gate + Sync>(
         names,
     };
     match offer_block(rt, recorder, part, 0, every, gate) {
-        Ok((pass, lines)) => {
+        Ok((mut pass, lines)) => {
+            recorder.table.tell(&mut pass);
             let recording = Recording {
                 pass,
                 traces: all,

@@ -5,6 +5,7 @@ ghost use Rattle.word_rows.specs.Changes.{readings_from, with_readings};
 ghost use Rattle.word_rule.specs.Histories.{KnowsMore};
 ghost use Rattle.word_rule.specs.Shown.{shows};
 ghost use Rattle.trace_pass.specs.States.{IsOfRecorder};
+ghost use Rattle.trace_pass.specs.inner.LittleWork.{is_little_work};
 ghost use Rattle.trace_pass.specs.inner.Parts.{HasOfferedNext, HasSameTraces, recording_of, rest_of};
 
 use crate::recorders::Recorder;
@@ -31,6 +32,27 @@ const LITTLE_WORK: usize = 262_144;
 /// What it takes to offer a trace, in nanoseconds, roughly, beside one for each pair of its
 /// segments.
 const TRACE_WORK: usize = 256;
+
+/// A trace of so many segments is by itself not little work.
+const MANY_SEGMENTS: usize = 512;
+
+/// Tests whether offering the traces is little work. Looks at no more of them than it needs to tell.
+fn is_little_work(traces: &[NamedTrace]) -> bool
+    ensures { result ≡ is_little_work traces.now }
+{
+    let mut work = 0;
+    'traces: for trace in traces {
+        let segments = trace.segments.items().len();
+        if segments >= MANY_SEGMENTS {
+            return false;
+        }
+        work += segments * segments + TRACE_WORK;
+        if work >= LITTLE_WORK {
+            return false;
+        }
+    }
+    true
+}
 
 /// What is left of a part: its pass, and how many of its traces are recorded.
 #[derive(Drop)]
@@ -62,6 +84,7 @@ impl<'a> Model for Part<'a> {
 impl Part<'_> {
     ghost use Rattle.std.specs.Prelude.{◌≡◌, ◌+◌, ◌<◌, IsTrue, length};
     ghost use Rattle.word_rows.specs.Changes.{is_idle};
+    ghost use Rattle.trace_pass.specs.inner.LittleWork.{is_little_work};
     ghost use Rattle.trace_pass.specs.inner.Parts.{HasRows, rest_of};
 
     /// Tells the shares of this part.
@@ -82,19 +105,11 @@ impl Part<'_> {
         self.given.len() - self.recorded
     }
 
-    /// Tests whether offering the traces that are left is little work. Looks at no more of them
-    /// than it needs to tell.
-    pub(crate) fn has_little_work(&self) -> bool {
-        let mut work = 0usize;
-        for trace in &self.given[self.recorded..] {
-            let segments = trace.segments.items().len();
-            let pairs = segments.saturating_mul(segments);
-            work = work.saturating_add(pairs).saturating_add(TRACE_WORK);
-            if work >= LITTLE_WORK {
-                return false;
-            }
-        }
-        true
+    /// Tests whether offering the traces that are left is little work.
+    pub(crate) fn has_little_work(&self) -> bool
+        ensures { result ≡ is_little_work (rest_of self.now) }
+    {
+        is_little_work(&self.given[self.recorded..])
     }
 
     /// Gives the pass and the number of recorded traces. Takes no memory.

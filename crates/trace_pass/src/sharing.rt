@@ -1,5 +1,6 @@
 ghost use Rattle.std.specs.Prelude.{◌≡◌, ◌<◌, IfErr, OnOk};
 ghost use Rattle.word_rows.specs.Changes.{left_view, new_view};
+ghost use Rattle.word_rule.specs.Histories.{IsOfOneHistory};
 ghost use Rattle.word_rule.specs.Holdings.{with_view};
 ghost use Rattle.trace_pass.specs.States.{IsOfRecorder, both_recordings, empty_recording, with_pass};
 
@@ -33,12 +34,14 @@ impl Recorder {
     }
 
     /// Takes in another recording: the shares add up, and its traces and all that its pass did and
-    /// was told follow. The room for the traces is taken before the step; the only fault is that
-    /// memory ran out.
+    /// was told follow. What both knew is of one history. The room for the traces is taken before the
+    /// step; the only fault is that memory ran out.
     pub fn join(&self, recording: &mut Recording, other: Recording) -> Result<(), JoinFault>
         requires recording { IsOfRecorder self.now recording.old }
         requires other { IsOfRecorder self.now other }
         ensures ok { OnOk result (recording.new ≡ both_recordings recording.old other) }
+        ensures one { OnOk result (IsOfOneHistory self.now.table.width self.now.table.all
+            recording.new.pass.pasts recording.new.pass.view) }
         ensures fault { IfErr result (λ f. (f.other ≡ other) × (recording.new ≡ recording.old)) }
     {
         let Recording {

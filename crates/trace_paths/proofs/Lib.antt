@@ -3,3 +3,4 @@ pub mod BookLemmas
 pub mod OrderLemmas
 pub mod PathLemmas
 pub mod TableLemmas
+pub mod UnderLemmas

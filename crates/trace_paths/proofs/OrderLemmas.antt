@@ -21,7 +21,7 @@ use Rattle.std.proofs.lemmas.Slice.Eq.{bytes_eq-Decides}
 use Rattle.trace_types.specs.Listing.{ListsExactly}
 use Rattle.trace_types.specs.NameOrder.{name_cmp}
 use Rattle.trace_types.specs.Segments.{SegmentName}
-use Rattle.trace_paths.specs.NameOrders.{name_at, number_cmp}
+use Rattle.trace_paths.specs.NameOrders.{name_with_number, number_cmp}
 
 -- a name and its number
 abbrev pub Entry : Type 0

@@ -9,12 +9,12 @@ use Rattle.trace_types.specs.Parts.{by_number, segments_of}
 use Rattle.trace_types.specs.Segments.{SegmentName}
 
 -- the name with this number
-abbrev pub name_at : List SegmentName → ℕ → SegmentName
-name_at names number = slice_index_or names number ([], [], [])
+abbrev pub name_with_number : List SegmentName → ℕ → SegmentName
+name_with_number names number = slice_index_or names number ([], [], [])
 
 -- numbers of names stand in the order of the names
 abbrev pub number_cmp : List SegmentName → ℕ → ℕ → Ordering
-number_cmp names a b = name_cmp (name_at names a) (name_at names b)
+number_cmp names a b = name_cmp (name_with_number names a) (name_with_number names b)
 
 -- exactly the names of the traces' segments, each once, in name order
 abbrev pub AreNamesOf : List SegmentName → List NamedTrace → List ℕ → Type 0

@@ -1,2 +1,2 @@
 -- What private contracts alone cite.
-pub mod ModelGraphs
+pub mod GraphPaths

@@ -1,10 +1,9 @@
-ghost use Rattle.std.specs.Prelude.{◌<◌, All, IfOk, length};
+ghost use Rattle.std.specs.Prelude.{◌<◌, ℕ, All, IfOk, length};
 ghost use Rattle.std.specs.List.{AllZip};
 ghost use Rattle.refute_tests.specs.Clearing.{HaveNamesBelow};
-ghost use Rattle.model_meet.specs.ModelStates.{ModelState};
 ghost use Rattle.trace_graph.specs.TraceGraphs.{HasVertices};
-ghost use Rattle.trace_paths.specs.CriticalPaths.{IsPathUnder, StandsFor};
-ghost use Rattle.trace_paths.specs.inner.ModelGraphs.{IsGraphUnder};
+ghost use Rattle.trace_paths.specs.CriticalPaths.{IsNamedPath, IsPathUnder, StandsFor};
+ghost use Rattle.trace_paths.specs.inner.GraphPaths.{IsPathIn};
 ghost use Rattle.trace_types.specs.Parts.{by_number};
 
 use critical_path::critical;
@@ -32,16 +31,16 @@ fn segments_on(
     Ok(path)
 }
 
-/// Finds the critical path of a trace by its graph, under each model that the graph is made of.
+/// Finds the segments of a trace on the first longest chain of its graph.
 fn path_in(
     alloc: Global,
     trace: &NamedTrace,
     graph: &OrderedGraph,
 ) -> Result<NamedSegmentList, AllocError>
     requires { HasVertices by_number trace.now graph.now.order graph.now.dag }
-    ensures { IfOk result (λ path. (model : ModelState) → HaveNamesBelow model.names trace.now
-        → IsGraphUnder model trace.now graph.now.order graph.now.dag
-        → IsPathUnder model trace.now path) }
+    ensures path { IfOk result (IsPathIn trace.now.segments graph.now.order graph.now.dag) }
+    ensures named { IfOk result (λ path. (names : ℕ) → HaveNamesBelow names trace.now
+        → IsNamedPath names path) }
 {
     let chain = critical(alloc, &graph.dag)?;
     let path = segments_on(
@@ -55,7 +54,8 @@ fn path_in(
 
 /// Finds the critical path of a trace whose names are below the model's: the segments on the first
 /// longest chain of its graph, in order (Chow et al., "The Mystery Machine", OSDI 2014, section
-/// 3.4). It takes one pass over the graph. The only error is that memory ran out.
+/// 3.4). The words' bits alone decide it. It takes one pass over the graph. The only error is that
+/// memory ran out.
 pub fn critical_path(
     alloc: Global,
     trace: &NamedTrace,

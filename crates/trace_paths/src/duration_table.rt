@@ -30,7 +30,7 @@ impl Model for DurationTable {
 
 impl DurationTable {
     ghost use Rattle.std.specs.Prelude.{◌≡◌, ◌<◌, ◌++◌, [], List, All, IfOk, OnOk, Some, length};
-    ghost use Rattle.std.specs.Prelude.{map, slice_get};
+    ghost use Rattle.std.specs.Prelude.{ℕ, ◌≤◌, map, slice_get, take};
     ghost use Rattle.trace_paths.specs.Tables.{IsTableOf};
     ghost use Rattle.trace_types.specs.declared.named_segment.NamedSegment.{NamedSegment};
 
@@ -46,12 +46,15 @@ impl DurationTable {
     }
 
     /// Appends how long each of the segments lasts to the list of its name. The only error is that
-    /// memory ran out.
+    /// memory ran out; then the first of the segments are in the table, and the others are not.
     pub fn add(&mut self, segments: &[NamedSegment]) -> Result<(), AllocError>
         requires { All (λ (s : NamedSegment). s.name < length self.old) segments.now }
-        ensures { OnOk result ((before : List NamedSegment)
+        ensures added { OnOk result ((before : List NamedSegment)
             → IsTableOf (length self.old) before self.old
             → IsTableOf (length self.old) (before ++ segments.now) self.new) }
+        ensures partial { (before : List NamedSegment) → IsTableOf (length self.old) before self.old
+            → (count : ℕ) × (count ≤ length segments.now)
+            × IsTableOf (length self.old) (before ++ take count segments.now) self.new }
     {
         'segments: for segment in segments {
             let list = &mut self.lists[segment.name as usize];

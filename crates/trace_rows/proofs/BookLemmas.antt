@@ -17,8 +17,8 @@ use Rattle.weighted_dag.specs.Graphs.{Graph, IsGraph}
 pub numbered_graph : (traces : List NamedTrace) (names : List SegmentName) (t : NamedTrace) (order : List ℕ) (g : Graph) → HaveNamesBelow (length names) t → IsTraceGraph by_number traces t order g → IsGraph g → IsNumbered (record { names = names; trace = t; order = order; weights = g.weights })
 numbered_graph traces names t order g below graph form = record {
   few = form.small;
-  weighted = graph.count;
-  placed = λ v d lt. (graph.vertices.all (get_or order v d)).0 (v, lt, get_or_from_slice_get order v (get_or order v d) (get_or order v d) (slice_get-get_or order v d lt));
+  weighted = graph.has.count;
+  placed = λ v d lt. (graph.has.vertices.all (get_or order v d)).0 (v, lt, get_or_from_slice_get order v (get_or order v d) (get_or order v d) (slice_get-get_or order v d lt));
   named = below;
 }
 

@@ -5,7 +5,7 @@ use Rattle.std.specs.Option.{option_map_or, unwrap_or}
 use Rattle.kept_books.specs.Shown.{IsShown}
 use Rattle.segment_names.specs.Known.{Known}
 use Rattle.session_rules.specs.KeptTraces.{Kept, by_kept}
-use Rattle.session_rules.specs.TraceTexts.{name_at}
+use Rattle.session_rules.specs.TraceTexts.{name_of_vertex}
 use Rattle.trace_rows.specs.inner.NumberedTraces.{IsNumbered, NumberedTrace, name_of_number, vertex_name}
 use Rattle.trace_types.specs.Parts.{by_number}
 use Rattle.trace_types.specs.Renaming.{IsSegmentRenamed}
@@ -28,7 +28,7 @@ name_by_number names s x matched has = ap (λ o. unwrap_or o ([], [], [])) ((mat
 
 -- the name of a vertex
 pub same_name : (known : Known) (k : Kept) (n : NumberedTrace) (v : ℕ) → ((i : ℕ) (name : SegmentName) → Contains (enumerate_from 0 known.names) (i, name) ↔ (slice_get known.names i ≡ Some name))
-    → n.names ≡ known.names → IsNumbered n → IsShown known n.trace k → v < length n.order → vertex_name n v ≡ name_at k n.order v
+    → n.names ≡ known.names → IsNumbered n → IsShown known n.trace k → v < length n.order → vertex_name n v ≡ name_of_vertex k n.order v
 same_name known k n v matched names numbered shown lt =
     let at = zip_at (IsSegmentRenamed by_number by_kept (enumerate_from 0 known.names) (enumerate_from 0 known.tasks) shown.renamed.elements) n.trace.segments k.trace.segments (slice_index n.order v) shown.renamed.segments (numbered.placed v 0 lt) in
     ap (λ o. option_map_or (name_of_number n.names) o ([], [], [])) at.2

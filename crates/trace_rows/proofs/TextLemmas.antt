@@ -6,13 +6,13 @@ use Rattle.kept_books.specs.Shown.{AreShown, IsShown}
 use Rattle.segment_names.specs.Known.{Known}
 use Rattle.segment_names.specs.Limits.{IsKept}
 use Rattle.session_rules.specs.KeptTraces.{Kept}
-use Rattle.session_rules.specs.TraceTexts.{IsGraphText, IsPathText, IsSlackText, edges_of, graph_text, name_at, path_text, slack_text, trace_row}
+use Rattle.session_rules.specs.TraceTexts.{IsGraphText, IsPathText, IsSlackText, edges_of, graph_text, name_of_vertex, path_text, slack_text, trace_row}
 use Rattle.text_rows.specs.Rows.{row_of}
 use Rattle.trace_graph.specs.TraceGraphs.{IsTraceGraph}
 use Rattle.trace_types.specs.Parts.{by_number}
 use Rattle.trace_types.specs.declared.named_trace.NamedTrace.{NamedTrace}
 use Rattle.kept_books.specs.GraphLaws.{GraphIsShown}
-use Rattle.trace_rows.specs.inner.NumberedTraces.{IsNumbered, NumberedTrace, edge_row, edge_rows, graph_rows, name_row, named_row, path_rows, segment_row, slack_rows, step_row, vertex_row}
+use Rattle.trace_rows.specs.inner.NumberedTraces.{IsNumbered, NumberedTrace, edge_row, edge_rows, graph_rows, name_row, row_of_trace, path_rows, vertex_slack_row, slack_rows, vertex_step_row, vertex_row}
 use Rattle.trace_rows.specs.inner.ShownTraces.{NamesAreShown, NumberedBook, traces_in}
 use Rattle.trace_rows.proofs.EdgeLemmas.{edge_rows_are}
 use Rattle.weighted_dag.specs.Chains.{IsChain, IsLongestLength, NoLongestIsBefore, NoneIsLonger, chain_length}
@@ -48,7 +48,7 @@ same_rows P f g [] all same = refl
 same_rows P f g (v ∷ vs) all same = ap (λ t. t ++ flat_map f vs) (same v (all 0 v (omega arith))) ∙ ap (λ t. g v ++ t) (same_rows P f g vs (λ i d lt. all (suc i) d (omega (arith, lt))) same)
 
 -- the row of a trace
-same_row : (word : List ℕ) (t : NamedTrace) (k : Kept) (more : List (List ℕ)) → t.request ≡ k.trace.request → t.day ≡ k.trace.day → t.latency ≡ k.trace.latency → named_row word t more ≡ trace_row word k more
+same_row : (word : List ℕ) (t : NamedTrace) (k : Kept) (more : List (List ℕ)) → t.request ≡ k.trace.request → t.day ≡ k.trace.day → t.latency ≡ k.trace.latency → row_of_trace word t more ≡ trace_row word k more
 same_row word t k more request day latency =
     ap (λ r. row_of (word ∷ r ∷ decimal t.day ∷ decimal t.latency ∷ more)) request
     ∙ (ap (λ d. row_of (word ∷ k.trace.request ∷ decimal d ∷ decimal t.latency ∷ more)) day ∙ ap (λ l. row_of (word ∷ k.trace.request ∷ decimal k.trace.day ∷ decimal l ∷ more)) latency)
@@ -58,10 +58,10 @@ module _ (b : NumberedBook) (t : NamedTrace) (order : List ℕ) (g : Graph) (gra
   -- a path
   path_same : (k : Kept) (long : ℕ) (chain : List ℕ) → IsShown b.known t k → IsChain g chain → long ≡ chain_length g chain → path_rows (record { names = b.known.names; trace = t; order = order; weights = g.weights }) long chain ≡ path_text k order g chain
   path_same k long chain shown is len =
-      ap (λ m. named_row (codes "path") t (decimal m ∷ decimal (length chain) ∷ []) ++ flat_map (step_row (record { names = b.known.names; trace = t; order = order; weights = g.weights })) chain) len
-      ∙ (ap (λ r. r ++ flat_map (step_row (record { names = b.known.names; trace = t; order = order; weights = g.weights })) chain) (same_row (codes "path") t k (decimal (chain_length g chain) ∷ decimal (length chain) ∷ []) shown.request shown.day shown.latency)
+      ap (λ m. row_of_trace (codes "path") t (decimal m ∷ decimal (length chain) ∷ []) ++ flat_map (vertex_step_row (record { names = b.known.names; trace = t; order = order; weights = g.weights })) chain) len
+      ∙ (ap (λ r. r ++ flat_map (vertex_step_row (record { names = b.known.names; trace = t; order = order; weights = g.weights })) chain) (same_row (codes "path") t k (decimal (chain_length g chain) ∷ decimal (length chain) ∷ []) shown.request shown.day shown.latency)
       ∙ ap (λ rs. trace_row (codes "path") k (decimal (chain_length g chain) ∷ decimal (length chain) ∷ []) ++ rs)
-      (same_rows (λ v. v < length order) (step_row (record { names = b.known.names; trace = t; order = order; weights = g.weights })) (λ v. name_row (codes "step" ∷ []) (name_at k order v) (decimal (weight_of g v) ∷ [])) chain (chain_within g (length order) chain numbered.weighted is)
+      (same_rows (λ v. v < length order) (vertex_step_row (record { names = b.known.names; trace = t; order = order; weights = g.weights })) (λ v. name_row (codes "step" ∷ []) (name_of_vertex k order v) (decimal (weight_of g v) ∷ [])) chain (chain_within g (length order) chain numbered.weighted is)
       (λ v lt. ap (λ name. name_row (codes "step" ∷ []) name (decimal (weight_of g v) ∷ [])) (names b.known k (record { names = b.known.names; trace = t; order = order; weights = g.weights }) v refl numbered shown lt))))
 
   pub path_shown : (n : NumberedTrace) (long : ℕ) (chain : List ℕ) → n ≡ record { names = b.known.names; trace = t; order = order; weights = g.weights } → IsChain g chain → NoneIsLonger g (chain_length g chain) → NoLongestIsBefore g chain → long ≡ chain_length g chain
@@ -79,9 +79,9 @@ module _ (b : NumberedBook) (t : NamedTrace) (order : List ℕ) (g : Graph) (gra
   -- slacks
   slack_same : (k : Kept) (longest : ℕ) (slacks : List ℕ) → IsShown b.known t k → slack_rows (record { names = b.known.names; trace = t; order = order; weights = g.weights }) longest slacks ≡ slack_text k order g longest slacks
   slack_same k longest slacks shown =
-      ap (λ r. r ++ flat_map (segment_row (record { names = b.known.names; trace = t; order = order; weights = g.weights }) slacks) (range_with_len 0 (order_of g))) (same_row (codes "trace") t k (decimal longest ∷ []) shown.request shown.day shown.latency)
+      ap (λ r. r ++ flat_map (vertex_slack_row (record { names = b.known.names; trace = t; order = order; weights = g.weights }) slacks) (range_with_len 0 (order_of g))) (same_row (codes "trace") t k (decimal longest ∷ []) shown.request shown.day shown.latency)
       ∙ ap (λ rs. trace_row (codes "trace") k (decimal longest ∷ []) ++ rs)
-      (same_rows (λ v. v < order_of g) (segment_row (record { names = b.known.names; trace = t; order = order; weights = g.weights }) slacks) (λ v. name_row (codes "segment" ∷ []) (name_at k order v) (decimal (weight_of g v) ∷ decimal (slice_index slacks v) ∷ [])) (range_with_len 0 (order_of g)) (range_within (order_of g))
+      (same_rows (λ v. v < order_of g) (vertex_slack_row (record { names = b.known.names; trace = t; order = order; weights = g.weights }) slacks) (λ v. name_row (codes "segment" ∷ []) (name_of_vertex k order v) (decimal (weight_of g v) ∷ decimal (slice_index slacks v) ∷ [])) (range_with_len 0 (order_of g)) (range_within (order_of g))
       (λ v lt. ap (λ name. name_row (codes "segment" ∷ []) name (decimal (weight_of g v) ∷ decimal (slice_index slacks v) ∷ [])) (names b.known k (record { names = b.known.names; trace = t; order = order; weights = g.weights }) v refl numbered shown (subst (λ m. v < m) numbered.weighted lt))))
 
   pub slack_shown : (n : NumberedTrace) (longest : ℕ) (slacks : List ℕ) → n ≡ record { names = b.known.names; trace = t; order = order; weights = g.weights } → IsLongestLength g longest → EachIndex g.weights (λ v. IsSlack g v (slice_index slacks v))
@@ -105,9 +105,9 @@ module _ (b : NumberedBook) (t : NamedTrace) (order : List ℕ) (g : Graph) (gra
   graph_same h k shown same =
       ap (λ r. r ++ (flat_map (vertex_row (record { names = b.known.names; trace = t; order = order; weights = h.weights })) (range_with_len 0 (order_of h)) ++ flat_map (edge_rows h) (range_with_len 0 (order_of h)))) (same_row (codes "trace") t k (decimal (order_of h) ∷ decimal (length (edges_of h)) ∷ []) shown.request shown.day shown.latency)
       ∙ (ap (λ rs. trace_row (codes "trace") k (decimal (order_of h) ∷ decimal (length (edges_of h)) ∷ []) ++ (rs ++ flat_map (edge_rows h) (range_with_len 0 (order_of h))))
-      (same_rows (λ v. v < order_of h) (vertex_row (record { names = b.known.names; trace = t; order = order; weights = h.weights })) (λ v. name_row (codes "vertex" ∷ decimal v ∷ []) (name_at k order v) (decimal (weight_of h v) ∷ [])) (range_with_len 0 (order_of h)) (range_within (order_of h))
+      (same_rows (λ v. v < order_of h) (vertex_row (record { names = b.known.names; trace = t; order = order; weights = h.weights })) (λ v. name_row (codes "vertex" ∷ decimal v ∷ []) (name_of_vertex k order v) (decimal (weight_of h v) ∷ [])) (range_with_len 0 (order_of h)) (range_within (order_of h))
       (λ v lt. ap (λ name. name_row (codes "vertex" ∷ decimal v ∷ []) name (decimal (weight_of h v) ∷ [])) (names b.known k (record { names = b.known.names; trace = t; order = order; weights = h.weights }) v refl (reduced_numbered h same) shown (subst (λ m. v < m) (ap length same ∙ numbered.weighted) lt))))
-      ∙ ap (λ rs. trace_row (codes "trace") k (decimal (order_of h) ∷ decimal (length (edges_of h)) ∷ []) ++ (flat_map (λ v. name_row (codes "vertex" ∷ decimal v ∷ []) (name_at k order v) (decimal (weight_of h v) ∷ [])) (range_with_len 0 (order_of h)) ++ rs)) (edge_rows_are (λ (e : ℕ × ℕ). edge_row e.0 e.1) h))
+      ∙ ap (λ rs. trace_row (codes "trace") k (decimal (order_of h) ∷ decimal (length (edges_of h)) ∷ []) ++ (flat_map (λ v. name_row (codes "vertex" ∷ decimal v ∷ []) (name_of_vertex k order v) (decimal (weight_of h v) ∷ [])) (range_with_len 0 (order_of h)) ++ rs)) (edge_rows_are (λ (e : ℕ × ℕ). edge_row e.0 e.1) h))
 
   pub graph_shown : (n : NumberedTrace) (h : Graph) → n ≡ record { names = b.known.names; trace = t; order = order; weights = h.weights } → IsGraph h → h.weights ≡ g.weights → ((v w : ℕ) → IsEdge h v w ↔ IsKeptEdge g v w)
       → (kept : List Kept) (k : Kept) → AreShown b.known (traces_in b) kept → IsShown b.known t k → IsGraphText kept k (graph_rows n h)

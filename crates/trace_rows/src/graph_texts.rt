@@ -5,7 +5,7 @@ ghost use Rattle.session_rules.specs.TraceTexts.{edges_of};
 ghost use Rattle.text_rows.specs.Printing.{PrintsText};
 ghost use Rattle.trace_rows.specs.inner.ComputedParts.{IsReducedUnderBook};
 ghost use Rattle.trace_rows.specs.inner.NumberedTraces.{edge_row, edge_rows, graph_rows};
-ghost use Rattle.trace_rows.specs.inner.NumberedTraces.{named_row, vertex_row};
+ghost use Rattle.trace_rows.specs.inner.NumberedTraces.{row_of_trace, vertex_row};
 ghost use Rattle.weighted_dag.specs.Graphs.{order_of};
 
 use crate::laws::names_are_shown;
@@ -130,7 +130,7 @@ fn print_counts_row<S: Sink>(
     graph: &Dag,
 ) -> Result<(), PrintFault>
     ensures { PrintsText S.written S.faults result sink.old sink.new buffer.old buffer.new
-        (named_row (codes "trace") numbered.now.trace
+        (row_of_trace (codes "trace") numbered.now.trace
         (decimal (order_of graph.now) ∷ decimal (length (edges_of graph.now)) ∷ [])) }
 {
     let trace = numbered.trace();

@@ -3,7 +3,7 @@ ghost use Rattle.std.specs.List.{All};
 ghost use Rattle.session_rules.specs.Parts.{PathOf};
 ghost use Rattle.text_rows.specs.Printing.{PrintsText};
 ghost use Rattle.trace_rows.specs.inner.ComputedParts.{IsPathUnderBook};
-ghost use Rattle.trace_rows.specs.inner.NumberedTraces.{named_row, path_rows, step_row};
+ghost use Rattle.trace_rows.specs.inner.NumberedTraces.{row_of_trace, path_rows, vertex_step_row};
 
 use crate::laws::names_are_shown;
 use crate::numbered_trace::NumberedTrace;
@@ -38,7 +38,7 @@ struct StepRows<'a> {
 }
 
 impl VertexRows for StepRows<'_> {
-    ghost text = { λ rows v. step_row rows.trace.now v };
+    ghost text = { λ rows v. vertex_step_row rows.trace.now v };
 
     ghost has = { λ rows v. v < length rows.trace.now.order };
 
@@ -71,7 +71,7 @@ fn print_path_row<S: Sink>(
     chain: &Chain,
 ) -> Result<(), PrintFault>
     ensures { PrintsText S.written S.faults result sink.old sink.new buffer.old buffer.new
-        (named_row (codes "path") numbered.now.trace
+        (row_of_trace (codes "path") numbered.now.trace
         (decimal chain.now.length ∷ decimal (length chain.now.vertices) ∷ [])) }
 {
     let trace = numbered.trace();

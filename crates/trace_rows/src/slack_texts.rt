@@ -2,7 +2,7 @@ ghost use Rattle.std.specs.Prelude.{◌≡◌, ◌<◌, [], ◌∷◌, codes, de
 ghost use Rattle.session_rules.specs.Parts.{SlacksOf};
 ghost use Rattle.text_rows.specs.Printing.{PrintsText};
 ghost use Rattle.trace_rows.specs.inner.ComputedParts.{AreSlacksUnderBook};
-ghost use Rattle.trace_rows.specs.inner.NumberedTraces.{named_row, segment_row, slack_rows};
+ghost use Rattle.trace_rows.specs.inner.NumberedTraces.{row_of_trace, vertex_slack_row, slack_rows};
 
 use crate::laws::names_are_shown;
 use crate::numbered_trace::NumberedTrace;
@@ -38,7 +38,7 @@ struct SegmentRows<'a> {
 }
 
 impl VertexRows for SegmentRows<'_> {
-    ghost text = { λ rows v. segment_row rows.trace.now rows.slacks.now v };
+    ghost text = { λ rows v. vertex_slack_row rows.trace.now rows.slacks.now v };
 
     ghost has = { λ rows v. (v < length rows.trace.now.order) × (v < length rows.slacks.now) };
 
@@ -72,7 +72,7 @@ fn print_length_row<S: Sink>(
     longest: u128,
 ) -> Result<(), PrintFault>
     ensures { PrintsText S.written S.faults result sink.old sink.new buffer.old buffer.new
-        (named_row (codes "trace") numbered.now.trace (decimal longest ∷ [])) }
+        (row_of_trace (codes "trace") numbered.now.trace (decimal longest ∷ [])) }
 {
     let trace = numbered.trace();
     print_row(

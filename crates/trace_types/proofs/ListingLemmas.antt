@@ -107,8 +107,8 @@ few_different {X} (x ∷ xs) ys differ to =
 -- a list has one number of different elements
 pub one_count : {X : Type 0} (n m : ℕ) (xs : List X) → CountsDistinct n xs → CountsDistinct m xs → n ≡ m
 one_count n m xs p q =
-    let a : length p.once ≤ length q.once = few_different p.once q.once p.differ (λ z c. (q.same z).1 ((p.same z).0 c)) in
-    let b : length q.once ≤ length p.once = few_different q.once p.once q.differ (λ z c. (p.same z).1 ((q.same z).0 c)) in
-    let e : length p.once ≡ n = p.count in
-    let f : length q.once ≡ m = q.count in
+    let a : length p.all ≤ length q.all = few_different p.all q.all p.differ (λ z c. (q.exactly z).1 ((p.exactly z).0 c)) in
+    let b : length q.all ≤ length p.all = few_different q.all p.all q.differ (λ z c. (p.exactly z).1 ((q.exactly z).0 c)) in
+    let e : length p.all ≡ n = p.count in
+    let f : length q.all ≡ m = q.count in
     omega arith

@@ -10,12 +10,12 @@ pub record PlainTrace : Type 0 where
   pub events : List Event
 
 -- the event belongs to this request
-abbrev pub is_of : List ℕ → Event → Bool
-is_of request event = bytes_eq event.request request
+abbrev pub is_of_request : List ℕ → Event → Bool
+is_of_request request event = bytes_eq event.request request
 
 -- all events of a request, in the order of the batch
 abbrev pub events_of : List ℕ → List Event → List Event
-events_of request batch = filter (is_of request) batch
+events_of request batch = filter (is_of_request request) batch
 
 -- the requests of a batch, each once, in the order of their first events
 abbrev pub requests_of : List Event → List (List ℕ)

@@ -36,8 +36,8 @@ abbrev pub task_at : List Event → ℕ → List ℕ
 task_at events k = slice_index_or (tasks_of events) k []
 
 -- its name
-abbrev pub name_at : List Event → ℕ → List ℕ
-name_at events k = slice_index_or (names_of events) k []
+abbrev pub event_name_at : List Event → ℕ → List ℕ
+event_name_at events k = slice_index_or (names_of events) k []
 
 -- its time by its own machine's clock, in nanoseconds
 abbrev pub time_at : List Event → ℕ → ℕ

@@ -30,7 +30,7 @@ TextHypothesis = Hypothesis SegmentName (List ℕ)
 
 -- some trace refutes it
 abbrev IsRefutedText : List Kept → TextHypothesis → Type 0
-IsRefutedText ks h = IsRefuted (text.Refutes by_kept h) ks
+IsRefutedText ks h = IsRefuted (text.RefutesHypothesis by_kept h) ks
 
 abbrev IsRefutedNumber : List NamedTrace → Relation → Type 0
 IsRefutedNumber ts r = IsRelation r × IsRefuted (number.Refutes r) ts
@@ -38,7 +38,7 @@ IsRefutedNumber ts r = IsRelation r × IsRefuted (number.Refutes r) ts
 module _ (known : Known) (kept : IsKept known) (laws : HasLaws known) (ts : List NamedTrace) (ks : List Kept) (shown : AreShown known ts ks) where
   number_of : (h : TextHypothesis) → IsRefutedText ks h → (r : Relation) × IsTold known h r × IsRefutedNumber ts r
   number_of h some =
-      let k = at_any (text.Refutes by_kept h) ks some in
+      let k = at_any (text.RefutesHypothesis by_kept h) ks some in
       let t = partner (λ (v : Kept) (w : NamedTrace). IsShown known w v) ks ts (zip_flip (IsShown known) ts ks shown) k.0 k.1 k.2 in
       let r = to_number known kept laws t.0 k.1 t.2 h k.3 in
       (r.0, r.1, (r.1.relation, any_at (number.Refutes r.0) ts k.0 t.0 t.1 r.2))
@@ -48,7 +48,7 @@ module _ (known : Known) (kept : IsKept known) (laws : HasLaws known) (ts : List
       let t = at_any (number.Refutes r) ts some.1 in
       let k = partner (IsShown known) ts ks shown t.0 t.1 t.2 in
       let h = to_text known kept laws t.1 k.0 k.2 r some.0 t.3 in
-      (h.0, h.1, any_at (text.Refutes by_kept h.0) ks t.0 k.0 k.1 h.2)
+      (h.0, h.1, any_at (text.RefutesHypothesis by_kept h.0) ks t.0 k.0 k.1 h.2)
 
   numbers_of : (hs : List TextHypothesis) → All (IsRefutedText ks) hs → (rs : List Relation) × AllZip (IsTold known) hs rs × All (IsRefutedNumber ts) rs
   numbers_of [] each = ([], tt, All-nil (IsRefutedNumber ts))
@@ -65,7 +65,7 @@ module _ (known : Known) (kept : IsKept known) (laws : HasLaws known) (ts : List
       (h.0 ∷ rest.0, (h.1, rest.1), All-cons (IsRefutedText ks) h.0 rest.0 h.2 rest.2)
 
   -- at least as many by number are at least as many by text
-  pub least_by_text : (n : ℕ) → counts.IsAtLeastRefuted ts n → text.IsAtLeastRefuted by_kept ks n
+  pub least_by_text : (n : ℕ) → counts.IsAtLeastRefutedCount ts n → text.IsAtLeastRefuted by_kept ks n
   least_by_text n least hs refuted =
       let r = numbers_of hs refuted.refuted in
       let long = zip_length (IsTold known) hs r.0 r.1 in
@@ -75,7 +75,7 @@ module _ (known : Known) (kept : IsKept known) (laws : HasLaws known) (ts : List
       omega (arith, long, bound)
 
   -- and at most as many at most as many
-  pub most_by_text : (n : ℕ) → counts.IsAtMostRefuted ts n → text.IsAtMostRefuted by_kept ks n
+  pub most_by_text : (n : ℕ) → counts.IsAtMostRefutedCount ts n → text.IsAtMostRefuted by_kept ks n
   most_by_text n most =
       let h = texts_of most.0 most.1.refuted in
       let long = zip_length (IsTold known) h.0 most.0 h.1 in
@@ -85,7 +85,7 @@ module _ (known : Known) (kept : IsKept known) (laws : HasLaws known) (ts : List
       (h.0, record { differ = differ; refuted = h.2 }, omega (arith, long, bound))
 
 pub told_by_text : (known : Known) → IsKept known → HasLaws known → (every workers : ℕ) (named : List NamedTrace) (kept : List Kept) (lines : List WatchLine) → AreShown known named kept
-    → pass.AreWatchLines every workers named lines → session.AreWatchLines every workers kept lines
+    → pass.AreNumberedWatchLines every workers named lines → session.AreWatchLines every workers kept lines
 told_by_text known is laws every workers named kept lines shown h = record {
   marks = h.marks ∙ same_marks (IsShown known) every 0 (shares_of named workers) (shares_of kept workers) (zip_shares (IsShown known) workers named kept shown);
   within = All-weaker (λ (l : WatchLine). counts.IsWithinRefuted (take l.done (share_of named workers l.worker)) named l.refuted)

@@ -92,7 +92,7 @@ module _ (known : Known) (laws : HasLaws known) (trace : NamedTrace) (k : Kept) 
 
 module _ (known : Known) (kept : IsKept known) (laws : HasLaws known) (trace : NamedTrace) (k : Kept) (shown : IsShown known trace k) where
   -- where the kept trace refutes a hypothesis, the named trace refutes the relation that stands for it
-  pub to_number : (h : Hypothesis SegmentName (List ℕ)) → text.Refutes by_kept h k → (r : Relation) × IsTold known h r × number.Refutes r trace
+  pub to_number : (h : Hypothesis SegmentName (List ℕ)) → text.RefutesHypothesis by_kept h k → (r : Relation) × IsTold known h r × number.Refutes r trace
   to_number (Before a b) h =
       let f = both_named by_kept k a b (λ s t. StartsEarly by_kept k t s) h.1 in
       let m = name_number known laws trace k shown a f.0 in
@@ -144,7 +144,7 @@ module _ (known : Known) (kept : IsKept known) (laws : HasLaws known) (trace : N
       )
 
   -- and the other way round
-  pub to_text : (r : Relation) → IsRelation r → number.Refutes r trace → (h : Hypothesis SegmentName (List ℕ)) × IsTold known h r × text.Refutes by_kept h k
+  pub to_text : (r : Relation) → IsRelation r → number.Refutes r trace → (h : Hypothesis SegmentName (List ℕ)) × IsTold known h r × text.RefutesHypothesis by_kept h k
   to_text (BeforeNumbers m n) is h =
       let f = both_named by_number trace m n (λ s t. StartsEarly by_number trace t s) h in
       let a = name_text known laws trace k shown m f.0 in

@@ -6,7 +6,6 @@ use Rattle.trace_pass.specs.Halving.{first_part, halving, share_of, shares_of}
 use Rattle.trace_pass.specs.Watch.{watch_counts, watch_marks}
 use Rattle.trace_types.specs.declared.named_trace.NamedTrace.{NamedTrace}
 use Rattle.session_rules.specs.KeptTraces.{Kept}
-use Rattle.session_rules.specs.WatchLines.{marks_from}
 use Rattle.watch_bounds.proofs.ListLemmas.{zip_append, zip_drop, zip_length, zip_or, zip_take}
 
 no_rounds : {T : Type 0} (workers : ℕ) (xs : List T) → halving zero workers xs ≡ xs ∷ []
@@ -57,7 +56,7 @@ module _ {X Y : Type 0} (R : X → Y → Type 0) where
 
 -- shares of the same lengths have the same lines
 pub same_marks : (R : NamedTrace → Kept → Type 0) (every worker : ℕ) (shares : List (List NamedTrace)) (others : List (List Kept)) → AllZip (AllZip R) shares others
-    → watch_marks every worker shares ≡ marks_from every worker others
+    → watch_marks every worker shares ≡ watch_marks every worker others
 same_marks R every worker [] [] z = refl
 same_marks R every worker [] (ys ∷ others) z = absurd z
 same_marks R every worker (xs ∷ shares) [] z = absurd z

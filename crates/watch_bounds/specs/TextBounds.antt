@@ -14,5 +14,5 @@ use Rattle.trace_types.specs.declared.named_trace.NamedTrace.{NamedTrace}
 abbrev pub WatchLinesAreToldByText : Type 0
 WatchLinesAreToldByText = (known : Known) (every workers : ℕ) (named : List NamedTrace)
     (kept : List Kept) (lines : List WatchLine) → IsKept known → AreShown known named kept
-    → 0 < workers → pass.AreWatchLines every workers named lines
+    → 0 < workers → pass.AreNumberedWatchLines every workers named lines
     → session.AreWatchLines every workers kept lines

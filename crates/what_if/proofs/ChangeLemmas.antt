@@ -6,7 +6,7 @@ use Rattle.std.proofs.lemmas.Option.{slice_get-get_or, slice_get_cases}
 use Rattle.trace_types.specs.declared.named_segment.NamedSegment.{NamedSegment}
 use Rattle.what_if.specs.declared.change.Change.{Change}
 use Rattle.what_if.specs.Forecasts.{changed_time}
-use Rattle.what_if.specs.ForecastLaws.{ChangesMakeLess, GraphHasSegments, IsLess}
+use Rattle.what_if.specs.ForecastLaws.{ChangesRaiseNoWeight, GraphHasSegments, IsNoGreater}
 
 pub graph_has_segments : GraphHasSegments
 graph_has_segments trace order g has = record {
@@ -18,12 +18,12 @@ graph_has_segments trace order g has = record {
 part_le : (time num den : ℕ) → num ≤ den → time * num / den ≤ time
 part_le time num den le = div-le_of_le-mul den (subst (λ k. time * num ≤ k) (mul_comm time den) (mul-le-mul_left time le))
 
-changed_le : (changes : List Change) (name time : ℕ) → All IsLess changes → changed_time changes name time ≤ time
+changed_le : (changes : List Change) (name time : ℕ) → All IsNoGreater changes → changed_time changes name time ≤ time
 changed_le [] name time less = omega arith
-changed_le (c ∷ cs) name time less = go (changed_le cs name time (All-tail IsLess c cs less)) (eqb c.name name)
+changed_le (c ∷ cs) name time less = go (changed_le cs name time (All-tail IsNoGreater c cs less)) (eqb c.name name)
   where
     go : changed_time cs name time ≤ time → (b : Bool) → cond b (time * c.num / c.den) (changed_time cs name time) ≤ time
-    go rest true = part_le time c.num c.den (All-head IsLess c cs less).1
+    go rest true = part_le time c.num c.den (All-head IsNoGreater c cs less).1
     go rest false = rest
 
 at_index : {X : Type 0} (xs : List X) (i : ℕ) → i < length xs → (x : X) × (slice_get xs i ≡ Some x)
@@ -32,10 +32,10 @@ at_index xs i lt = ⊎_elim
     (λ (past, none). absurd (omega arith))
     (slice_get_cases xs i).1
 
-pub changes_make_less : ChangesMakeLess
-changes_make_less segments order changes g weights has less are = record {
+pub changes_raise_no_weight : ChangesRaiseNoWeight
+changes_raise_no_weight segments order changes g weights has less are = record {
   count = are.count;
-  lesser = λ v lt.
+  no_greater = λ v lt.
       let i = get_or order v 0 in
       let inside : v < length order = let size = has.count in omega arith in
       let within = has.within v 0 inside in

@@ -1,4 +1,4 @@
--- The longest length with lesser weights.
+-- The longest length with weights that are not greater.
 use Rattle.std.proofs.Common.{◌≡◌, ◌≢◌, ◌⊎◌, ℕ, suc, zero, ◌+◌, ◌-◌, ◌<◌, ◌≤◌, List, [], ◌∷◌, length, get_or, set, All, Contains, arith, refl, sym, ap, ◌∙◌, subst, ⊎_elim, inl, inr}
 use Rattle.std.specs.Prelude.{sum_by}
 use Rattle.std.specs.List.{range_with_len}
@@ -9,7 +9,7 @@ use Rattle.std.proofs.lemmas.List.Sums.{sum_by-cons}
 use Rattle.weighted_dag.specs.Chains.{IsChain, IsLongestLength, LeadsTo, chain_length}
 use Rattle.weighted_dag.specs.Graphs.{Graph, IsEdge, IsGraph, order_of, weight_of, with_weights}
 use Rattle.weighted_dag.specs.Slacks.{IsSlack, KeepsLongest, raised}
-use Rattle.what_if.specs.ForecastLaws.{AreLesser, LosesNoMore, SlackLosesNothing, all_lost}
+use Rattle.what_if.specs.ForecastLaws.{AreNoGreater, LosesNoMore, SlackLosesNothing, all_lost}
 
 -- the weight of a vertex by a list
 abbrev at : List ℕ → ℕ → ℕ
@@ -92,7 +92,7 @@ rising_sum f (suc m) k (v ∷ c) up = ⊎_elim
 pub loses_no_more : LosesNoMore
 loses_no_more g ws before after form less (c, longest, is) (d, other, are) = (
   (let there = longest.none_longer d (chain_back g ws less.count d other.chain) in
-      let sums = sum_le (at ws) (weight_of g) d (λ k e lt. less.lesser (get_or d k e) (chain_within g d (chain_back g ws less.count d other.chain) k e lt)) in
+      let sums = sum_le (at ws) (weight_of g) d (λ k e lt. less.no_greater (get_or d k e) (chain_within g d (chain_back g ws less.count d other.chain) k e lt)) in
       omega arith),
   (let there = other.none_longer c (chain_there g ws less.count c longest.chain) in
       let sums = sum_le (weight_of g) (λ v. at ws v + lost v) c (λ k e lt. omega arith) in

@@ -1,5 +1,5 @@
 //! Laws over the definitions alone: each function does nothing, and its contract is the law.
-ghost use Rattle.what_if.specs.ForecastLaws.{ChangesMakeLess, GraphHasSegments, LosesNoMore};
+ghost use Rattle.what_if.specs.ForecastLaws.{ChangesRaiseNoWeight, GraphHasSegments, LosesNoMore};
 ghost use Rattle.what_if.specs.ForecastLaws.{SlackLosesNothing};
 
 /// The graph of a trace has its segments, as `predict` asks.
@@ -8,17 +8,17 @@ pub fn graph_has_segments()
 {}
 
 /// Changes make no weight greater.
-pub fn changes_make_less()
-    ensures { ChangesMakeLess }
+pub fn changes_raise_no_weight()
+    ensures { ChangesRaiseNoWeight }
 {}
 
-/// With lesser weights the longest length is not greater, and it is less by at most what all
-/// weights lose.
+/// With weights that are not greater the longest length is not greater, and it is less by at most
+/// what all weights lose.
 pub fn loses_no_more()
     ensures { LosesNoMore }
 {}
 
-/// Where one vertex alone has a lesser weight, and its slack is above 0, the longest length stays.
+/// Where one vertex alone may have a lesser weight, and its slack is above 0, the longest length stays.
 pub fn slack_loses_nothing()
     ensures { SlackLosesNothing }
 {}

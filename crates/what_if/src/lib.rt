@@ -7,6 +7,6 @@ mod forecast;
 pub mod laws;
 mod prediction;
 
-pub use change::{Change, are_less};
+pub use change::{Change, are_no_greater};
 pub use forecast::Forecast;
 pub use prediction::predict;

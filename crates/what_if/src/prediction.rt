@@ -1,6 +1,6 @@
 ghost use Rattle.std.specs.Prelude.{◌≡◌, ◌*◌, ◌/◌, All, IfOk};
 ghost use Rattle.what_if.specs.Forecasts.{AreChanged, HasSegments, IsForecast, changed_time};
-ghost use Rattle.what_if.specs.ForecastLaws.{IsLess};
+ghost use Rattle.what_if.specs.ForecastLaws.{IsNoGreater};
 
 use crate::{Change, Forecast};
 use std::alloc::{AllocError, Global};
@@ -10,7 +10,7 @@ use weighted_dag::longest_length;
 
 /// Takes the part of a time that a change leaves, rounded down.
 fn part_of(time: u64, change: &Change) -> u64
-    requires { IsLess change.now }
+    requires { IsNoGreater change.now }
     ensures { result ≡ time * change.now.num / change.now.den }
 {
     let product = u128::from(time) * u128::from(change.num);
@@ -19,7 +19,7 @@ fn part_of(time: u64, change: &Change) -> u64
 
 /// Tells how long a segment of a name would take that takes so long now.
 fn time_with(changes: &[Change], name: u32, time: u64) -> u64
-    requires { All IsLess changes.now }
+    requires { All IsNoGreater changes.now }
     ensures { result ≡ changed_time changes.now name time }
 {
     'changes: for change in changes {
@@ -38,7 +38,7 @@ fn change_weights(
     changes: &[Change],
 ) -> Result<Vec<u64>, AllocError>
     requires graph { HasSegments segments.now graph.now.order graph.now.dag }
-    requires changes { All IsLess changes.now }
+    requires changes { All IsNoGreater changes.now }
     ensures { IfOk result (λ weights. AreChanged segments.now graph.now.order changes.now
         graph.now.dag.weights weights.items) }
 {
@@ -61,7 +61,7 @@ pub fn predict(
     changes: &[Change],
 ) -> Result<Forecast, AllocError>
     requires graph { HasSegments trace.now.segments graph.now.order graph.now.dag }
-    requires changes { All IsLess changes.now }
+    requires changes { All IsNoGreater changes.now }
     ensures { IfOk result (IsForecast trace.now.segments graph.now.order graph.now.dag
         changes.now) }
 {

@@ -10,4 +10,5 @@ pub mod ShareLemmas
 pub mod OpeningLemmas
 pub mod CloseLemmas
 pub mod MachineLemmas
+pub mod HistoryLemmas
 pub mod Worked

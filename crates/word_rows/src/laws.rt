@@ -1,6 +1,6 @@
 //! What follows from the definitions alone. Each law is the contract of a function that does
 //! nothing.
-ghost use Rattle.word_rows.specs.Keeping.{EventsKeepSound, OpeningIsSound, StepKeepsSound, WholeShareKnowsAll};
+ghost use Rattle.word_rows.specs.Keeping.{DoneStays, EventsKeepSound, OpeningIsSound, StepKeepsSound, WholeShareKnowsAll, WidthStays, ZerosStay};
 ghost use Rattle.word_rows.specs.Meeting.{BelowWider, BlockLacks, ClearsAppend, ClearsBelow, CommonByAnd, CommonIsMeet, ComplementClears, LacksAppend, MeetBegins, MeetByBits, MeetIsUnique, MeetsFollow, OrderIsFree, RowIsSame, RowsClearAppend, SameRowIsOne, WidenedMeet};
 
 /// The state of the step machine at opening is sound.
@@ -23,6 +23,21 @@ pub fn events_keep_sound()
 /// lack only their bits.
 pub fn whole_share_knows_all()
     ensures { WholeShareKnowsAll }
+{}
+
+/// Along a history there are as many words as at opening.
+pub fn width_stays()
+    ensures { WidthStays }
+{}
+
+/// Along a history a bit that is 0 stays 0.
+pub fn zeros_stay()
+    ensures { ZerosStay }
+{}
+
+/// Along a history a row that some view has done stays a done row of some view.
+pub fn done_stays()
+    ensures { DoneStays }
 {}
 
 /// A row whose words are below a width has them below every greater one.

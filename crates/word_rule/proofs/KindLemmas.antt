@@ -73,7 +73,7 @@ load_is_step sound plan s slots id word before now found a idle inside is play =
     ∙ λ j. (record { words = set s.words word (sym is j); all = plan.all; views = set (map view_of s.views) id (with_reading before.0.view word (sym is j)); live = map is_seated (map view_of s.views) }, Ok (Loaded (sym is j))))
 
 pub tell_is_no_step : TellIsNoStep
-tell_is_no_step plan s slots id word before now found a is play = same_table s id before now word found a.has is play.0
+tell_is_no_step plan s slots id word before now found a is play = same_table s id before now word found a.has is play.same
 
 pub split_is_step : EventsKeepSound → SplitIsStep
 split_is_step sound plan s id shares k seats a idle less q = split_is plan s a.history id k a.has sound a.share shares less idle

@@ -5,4 +5,5 @@ pub mod RuleLemmas
 pub mod KindLemmas
 pub mod OfferLemmas
 pub mod ReadLemmas
+pub mod MissLemmas
 pub mod UseLemmas

@@ -25,7 +25,7 @@ pub all_both : (ps qs : List (List StepEvent)) (es : List StepEvent) → ArePref
 all_both [] qs es h k = k
 all_both (p ∷ ps) qs es h k = (h.0, all_both ps qs es h.1 k)
 
-prefix_longer : (p q r : List StepEvent) → IsPrefix p q → IsPrefix q r → IsPrefix p r
+pub prefix_longer : (p q r : List StepEvent) → IsPrefix p q → IsPrefix q r → IsPrefix p r
 prefix_longer p q r f g = (f.0 ++ g.0, sym (append_assoc p f.0 g.0) ∙ ap (λ (l : List StepEvent). l ++ g.0) f.1 ∙ g.1)
 
 pub prefix_through : (p : List StepEvent) (e : StepEvent) (r : List StepEvent) → IsPrefix (p ++ e ∷ []) r → IsPrefix p r

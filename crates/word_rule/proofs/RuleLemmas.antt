@@ -285,14 +285,25 @@ module _ (sound : EventsKeepSound) (plan : Plan) where
         subst (λ (b : Bool). MatchBool b (Clears plan row me me) (me ≡ me)) (sym t) refl,
       )
 
-  pub tell_allowed : (slots id : ℕ) (me : Me (Unit {0}) Knowledge) (word : ℕ) → 0 < me.0.view.shares → Allows (HasHistory plan) slots id me word (λ n. n) (TellPlay (base_step slots word 0 0 none) me)
+  pub tell_allowed : (slots id : ℕ) (me : Me (Unit {0}) Knowledge) (word : ℕ) → 0 < me.0.view.shares → Allows (HasHistory plan) slots id me word (λ n. n) (TellPlay plan (base_step slots word 0 0 none) me)
   tell_allowed slots id me word share s h homes at small =
       let mine = carries plan s h id me.0 at sound share in (
         me.0,
         keeps,
         tt,
         subst (HasHistory plan) (sym (unchanged s word id me.0 at)) h,
-        (refl, mine.1, let all = mine.0 in let fits = h.fits in omega arith),
+        record {
+          same = refl;
+          most = mine.1;
+          fits = let all = mine.0 in let fits = h.fits in omega arith;
+          one = record {
+            history = h.events;
+            rows = h.rows;
+            goes_on = h.known id me.0 at;
+            seat = id;
+            has = ap (λ (m : StepState). get_elem? m.views id) h.stands ∙ view_here s.views id me.0 at;
+          };
+        },
       )
 
   pub split_allowed : (id : ℕ) (k : Knowledge) (n : ℕ) → n < k.view.shares → is_idle k.view ≡ true → Splits (HasHistory plan) id k (left_knowledge n k) (new_knowledge n k)

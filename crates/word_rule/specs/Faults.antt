@@ -6,8 +6,8 @@ use Rattle.word_rule.specs.declared.closing.CloseFault.TheVariants.{Memory, Pass
 
 -- the pass has fewer than all shares, or it has all and memory ran out; the table and the pass come
 -- back unchanged
-abbrev pub IsFault : Opened → Holding → CloseFault → Type 0
-IsFault table pass (Memory table' pass') = (table.all ≤ pass.view.shares) × (table' ≡ table)
+abbrev pub IsCloseFault : Opened → Holding → CloseFault → Type 0
+IsCloseFault table pass (Memory table' pass') = (table.all ≤ pass.view.shares) × (table' ≡ table)
     × (pass' ≡ pass)
-IsFault table pass (PassesOut table' pass' have all) = (pass.view.shares < table.all)
+IsCloseFault table pass (PassesOut table' pass' have all) = (pass.view.shares < table.all)
     × (have ≡ pass.view.shares) × (all ≡ table.all) × (table' ≡ table) × (pass' ≡ pass)

@@ -60,6 +60,15 @@ KnowsMore before now = (history : List StepEvent) → ArePrefixes now history
 abbrev pub IsOnePast : List (List StepEvent) → Type 0
 IsOnePast pasts = (history : List StepEvent) × HaveRows history × (pasts ≡ history ∷ [])
 
+-- all that is known is of one history: one that goes on from each of these pasts, and after which a
+-- seat has this view
+pub record IsOfOneHistory (width all : ℕ) (pasts : List (List StepEvent)) (v : View) : Type 0 where
+  pub history : List StepEvent
+  pub rows : HaveRows history
+  pub goes_on : ArePrefixes pasts history
+  pub seat : ℕ
+  pub has : get_elem? (after width all history).0.views seat ≡ some v
+
 -- in this history the word was loaded and this value found, and before that some view had cleared
 -- this bit: it had offered a row with it, or was offering one
 pub record WasCleared (width all : ℕ) (history : List StepEvent) (word value bit : ℕ) : Type 0 where

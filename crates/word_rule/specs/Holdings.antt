@@ -31,6 +31,6 @@ pub record Opened : Type 0 where
 
 -- the pass or note is of this table, and carries the number of shares that the table was opened
 -- with
-pub record IsOf (table : Opened) (holding : Holding) : Type 0 where
+pub record IsOfTable (table : Opened) (holding : Holding) : Type 0 where
   pub table_id : holding.table_id ≡ table.table_id
   pub all : holding.view.all ≡ table.all

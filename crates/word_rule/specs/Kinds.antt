@@ -99,7 +99,7 @@ abbrev pub TellIsNoStep : Type 0
 TellIsNoStep =
     (plan : Plan) (s : TableState) (slots id word : ℕ) (before now : SeatState) (found : ℕ)
     → IsAt plan s id before.0 → found ≡ slice_index s.words word
-    → TellPlay (base_step slots word 0 0 none) before found now
+    → TellPlay plan (base_step slots word 0 0 none) before found now
     → table_after s id before now word found ≡ s
 
 -- `split_seat`: the machine splits off the shares, and the new seat is the next one

@@ -8,7 +8,7 @@ use Rattle.word_rows.specs.Machine.{entry_at}
 use Rattle.word_rule.specs.declared.rule.Plan.{Plan}
 use Rattle.word_rule.specs.declared.rule.Knowledge.{Knowledge}
 use Rattle.word_rule.specs.Shown.{shows}
-use Rattle.word_rule.specs.Histories.{IsClearBetween, IsLoadBetween, KnowsMore, IsOnePast}
+use Rattle.word_rule.specs.Histories.{IsClearBetween, IsLoadBetween, KnowsMore, IsOfOneHistory, IsOnePast}
 use Rattle.word_rule.specs.Rule.{SeatState}
 
 -- clear: one entry more of the row is cleared, by a step of each history from now on
@@ -44,12 +44,16 @@ pub record Loads (plan : Plan) (word value : ℕ) (before now : SeatState) : Typ
 abbrev pub LoadPlay : Plan → Step (Unit {0}) → SeatState → ℕ → SeatState → Type 0
 LoadPlay plan s before found now = Loads plan s.word found before now
 
--- a load that leaves the seat as it is, which has at most all shares, a number of 32 bits
-abbrev pub TellPlay : Step (Unit {0}) → SeatState → ℕ → SeatState → Type 0
-TellPlay s before found now =
-    (now ≡ before)
-    × (before.0.view.shares ≤ before.0.view.all)
-    × (before.0.view.all < 2 ^ 32)
+-- a load that leaves the seat as it is, which has at most all shares, a number of 32 bits, and what
+-- it knows is of one history
+pub record TellsOneHistory (plan : Plan) (before now : SeatState) : Type 0 where
+  pub same : now ≡ before
+  pub most : before.0.view.shares ≤ before.0.view.all
+  pub fits : before.0.view.all < 2 ^ 32
+  pub one : IsOfOneHistory plan.width plan.all before.0.pasts before.0.view
+
+abbrev pub TellPlay : Plan → Step (Unit {0}) → SeatState → ℕ → SeatState → Type 0
+TellPlay plan s before found now = TellsOneHistory plan before now
 
 -- split: both seats know the same pasts
 abbrev pub left_knowledge : ℕ → Knowledge → Knowledge

@@ -4,9 +4,9 @@ ghost use Rattle.word_rows.specs.Words.{IsMeet, full_words};
 ghost use Rattle.word_rows.specs.Accounts.{LackOnly};
 ghost use Rattle.word_rows.specs.Changes.{is_idle};
 ghost use Rattle.word_rows.specs.Keeping.{KnowsAll};
-ghost use Rattle.word_rule.specs.Holdings.{IsOf};
+ghost use Rattle.word_rule.specs.Holdings.{IsOfTable};
 ghost use Rattle.word_rule.specs.Histories.{EndsWith};
-ghost use Rattle.word_rule.specs.Faults.{IsFault};
+ghost use Rattle.word_rule.specs.Faults.{IsCloseFault};
 
 use crate::passes::Pass;
 use crate::rule::{Knowledge, OneHistory, Plan};
@@ -77,7 +77,7 @@ fn end(
 impl MeetTable {
     /// Ends the table, where the pass has all shares, and gives its words.
     pub fn close(self, alloc: Global, pass: Pass) -> Result<Closed, CloseFault>
-        requires { IsOf self pass }
+        requires { IsOfTable self pass }
         ensures whole { IfOk result (λ _. pass.view.shares ≡ self.all) }
         ensures words { IfOk result (λ c. IsMeet (full_words self.width) pass.view.done c.words) }
         ensures readings { IfOk result (λ _. LackOnly pass.view.readings pass.view.done) }
@@ -85,7 +85,7 @@ impl MeetTable {
         // One history goes on from all that the pass knows, ends with these words, and is sound.
         ensures ends { IfOk result
             (λ c. EndsWith self.width self.all pass.pasts pass.view c.words) }
-        ensures fault { IfErr result (IsFault self pass) }
+        ensures fault { IfErr result (IsCloseFault self pass) }
     {
         let (have, all) = (pass.shares(), self.all);
         if have < all {

@@ -1,8 +1,9 @@
 //! What the rule of the table means, over the definitions alone. Each law is the contract of a
 //! function that does nothing.
 ghost use Rattle.word_rule.specs.Kinds.{ClearIsStep, CloseIsStep, JoinIsStep, LoadIsStep, LookIsNoStep, RuleIsSound, SkipIsStep, SplitIsStep, TellIsNoStep};
+ghost use Rattle.word_rule.specs.Uses.{NotBothMiss};
 
-use word_rows::laws::{complement_clears, events_keep_sound};
+use word_rows::laws::{complement_clears, events_keep_sound, row_is_same, width_stays, zeros_stay};
 
 /// A table that meets the rule has sound words and views.
 pub fn rule_is_sound()
@@ -38,7 +39,8 @@ pub fn load_is_step()
     events_keep_sound();
 }
 
-/// The load by which a seat learns that it has at most all shares is no step, and changes nothing.
+/// The load by which a seat learns that it has at most all shares and that what it knows is of one
+/// history is no step, and changes nothing.
 pub fn tell_is_no_step()
     ensures { TellIsNoStep }
 {}
@@ -62,4 +64,14 @@ pub fn close_is_step()
     ensures { CloseIsStep }
 {
     events_keep_sound();
+}
+
+/// Where two passes each offer a row and then read, not both miss the other's row.
+pub fn not_both_miss()
+    ensures { NotBothMiss }
+{
+    events_keep_sound();
+    row_is_same();
+    width_stays();
+    zeros_stay();
 }

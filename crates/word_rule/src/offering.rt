@@ -1,7 +1,7 @@
 ghost use Rattle.std.specs.Prelude.{◌≡◌, ℕ, ◌<◌, length, IsTrue};
 ghost use Rattle.word_rows.specs.Rows.{below};
 ghost use Rattle.word_rows.specs.Changes.{with_done};
-ghost use Rattle.word_rule.specs.Holdings.{IsOf};
+ghost use Rattle.word_rule.specs.Holdings.{IsOfTable};
 ghost use Rattle.word_rule.specs.Histories.{IsClearBetween, IsOnePast, KnowsMore, offered_until};
 
 use crate::passes::Pass;
@@ -16,7 +16,7 @@ impl MeetTable {
     /// last of the pass's done rows. A word that lacks an entry's bits already is read and not
     /// written.
     pub fn offer(&self, pass: &mut Pass, row: &Row)
-        requires table { IsOf self.now pass.old }
+        requires table { IsOfTable self.now pass.old }
         requires row { IsTrue (below self.now.width row.now) }
         ensures table { pass.new.table_id ≡ pass.old.table_id }
         ensures done { pass.new.view ≡ with_done pass.old.view row.now }

@@ -57,11 +57,14 @@ impl<P: Planned> Play<(), Knowledge> for Load<P> {
     ghost then = { LoadPlay P.plan };
 }
 
-/// One word is read, the seat stays as it is, and learns that it has at most all shares.
-pub struct Tell;
+/// One word is read, the seat stays as it is, and learns that it has at most all shares and that
+/// what it knows is of one history.
+pub struct Tell<P> {
+    of: PhantomData<P>,
+}
 
-impl Play<(), Knowledge> for Tell {
-    ghost then = { TellPlay };
+impl<P: Planned> Play<(), Knowledge> for Tell<P> {
+    ghost then = { TellPlay P.plan };
 }
 
 /// How many shares are split off. Each call picks it.

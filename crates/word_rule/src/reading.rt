@@ -3,7 +3,7 @@ ghost use Rattle.word_rows.specs.declared.events.StepEvent.{StepEvent};
 ghost use Rattle.word_rows.specs.Words.{bit_of};
 ghost use Rattle.word_rows.specs.Accounts.{AreZero};
 ghost use Rattle.word_rows.specs.Changes.{is_idle, readings_from, with_readings};
-ghost use Rattle.word_rule.specs.Holdings.{IsOf};
+ghost use Rattle.word_rule.specs.Holdings.{IsOfTable};
 ghost use Rattle.word_rule.specs.inner.Keeping.{IsSeated};
 ghost use Rattle.word_rule.specs.Shown.{shows};
 ghost use Rattle.word_rule.specs.Histories.{ArePrefixes, IsLoadBetween, IsOnePast, KnowsMore, WasCleared, read_until};
@@ -46,7 +46,7 @@ impl MeetTable {
     /// Reads the words, one step of the step machine for each, the words rising. The readings are
     /// then the last of the pass's.
     pub fn read(&self, pass: &mut Pass, into: &mut [u64])
-        requires table { IsOf self.now pass.old }
+        requires table { IsOfTable self.now pass.old }
         requires width { length into.old ≡ self.now.width }
         ensures table { pass.new.table_id ≡ pass.old.table_id }
         ensures readings { pass.new.view ≡ with_readings pass.old.view (readings_from 0 into.new) }

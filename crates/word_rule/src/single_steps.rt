@@ -6,7 +6,7 @@ ghost use Rattle.word_rows.specs.Rows.{below, is_row};
 ghost use Rattle.word_rows.specs.Changes.{is_idle};
 ghost use Rattle.word_rows.specs.Machine.{can_clear};
 ghost use Rattle.word_rule.specs.inner.Keeping.{IsSeated};
-ghost use Rattle.word_rule.specs.Plays.{Clears, Loads, joined_knowledge, left_knowledge, new_knowledge};
+ghost use Rattle.word_rule.specs.Plays.{Clears, Loads, TellsOneHistory, joined_knowledge, left_knowledge, new_knowledge};
 
 use crate::plays::{Clear, Counted, JoinUp, Load, Offered, Planned, Skip, SplitOff, Tell};
 use crate::rule::{Knowledge, OneHistory, Plan};
@@ -152,17 +152,18 @@ pub(crate) fn join_seats(
     shared.join_seat::<JoinUp>(seat, other);
 }
 
-/// Learns that the seat has at most all shares, and changes nothing.
-pub(crate) fn tell_shares(
+/// Learns that the seat has at most all shares and that what it knows is of one history. Changes
+/// nothing.
+pub(crate) fn tell_seat<P: Planned>(
     shared: &Shared<(), Knowledge, Plan, OneHistory>,
     seat: &mut Seat<(), Knowledge>,
 )
     requires table { IsSeated seat.old.table_id shared.now.table_id shared.now.key }
+    requires plan { P.plan ≡ shared.now.key }
     requires share { 0 < seat.old.me.0.view.shares }
-    ensures same { (seat.new.table_id ≡ seat.old.table_id) × (seat.new.me ≡ seat.old.me) }
-    ensures most { (seat.old.me.0.view.shares ≤ seat.old.me.0.view.all)
-        × (seat.old.me.0.view.all < 2 ^ 32) }
+    ensures table { seat.new.table_id ≡ seat.old.table_id }
+    ensures seat { TellsOneHistory shared.now.key seat.old.me seat.new.me }
 {
     events_keep_sound();
-    shared.load::<Tell>(seat, 0);
+    shared.load::<Tell<P>>(seat, 0);
 }

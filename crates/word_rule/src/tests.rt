@@ -1,6 +1,6 @@
 ghost use Rattle.std.specs.Prelude.{◌≡◌, ◌<◌, [], ◌∷◌, IfOk};
 
-use crate::uses::{read_beside, read_twice};
+use crate::uses::offer_and_read_beside;
 use crate::{CloseFault, MeetTable};
 use std::alloc::{AllocError, Global};
 use std::sync::atomic::{AtomicU64, Ordering};
@@ -154,21 +154,22 @@ fn two_threads_offer_beside_each_other(rt: HostRuntime) -> Result<(), Fail> {
     Ok(())
 }
 
+/// Tells whether a reading of one word lacks this mask's bits and no other than those of two masks.
+fn lacks_own(word: u64, own: u64, other: u64) -> bool {
+    word & own == 0 && (word | own | other) == u64::MAX
+}
+
+// Which of the two misses the other's row is the schedule's choice, but never both.
 #[test]
-fn two_passes_read(rt: HostRuntime) -> Result<(), Fail> {
-    let (mut first, mut second) = ([0u64; 2], [0u64; 2]);
-    let Some(words) = read_twice(rt.alloc(), 2, &mut first, &mut second) else {
+fn two_threads_offer_and_then_read(rt: HostRuntime) -> Result<(), Fail> {
+    let (low, high) = (row_of(rt.alloc(), 1)?, row_of(rt.alloc(), 4)?);
+    let Some((first, second, words)) = offer_and_read_beside(&rt, rt.alloc(), 1, &low, &high) else {
         return Err(Fail::from("memory"));
     };
-    assert_eq!(rt; words.words(), [u64::MAX, u64::MAX].as_slice());
-    assert_eq!(rt; (first, second), ([u64::MAX; 2], [u64::MAX; 2]));
-    let Some((first, second, words)) = read_beside(&rt, rt.alloc(), 2) else {
-        return Err(Fail::from("memory"));
-    };
-    assert_eq!(rt; words.words(), [u64::MAX, u64::MAX].as_slice());
-    assert_eq!(rt;
-        (first.as_slice(), second.as_slice()),
-        (words.words(), words.words())
-    );
+    assert_eq!(rt; words.words(), [LEFT].as_slice());
+    assert_eq!(rt; (first.len(), second.len()), (1, 1));
+    let (one, other) = (first[0], second[0]);
+    assert!(rt; lacks_own(one, 1, 4) && lacks_own(other, 4, 1));
+    assert!(rt; one == LEFT || other == LEFT);
     Ok(())
 }

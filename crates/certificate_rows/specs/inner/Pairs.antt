@@ -33,14 +33,14 @@ seconds_of Exclusive all later = later
 seconds_of Pipe all later = all
 
 -- the pairs of a number with others
-abbrev pub pairs_from : ℕ → List ℕ → List (ℕ × ℕ)
-pairs_from one others = map (λ other. (one, other)) others
+abbrev pub pairs_with : ℕ → List ℕ → List (ℕ × ℕ)
+pairs_with one others = map (λ other. (one, other)) others
 
 -- the pairs whose first is one of the last numbers of all
 abbrev pub pairs_of : Kind → List ℕ → List ℕ → List (ℕ × ℕ)
 pairs_of kind all [] = []
 pairs_of kind all (one ∷ later) =
-    pairs_from one (seconds_of kind all later) ++ pairs_of kind all later
+    pairs_with one (seconds_of kind all later) ++ pairs_of kind all later
 
 -- the pairs whose relation has a refuter
 abbrev pub refuted_pairs : FindingTable → Kind → List (ℕ × ℕ) → List (ℕ × ℕ)

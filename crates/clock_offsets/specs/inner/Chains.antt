@@ -3,7 +3,8 @@ use Rattle.std.specs.Prelude.{◌≡◌, ◌≢◌, ℕ, ◌+◌, ◌<◌, ◌�
 use Rattle.std.specs.Prelude.{reverse}
 use Rattle.clock_offsets.specs.declared.message_entry.MessageEntry.{MessageEntry}
 use Rattle.clock_offsets.specs.inner.MessagePlaces.{MessagePlace}
-use Rattle.clock_offsets.specs.inner.Digests.{digest_of, chain_of}
+use Rattle.event_table.specs.Digests.{digest_of}
+use Rattle.clock_offsets.specs.inner.Digests.{chain_of}
 
 -- what an entry says
 abbrev pub message_place : MessageEntry → MessagePlace

@@ -1,10 +1,5 @@
--- Digests of messages, and the chain of a table that has a digest.
-use Rattle.std.specs.Prelude.{ℕ, ◌*◌, ◌/◌, ◌^◌, List}
-use Rattle.std.specs.Hash.FoldHasher.{initial, write, finish}
-
--- 64 bits that tell most messages apart
-unfoldable pub digest_of : List ℕ → ℕ
-digest_of message = finish (write initial message)
+-- The chain of a table that has a digest.
+use Rattle.std.specs.Prelude.{ℕ, ◌*◌, ◌/◌, ◌^◌}
 
 -- which one of so many chains has the keys with a digest
 unfoldable pub chain_of : ℕ → ℕ → ℕ

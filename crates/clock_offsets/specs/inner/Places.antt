@@ -6,7 +6,7 @@ use Rattle.trace_types.specs.Repeats.{IsLineOfRepeat}
 use Rattle.clock_offsets.specs.declared.clock_fault.ClockFault.{ClockFault}
 use Rattle.clock_offsets.specs.declared.clock_fault.ClockFault.TheVariants.{RepeatedSend}
 use Rattle.clock_offsets.specs.declared.clock_fault.ClockFault.TheVariants.{RepeatedRecv}
-use Rattle.clock_offsets.specs.inner.MessagePlaces.{MessagePlace, place_in}
+use Rattle.clock_offsets.specs.inner.MessagePlaces.{MessagePlace, message_place_in}
 use Rattle.clock_offsets.specs.declared.places.End.{End}
 use Rattle.clock_offsets.specs.declared.places.End.TheVariants.{Sending, Receipt}
 
@@ -23,10 +23,10 @@ repeat_at Receipt line = RepeatedRecv line
 -- the table has the indices of the first n keys, which differ
 pub record AreIndices (keys : List (Option (List ℕ))) (n : ℕ)
     (places : List MessagePlace) : Type 0 where
-  pub right : (text : List ℕ) (p : ℕ) → place_in places text ≡ Some p → (p < n)
+  pub right : (text : List ℕ) (p : ℕ) → message_place_in places text ≡ Some p → (p < n)
       × (slice_index_or keys p None ≡ Some text)
   pub all : (text : List ℕ) (p : ℕ) → p < n → slice_index_or keys p None ≡ Some text
-      → place_in places text ≡ Some p
+      → message_place_in places text ≡ Some p
 
 -- the fault is that a message occurs twice at an end, on the first such line
 abbrev pub IsRepeatAt : List Event → End → ClockFault → Type 0

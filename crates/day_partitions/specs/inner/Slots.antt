@@ -3,7 +3,7 @@ use Rattle.std.specs.Prelude.{◌≡◌, ◌≢◌, ℕ, ◌<◌, ◌≤◌, Lis
 use Rattle.std.specs.Prelude.{is_some, count_by, All, AllPairs, Any, Contains, false, insert}
 use Rattle.std.specs.Prelude.{slice_set, vec_capacity, ◌+◌, ◌++◌, ◌⊎◌, nat_lt}
 use Rattle.std.specs.List.{prefix_len}
-use Rattle.pipeline_tests.specs.Rows.{LackRefuted}
+use Rattle.refute_tests.specs.Survivors.{LackRefuted}
 use Rattle.trace_types.specs.declared.named_trace.NamedTrace.{NamedTrace}
 use Rattle.day_partitions.specs.Books.{KeptDay, kept_day, has_day}
 use Rattle.day_partitions.specs.inner.Trees.{TreeState, IsThere, leaf_words}

@@ -7,7 +7,7 @@ use Rattle.event_lines.specs.TimeUnits.{time_unit_of, nanoseconds_in}
 use Rattle.event_lines.specs.EventFaults.{lacks_member, has_wrong_kind, is_out_of_range, time_name}
 
 -- the members are present, of their kinds and in range, and these are their values
-pub record AreFields (f : EventFields) (d : Data) : Type 0 where
+pub record AreEventFields (f : EventFields) (d : Data) : Type 0 where
   pub complete : lacks_member d ≡ false
   pub kinds : has_wrong_kind d ≡ false
   pub in_range : is_out_of_range d ≡ false

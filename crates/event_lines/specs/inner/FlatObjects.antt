@@ -11,7 +11,7 @@ use Rattle.event_lines.specs.declared.flat_lines.FlatMembers.{FlatMembers}
 use Rattle.event_table.specs.declared.event_fields.EventFields.{EventFields}
 use Rattle.event_lines.specs.LineResults.{json_value}
 use Rattle.event_lines.specs.Members.{has_member}
-use Rattle.event_lines.specs.inner.Fields.{AreFields}
+use Rattle.event_lines.specs.inner.Fields.{AreEventFields}
 
 -- a name, and the value of the last member that has it
 abbrev pub Slot : Type 0
@@ -41,12 +41,12 @@ AreMembers f ms = Hold (slots f) ms
 
 -- what the tokens after an opening brace say: the members up to the closing one, after the old
 -- ones, and the tokens that follow
-abbrev pub rest_of : ℕ → Members → List Token → Option (Members × List Token)
-rest_of n old tokens = converted (λ ms. of_members ms old) (json.members (json.value 126) n tokens)
+abbrev pub members_ahead : ℕ → Members → List Token → Option (Members × List Token)
+members_ahead n old tokens = converted (λ ms. of_members ms old) (json.members (json.value 126) n tokens)
 
 -- the line is an object with these fields, and no control line
 pub record IsEventLine (line : List ℕ) (f : EventFields) : Type 0 where
   pub members : Members
   pub reading : json_value line ≡ Some (object members)
   pub control : has_member (codes "do") (object members) ≡ false
-  pub fields : AreFields f (object members)
+  pub fields : AreEventFields f (object members)

@@ -12,7 +12,7 @@ use Rattle.json.specs.Json as json
 use Rattle.event_table.specs.declared.event_fields.EventFields.{EventFields}
 use Rattle.event_lines.specs.declared.flat_lines.FlatMembers.{FlatMembers}
 use Rattle.event_lines.specs.EventFaults.{is_bad_text, is_control_character}
-use Rattle.event_lines.specs.inner.FlatObjects.{AreMembers, rest_of}
+use Rattle.event_lines.specs.inner.FlatObjects.{AreMembers, members_ahead}
 
 -- a byte at which a text may end or have an escape, or that no good text has
 abbrev pub is_stop : ℕ → Bool
@@ -84,7 +84,7 @@ tokens_from d at = punctuate fresh (lex between (drop at d))
 pub record IsObject (d : List ℕ) (start : ℕ) (f : FlatMembers) : Type 0 where
   pub members : Members
   pub are : AreMembers f members
-  pub reading : rest_of (length (tokens_from d start)) no_members (tokens_from d start)
+  pub reading : members_ahead (length (tokens_from d start)) no_members (tokens_from d start)
       ≡ Some (members, [])
   pub good : AreGood f
 

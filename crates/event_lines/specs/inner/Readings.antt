@@ -25,6 +25,6 @@ IsReadingFrom n bytes result =
     result
 
 -- the line that is said was appended, or this is why it is bad
-abbrev pub IsAdded : Result Line Why → List Line → List Line → Result (Unit {0}) Why → Type 0
-IsAdded said old new (Ok done) = IsOkAnd said (λ line. new ≡ old ++ line ∷ [])
-IsAdded said old new (Err why) = said ≡ Err why
+abbrev pub IsLineAdded : Result Line Why → List Line → List Line → Result (Unit {0}) Why → Type 0
+IsLineAdded said old new (Ok done) = IsOkAnd said (λ line. new ≡ old ++ line ∷ [])
+IsLineAdded said old new (Err why) = said ≡ Err why

@@ -3,7 +3,7 @@ use Rattle.std.specs.Prelude.{List}
 use Rattle.std.specs.List.{flat_map}
 use Rattle.event_table.specs.declared.block.Block.{Block}
 use Rattle.event_table.specs.declared.event_numbers.EventNumbers.{EventNumbers}
-use Rattle.event_table.specs.Cuts.{cut_at}
+use Rattle.event_table.specs.inner.Cuts.{cut_at}
 
 -- the groups of a block
 abbrev pub block_groups : Block → List (List EventNumbers)

@@ -1,9 +1,10 @@
 -- Events in groups of one request each.
-use Rattle.std.specs.Prelude.{ℕ, ◌≡◌, ◌≢◌, ◌<◌, ◌≤◌, ◌+◌, ◌==◌, List, [], ◌∷◌, length, map}
+use Rattle.std.specs.Prelude.{ℕ, ◌≡◌, ◌<◌, ◌≤◌, ◌+◌, ◌==◌, List, [], ◌∷◌, length, map}
 use Rattle.std.specs.Prelude.{filter, false, nat_eq}
-use Rattle.std.specs.Prelude.{All, AllPairs, slice_index, take, drop}
+use Rattle.std.specs.Prelude.{All, slice_index, take, drop}
 use Rattle.std.specs.List.{list_any}
 use Rattle.trace_types.specs.Firsts.{firsts_of}
+use Rattle.event_table.specs.Texts.{AreDifferent}
 use Rattle.event_table.specs.declared.event_numbers.EventNumbers.{EventNumbers}
 
 -- what stands for the place of a request whose events stand elsewhere; all places are below it
@@ -21,10 +22,6 @@ request_numbers events = firsts_of nat_eq (map (λ (e : EventNumbers). e.request
 -- the events of each of these requests
 abbrev pub groups_of : List EventNumbers → List ℕ → List (List EventNumbers)
 groups_of events requests = map (with_request events) requests
-
--- no number stands twice
-abbrev pub AreApart : List ℕ → Type 0
-AreApart numbers = AllPairs (λ x y. x ≢ y) numbers
 
 -- the requests of the events have numbers below this
 abbrev pub HaveRequestsBelow : ℕ → List EventNumbers → Type 0
@@ -45,7 +42,7 @@ pub record AreSome (events : List EventNumbers) (counts requests : List ℕ) : T
   pub below : HaveRequestsBelow (length counts) events
   pub few : length events ≤ no_place
   pub each : AreCounts events counts
-  pub apart : AreApart requests
+  pub apart : AreDifferent requests
   pub within : All (λ r. r < length counts) requests
 
 -- each request has its start: the groups stand one after another, in this order
@@ -80,7 +77,7 @@ AreFilled done all next out start (request ∷ requests) =
 -- the first events of these requests are in their places, and each of their events has a place
 pub record IsPlacing (done all : List EventNumbers) (requests next : List ℕ)
     (out : List EventNumbers) : Type 0 where
-  pub apart : AreApart requests
+  pub apart : AreDifferent requests
   pub below : HaveRequestsBelow (length next) all
   pub nowhere : AreNowhere requests next
   pub filled : AreFilled done all next out 0 requests

@@ -1,19 +1,12 @@
 -- Rows that are made of two tables by the numbers of names: of the durations of all segments, and
 -- of those on critical paths.
-use Rattle.std.specs.Prelude.{◌≡◌, ℕ, ◌^◌, ◌<◌, List, [], length, map, slice_index_or, sum, All}
+use Rattle.std.specs.Prelude.{◌≡◌, ℕ, ◌<◌, List, length, map, sum, All}
 use Rattle.trace_paths.specs.NameOrders.{number_cmp}
+use Rattle.trace_paths.specs.Tables.{list_at}
 use Rattle.trace_types.specs.Listing.{ListsExactly}
 use Rattle.trace_types.specs.Segments.{SegmentName}
 use Rattle.latency_report.specs.declared.segment_row.SegmentRow.{SegmentRow}
 use Rattle.latency_report.specs.Numbers.{AreFigures}
-
--- the list of a name
-abbrev pub list_at : List (List ℕ) → ℕ → List ℕ
-list_at table n = slice_index_or table n []
-
--- the list has fewer than 2 ^ 32 numbers
-abbrev pub IsShort : List ℕ → Type 0
-IsShort numbers = length numbers < 2 ^ 32
 
 -- the row of a name, by the lists of the name
 pub record IsRowFrom (durations on_paths : List (List ℕ)) (row : SegmentRow) : Type 0 where

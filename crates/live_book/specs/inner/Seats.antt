@@ -7,7 +7,7 @@ use Rattle.live_book.specs.declared.rule.Knowledge.{Knowledge}
 use Rattle.live_book.specs.declared.rule.Stage.{Stage}
 use Rattle.live_book.specs.declared.rule.Stage.TheVariants.{Resting, Seeing}
 use Rattle.live_book.specs.Views.{found_in, ticket_in}
-use Rattle.live_book.specs.Rule.{SeatState}
+use Rattle.live_book.specs.Rule.{CallerSeat}
 
 -- the table has three words and one slot
 pub record IsShared (table_id : TableId) : Type 0 where
@@ -29,7 +29,7 @@ pub record IsTable (names turns : ℕ) (plan : Plan) (table_id : TableId) : Type
 
 -- a caller between its calls: the number beside its seat is its turns, it rests, it has told all
 -- that it heard, and its seat holds no slot
-pub record IsCaller (turns : ℕ) (me : SeatState) : Type 0 where
+pub record IsCaller (turns : ℕ) (me : CallerSeat) : Type 0 where
   pub counted : turns ≡ me.0.turns
   pub rests : me.0.stage ≡ Resting
   pub told : me.0.heard ≡ []

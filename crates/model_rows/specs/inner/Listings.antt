@@ -12,17 +12,17 @@ use Rattle.trace_types.specs.Relations.{HappensBefore, ExcludesUnordered}
 use Rattle.trace_types.specs.Segments.{SegmentName}
 
 -- the item is a text and the number at which it stands in a list
-abbrev pub StandsAt : {X : Type 0} → List X → X × ℕ → Type 0
-StandsAt texts item = slice_get texts item.1 ≡ Some item.0
+abbrev pub HasNumber : {X : Type 0} → List X → X × ℕ → Type 0
+HasNumber texts item = slice_get texts item.1 ≡ Some item.0
 
 -- the items rise by their texts, and are exactly the texts whose numbers are marked
 pub record ListsMarked {X : Type 0} (cmp : X → X → Ordering) (texts : List X) (marks : List Bool)
     (items : List (X × ℕ)) : Type 0 where
   pub rising : AllPairs (λ i j. cmp i.0 j.0 ≡ Less) items
-  pub exactly : (item : X × ℕ) → Contains items item ↔ (StandsAt texts item × IsMarked marks item.1)
+  pub exactly : (item : X × ℕ) → Contains items item ↔ (HasNumber texts item × IsMarked marks item.1)
 
 -- the items rise by their texts, no two have one number, and all numbers are below the limit
-pub record AreListed {X : Type 0} (cmp : X → X → Ordering) (limit : ℕ) (items : List (X × ℕ))
+pub record AreItemsBelow {X : Type 0} (cmp : X → X → Ordering) (limit : ℕ) (items : List (X × ℕ))
     : Type 0 where
   pub rising : AllPairs (λ i j. cmp i.0 j.0 ≡ Less) items
   pub apart : AllPairs (λ i j. i.1 ≢ j.1) items

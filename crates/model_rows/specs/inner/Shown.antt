@@ -7,10 +7,10 @@ use Rattle.model_rows.specs.inner.Found.{IsFound, figures_in}
 use Rattle.segment_names.specs.Known.{Known}
 use Rattle.segment_names.specs.Limits.{IsKept}
 use Rattle.session_rules.specs.KeptTraces.{Kept}
-use Rattle.session_rules.specs.ModelTexts.{AreFigures}
+use Rattle.session_rules.specs.ModelTexts.{AreModelFigures}
 
 -- what is found of a book by number are the figures of the kept traces that it shows
 abbrev pub FoundIsShown : Type 0
 FoundIsShown = (known : Known) (b : BookState) (m : FoundModel) (kept : List Kept) → IsKept known
     → IsBook b → IsFound known b.days m → AreShown known (all_traces b.days) kept
-    → AreFigures kept (figures_in m) × (m.traces ≡ length kept)
+    → AreModelFigures kept (figures_in m) × (m.traces ≡ length kept)

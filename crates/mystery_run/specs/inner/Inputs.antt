@@ -45,16 +45,16 @@ IsInputOf forms.Lines input bytes = lines_said_by input ≡ lines_said bytes
 IsInputOf forms.Steps input bytes = bytes_kept input ≡ bytes
 
 -- it is of bytes within the limit of size
-abbrev pub IsWithin : Input → Type 0
-IsWithin (Bytes bytes) = length bytes.items ≤ input_limit
-IsWithin (Lines lines) =
+abbrev pub IsWithinLimit : Input → Type 0
+IsWithinLimit (Bytes bytes) = length bytes.items ≤ input_limit
+IsWithinLimit (Lines lines) =
     (bytes : List ℕ) × (lines_said bytes ≡ Ok lines) × (length bytes ≤ input_limit)
-IsWithin (Bad line reason) = ⊤
+IsWithinLimit (Bad line reason) = ⊤
 
 -- an input was read in this form: its bytes are within the limit, and they are those that are told
 pub record IsReadAs (form : InputForm) (input : Input) (told : Option (List ℕ)) : Type 0 where
   pub bytes : List ℕ
   pub is : IsInputOf form input bytes
   pub fits : length bytes ≤ input_limit
-  pub within : IsWithin input
+  pub within : IsWithinLimit input
   pub same : IfSome told (λ known. bytes ≡ known)

@@ -3,7 +3,7 @@ use Rattle.std.specs.Prelude.{◌≡◌, ◌⊎◌, ℕ, ◌<◌, ◌≤◌, ◌
 use Rattle.std.specs.List.{Contains, list_any}
 use Rattle.pipeline_tests.specs.declared.meetings.Sharing.{Sharing}
 use Rattle.pipeline_tests.specs.declared.stays.Stay.{Stay}
-use Rattle.refute_tests.specs.Clearing.{early}
+use Rattle.refute_tests.specs.Clearing.{starts_early}
 
 -- an element that two tasks handle: where the task of the lesser number does, and where the other
 pub record Meeting : Type 0 where
@@ -25,7 +25,7 @@ pub record IsStayOf (stays : List Stay) (e k : ℕ) : Type 0 where
 
 -- the taker starts on the element before the giver is done with it, by more than the grace
 abbrev pub takes_early : ℕ → Stay → Stay → Bool
-takes_early grace giver taker = early grace giver.last taker.first
+takes_early grace giver taker = starts_early grace taker.first giver.last
 
 -- the lower task starts on the first of two elements before the second, the higher after it
 abbrev pub turned : Meeting → Meeting → Bool

@@ -7,7 +7,7 @@ use Rattle.std.specs.List.{list_any}
 use Rattle.std.specs.Option.{option_map}
 use Rattle.hypothesis_index.specs.Places.{pairs_below, pair_number}
 use Rattle.hypothesis_index.specs.declared.relation.Relation.TheVariants.{Before, Exclusive, Apart}
-use Rattle.refute_tests.specs.Clearing.{early, is_at}
+use Rattle.refute_tests.specs.Clearing.{is_at, starts_early}
 use Rattle.trace_types.specs.declared.named_segment.NamedSegment.{NamedSegment}
 use Rattle.word_rows.specs.declared.entries.Entry.{Entry}
 use Rattle.word_rows.specs.Rows.{clears}
@@ -19,8 +19,10 @@ NamesRise segments = AllPairs (λ (s t : NamedSegment). s.name < t.name) segment
 -- the bits that two segments refute, the first having the lesser name
 abbrev pub hits : ℕ → NamedSegment → NamedSegment → ℕ → ℕ → Bool
 hits grace s t i b =
-    (((early grace s t && is_at (Before s.name t.name) i b) || (early grace t s && is_at (Before t.name s.name) i b))
-    || ((early grace s t && early grace t s) && is_at (Exclusive s.name t.name) i b)) || is_at (Apart s.name t.name) i b
+    (((starts_early grace t s && is_at (Before s.name t.name) i b)
+    || (starts_early grace s t && is_at (Before t.name s.name) i b))
+    || ((starts_early grace t s && starts_early grace s t)
+    && is_at (Exclusive s.name t.name) i b)) || is_at (Apart s.name t.name) i b
 
 -- another segment ends after this limit exactly where t starts before that end, by more than the
 -- grace

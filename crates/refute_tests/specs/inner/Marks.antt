@@ -5,7 +5,7 @@ use Rattle.std.specs.Prelude.{List, slice_index, AllPairs, bit_and, bit_or, ◌^
 use Rattle.std.specs.Int.{bit_at}
 use Rattle.std.specs.List.{list_any}
 use Rattle.hypothesis_index.specs.Places.{pairs_below}
-use Rattle.refute_tests.specs.Clearing.{early}
+use Rattle.refute_tests.specs.Clearing.{starts_early}
 use Rattle.trace_types.specs.declared.named_segment.NamedSegment.{NamedSegment}
 
 -- the name, or the pair, with this number has this mark
@@ -22,8 +22,8 @@ in_row name pair = nat_le (pairs_below name) pair && nat_lt pair (pairs_below na
 
 -- forward: t starts before s ends, by more than the grace; else s starts so before t ends
 abbrev pub early_by : Bool → ℕ → NamedSegment → NamedSegment → Bool
-early_by true grace s t = early grace s t
-early_by false grace s t = early grace t s
+early_by true grace s t = starts_early grace t s
+early_by false grace s t = starts_early grace s t
 
 -- some segment of this name is early for t, in this direction
 abbrev pub early_name : Bool → ℕ → List NamedSegment → NamedSegment → ℕ → Bool

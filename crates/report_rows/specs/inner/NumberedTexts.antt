@@ -7,7 +7,7 @@ use Rattle.session_rules.specs.ReportTexts.{named_row, numbers_of}
 use Rattle.slow_tail.specs.declared.slow_report.SlowReport.{SlowReport}
 use Rattle.slow_tail.specs.declared.tail_row.TailRow.{TailRow}
 use Rattle.text_rows.specs.Rows.{figure, row_of}
-use Rattle.trace_paths.specs.NameOrders.{name_at}
+use Rattle.trace_paths.specs.NameOrders.{name_with_number}
 use Rattle.trace_types.specs.Segments.{SegmentName}
 
 -- the header of a report
@@ -27,7 +27,7 @@ segment_numbers r = numbers_of r.figures ++ (r.on_path ∷ r.on_path_sum ∷ [])
 
 -- the row of a name
 abbrev pub segment_row : List SegmentName → SegmentRow → List ℕ
-segment_row names r = named_row (codes "segment") (name_at names r.name) (segment_numbers r)
+segment_row names r = named_row (codes "segment") (name_with_number names r.name) (segment_numbers r)
 
 -- the header of the report on the slowest traces
 abbrev pub tail_head : SlowReport → List ℕ
@@ -43,4 +43,4 @@ tail_numbers r = r.slow_on ∷ r.slow_sum ∷ r.rest_on ∷ r.rest_sum ∷ []
 
 -- the row of a name in it
 abbrev pub tail_row : List SegmentName → TailRow → List ℕ
-tail_row names r = named_row (codes "segment") (name_at names r.name) (tail_numbers r)
+tail_row names r = named_row (codes "segment") (name_with_number names r.name) (tail_numbers r)

@@ -15,7 +15,7 @@ use Rattle.session_rules.specs.TailTexts.{IsTailHead, IsTailText}
 use Rattle.slow_tail.specs.declared.slow_report.SlowReport.{SlowReport}
 use Rattle.slow_tail.specs.declared.tail_row.TailRow.{TailRow}
 use Rattle.slow_tail.specs.SlowReports.{IsSlowReport}
-use Rattle.trace_paths.specs.NameOrders.{name_at}
+use Rattle.trace_paths.specs.NameOrders.{name_with_number}
 use Rattle.trace_paths.specs.NameOrders as numbers
 use Rattle.trace_types.specs.declared.named_trace.NamedTrace.{NamedTrace}
 use Rattle.trace_types.specs.Segments.{SegmentName}
@@ -27,8 +27,8 @@ pub record AreReportTexts (known : Known) (kept : List Kept) (report : FullRepor
   pub head : IsReportHead kept (report_head report)
   pub latency : IsLatencyText kept (latency_row report.latency)
   pub names : (names : List SegmentName) → AreKeptNames kept names
-      → map (λ (r : SegmentRow). name_at known.names r.name) report.rows ≡ names
-  pub rows : All (λ (r : SegmentRow). IsSegmentText kept (name_at known.names r.name)
+      → map (λ (r : SegmentRow). name_with_number known.names r.name) report.rows ≡ names
+  pub rows : All (λ (r : SegmentRow). IsSegmentText kept (name_with_number known.names r.name)
       (segment_row known.names r)) report.rows
 
 -- the report on traces by number gives the texts of the report on the kept traces
@@ -41,8 +41,8 @@ ReportIsShown = (known : Known) (traces : List NamedTrace) (kept : List Kept)
 pub record AreTailTexts (known : Known) (kept : List Kept) (report : SlowReport) : Type 0 where
   pub head : IsTailHead kept (tail_head report)
   pub names : (names : List SegmentName) → AreKeptNames kept names
-      → map (λ (r : TailRow). name_at known.names r.name) report.rows ≡ names
-  pub rows : All (λ (r : TailRow). IsTailText kept (name_at known.names r.name)
+      → map (λ (r : TailRow). name_with_number known.names r.name) report.rows ≡ names
+  pub rows : All (λ (r : TailRow). IsTailText kept (name_with_number known.names r.name)
       (tail_row known.names r)) report.rows
 
 -- the report on the slowest of traces by number gives the texts of that on the kept traces

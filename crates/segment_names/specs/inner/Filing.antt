@@ -1,5 +1,6 @@
 -- How the tables of a catalogue file names: a name by the indices of its texts.
-use Rattle.std.specs.Prelude.{◌≡◌, ◌≢◌, ℕ, List, ◌++◌, Some, map, length, slice_get, All, AllPairs}
+use Rattle.std.specs.Prelude.{◌≡◌, ℕ, List, ◌++◌, Some, map, length, slice_get, All}
+use Rattle.event_table.specs.Texts.{AreDifferent}
 use Rattle.trace_types.specs.Segments.{SegmentName}
 use Rattle.segment_names.specs.declared.name_key.NameKey.{NameKey}
 use Rattle.segment_names.specs.declared.tables.Marks.{Marks}
@@ -25,10 +26,6 @@ pub record IsFiledAs (tasks events : List (List ℕ)) (key : NameKey)
   pub task : slice_get tasks key.task ≡ Some name.0
   pub start : slice_get events key.start ≡ Some name.1
   pub end : slice_get events key.end ≡ Some name.2
-
--- no element stands twice
-abbrev pub AreDifferent : {X : Type 0} → List X → Type 0
-AreDifferent xs = AllPairs (λ a b. a ≢ b) xs
 
 -- each entry is filed, and no task, event or name stands twice
 pub record IsFiled (tasks events : List (List ℕ)) (names : List (NameKey

@@ -12,7 +12,7 @@ use Rattle.segment_names.specs.declared.unnamed.Unnamed.TheVariants.{Memory, Unk
 use Rattle.segment_names.specs.Known.{Known}
 use Rattle.segment_names.specs.Limits.{IsKept}
 use Rattle.segment_names.specs.Naming.{IsFirstUnknown}
-use Rattle.segment_names.specs.inner.Filing.{AreDifferent}
+use Rattle.event_table.specs.Texts.{AreDifferent}
 
 -- both are None, or the text stands at this index
 abbrev pub IsElementAt : List (List ℕ) → Option ℕ → Option (List ℕ) → Type 0

@@ -1,23 +1,11 @@
 -- What a job other than an add does to a session, and what is printed of it.
-use Rattle.std.specs.Prelude.{ℕ, List, Option, Result, ⊤}
+use Rattle.std.specs.Prelude.{ℕ, List, Option, Result}
 use Rattle.session_rules.specs.Parts.{IsPart, Part}
 use Rattle.session_rules.specs.Sessions.{Does, State}
 use Rattle.session_rules.specs.declared.job.Job.{Job}
-use Rattle.session_rules.specs.declared.job.Job.TheVariants.{Add, Control, Summary, WhatIf, Tail}
-use Rattle.session_rules.specs.declared.job.Job.TheVariants.{Why, Verify}
 use Rattle.text_rows.specs.TextsOfParts.{PrintsTexts}
 use Rattle.text_rows.specs.declared.print_fault.PrintFault.{PrintFault}
 use Rattle.session.specs.SessionStates.{SessionState, Shows}
-
--- the job is not an add
-abbrev pub IsNoAdd : Job → Type 0
-IsNoAdd (Add events) = ⊥
-IsNoAdd (Control command) = ⊤
-IsNoAdd Summary = ⊤
-IsNoAdd (WhatIf change) = ⊤
-IsNoAdd Tail = ⊤
-IsNoAdd Why = ⊤
-IsNoAdd (Verify claims) = ⊤
 
 -- the session shows the state that the job leaves from this one, and a call printed its parts, or a
 -- fault stopped it at a prefix

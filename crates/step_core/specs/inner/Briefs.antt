@@ -26,6 +26,6 @@ pub record IsSteady (s : StepState) : Type 0 where
       → (view_at s seat).shares + (view_at s other).shares ≤ s.all
 
 -- the tables are the brief of a state, which is sound
-pub record AreKept (tables s : StepState) : Type 0 where
+pub record AreBriefOf (tables s : StepState) : Type 0 where
   pub brief : tables ≡ brief_state s
   pub sound : IsSoundState s

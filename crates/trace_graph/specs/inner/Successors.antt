@@ -3,11 +3,7 @@ use Rattle.std.specs.Prelude.{◌≡◌, ◌≢◌, ◌↔◌, ℕ, ◌<◌, Lis
 use Rattle.std.specs.Prelude.{slice_index_or}
 use Rattle.std.specs.List.Sorted.{IsStrictlyIncreasing}
 use Rattle.model_meet.specs.ModelStates.{ModelState}
-use Rattle.refute_tests.specs.Survivors.{AreSurvivors}
-use Rattle.trace_types.specs.Parts.{by_number}
-use Rattle.trace_types.specs.Refuting.{RefutesExclusive}
-use Rattle.trace_types.specs.Surviving.{Survives}
-use Rattle.trace_types.specs.declared.named_trace.NamedTrace.{NamedTrace}
+use Rattle.model_meet.specs.RelationBits.{KeepsExclusion}
 
 -- the name of a vertex
 abbrev pub name_at : List ℕ → ℕ → ℕ
@@ -19,14 +15,13 @@ pub record AreKnown (model : ModelState) (names : List ℕ) : Type 0 where
   pub differ : AllPairs (λ a b. a ≢ b) names
 
 -- the list rises and has exactly the vertices after v and below n whose names are mutually
--- exclusive with that of v, whichever traces the words tell of
+-- exclusive with that of v by the bits of the model's words
 pub record AreExclusive (model : ModelState) (names : List ℕ) (v n : ℕ)
     (list : List ℕ) : Type 0 where
   pub rising : IsStrictlyIncreasing list
   pub later : (w : ℕ) → Contains list w → (v < w) × (w < n)
-  pub told : (traces : List NamedTrace) → AreSurvivors traces model.words
-      → (w : ℕ) → v < w → w < n → Contains list w
-      ↔ Survives (RefutesExclusive by_number (name_at names v) (name_at names w)) traces
+  pub exact : (w : ℕ) → v < w → w < n → Contains list w
+      ↔ KeepsExclusion model.words (name_at names v) (name_at names w)
 
 -- the first n of the lists are those of the vertices
 pub record AreLists (model : ModelState) (names : List ℕ) (n : ℕ)

@@ -11,7 +11,7 @@ use Rattle.word_rule.specs.Holdings.{Holding}
 use Rattle.trace_pass.specs.Halving.{first_part, shares_of}
 use Rattle.trace_pass.specs.States.{HasStopped, IsOfRecorder, RecorderState, RecordingState}
 use Rattle.trace_pass.specs.inner.Parts.{HasRows, PartState, recording_of, rest_of, with_recorded}
-use Rattle.trace_pass.specs.Counts.{IsAtLeastRefuted, zeros}
+use Rattle.trace_pass.specs.Counts.{IsAtLeastRefutedCount, zeros}
 use Rattle.trace_pass.specs.Watch.{watch_counts}
 use Rattle.trace_pass.specs.declared.watch_lines.WatchLine.{WatchLine}
 
@@ -32,7 +32,7 @@ pub record AreLinesAfter (every width worker offered : ℕ) (share : List NamedT
   pub counts : map (λ (l : WatchLine). l.done) lines ≡ watch_counts every offered
   pub wide : All (λ (b : List ℕ). (length b ≡ width) × AreWords b) blocks
   pub numbers : map (λ (l : WatchLine). l.refuted) lines ≡ map zeros blocks
-  pub least : All (λ (l : WatchLine). IsAtLeastRefuted (take l.done share) l.refuted) lines
+  pub least : All (λ (l : WatchLine). IsAtLeastRefutedCount (take l.done share) l.refuted) lines
   pub rising : AllPairs (λ (k : WatchLine) (l : WatchLine). k.refuted ≤ l.refuted) lines
 
 -- the lines of several workers, of whom this one is the first, and the blocks of their numbers, by

@@ -41,13 +41,13 @@ abbrev pub name_row : List (List ℕ) → SegmentName → List (List ℕ) → Li
 name_row before name after = row_of (before ++ (name.0 ∷ name.1 ∷ name.2 ∷ after))
 
 -- `step`, the name of a vertex and its weight
-abbrev pub step_row : NumberedTrace → ℕ → List ℕ
-step_row n v =
+abbrev pub vertex_step_row : NumberedTrace → ℕ → List ℕ
+vertex_step_row n v =
     name_row (codes "step" ∷ []) (vertex_name n v) (decimal (slice_index n.weights v) ∷ [])
 
 -- `segment`, the name of a vertex, its weight and its slack
-abbrev pub segment_row : NumberedTrace → List ℕ → ℕ → List ℕ
-segment_row n slacks v =
+abbrev pub vertex_slack_row : NumberedTrace → List ℕ → ℕ → List ℕ
+vertex_slack_row n slacks v =
     name_row (codes "segment" ∷ []) (vertex_name n v)
     (decimal (slice_index n.weights v) ∷ decimal (slice_index slacks v) ∷ [])
 
@@ -66,25 +66,25 @@ abbrev pub edge_rows : Graph → ℕ → List ℕ
 edge_rows g v = flat_map (edge_row v) (successors_of g v)
 
 -- a row of a trace: a word, its request, its day, its latency and more fields
-abbrev pub named_row : List ℕ → NamedTrace → List (List ℕ) → List ℕ
-named_row word t more = row_of (word ∷ t.request ∷ decimal t.day ∷ decimal t.latency ∷ more)
+abbrev pub row_of_trace : List ℕ → NamedTrace → List (List ℕ) → List ℕ
+row_of_trace word t more = row_of (word ∷ t.request ∷ decimal t.day ∷ decimal t.latency ∷ more)
 
 -- the rows of a path of this length
 abbrev pub path_rows : NumberedTrace → ℕ → List ℕ → List ℕ
 path_rows n long chain =
-    named_row (codes "path") n.trace (decimal long ∷ decimal (length chain) ∷ [])
-    ++ flat_map (step_row n) chain
+    row_of_trace (codes "path") n.trace (decimal long ∷ decimal (length chain) ∷ [])
+    ++ flat_map (vertex_step_row n) chain
 
 -- the rows of slacks under this longest length
 abbrev pub slack_rows : NumberedTrace → ℕ → List ℕ → List ℕ
 slack_rows n longest slacks =
-    named_row (codes "trace") n.trace (decimal longest ∷ [])
-    ++ flat_map (segment_row n slacks) (range_with_len 0 (length n.weights))
+    row_of_trace (codes "trace") n.trace (decimal longest ∷ [])
+    ++ flat_map (vertex_slack_row n slacks) (range_with_len 0 (length n.weights))
 
 -- the rows of a graph of the trace
 abbrev pub graph_rows : NumberedTrace → Graph → List ℕ
 graph_rows n g =
-    named_row (codes "trace") n.trace
+    row_of_trace (codes "trace") n.trace
     (decimal (order_of g) ∷ decimal (length (edges_of g)) ∷ [])
     ++ (flat_map (vertex_row n) (range_with_len 0 (order_of g))
     ++ flat_map (edge_rows g) (range_with_len 0 (order_of g)))

@@ -5,7 +5,7 @@ use Rattle.segment_names.specs.Known.{Known}
 use Rattle.segment_names.specs.Limits.{IsKept}
 use Rattle.session_rules.specs.KeptTraces.{Kept}
 use Rattle.session_rules.specs.Parts.{Header, IsPart, Part}
-use Rattle.session_rules.specs.TraceTexts.{name_at}
+use Rattle.session_rules.specs.TraceTexts.{name_of_vertex}
 use Rattle.kept_books.specs.Shown.{AreShown, IsShown}
 use Rattle.text_rows.specs.TextsOfParts.{AreTexts, PrintsTexts}
 use Rattle.text_rows.specs.declared.print_fault.PrintFault.{PrintFault}
@@ -31,7 +31,7 @@ traces_in b = all_traces b.book.days
 abbrev pub NamesAreShown : Type 0
 NamesAreShown = (known : Known) (k : Kept) (n : NumberedTrace) (v : ℕ) → n.names ≡ known.names
     → IsNumbered n → IsShown known n.trace k → v < length n.order
-    → vertex_name n v ≡ name_at k n.order v
+    → vertex_name n v ≡ name_of_vertex k n.order v
 
 -- a call printed the parts of these traces of the book, or a fault stopped it at a prefix, whatever
 -- kept traces are shown

@@ -1,5 +1,5 @@
 use Rattle.std.proofs.Common.{arith, option_copied, sym, ◌∙◌, ◌+◌}
-use Rattle.certificates.specs.inner.Cutting.{lines_left}
+use Rattle.step_core.specs.LinesLeft.{lines_left}
 use Rattle.certificates.proofs.ClaimLemmas.{claim_added}
 use Rattle.certificates.proofs.reading.read_claims.Goals as goal
 

@@ -2,7 +2,7 @@ use Rattle.std.proofs.Common.{◌∙◌, ◌++◌, sym, ap, subst, refl, length}
 use Rattle.std.proofs.lemmas.List.{get_or_read}
 use Rattle.day_partitions.specs.declared.day.Day.{Day}
 use Rattle.day_partitions.proofs.SlotLemmas.{slots_extended}
-use Rattle.pipeline_tests.specs.Rows.{LackRefuted}
+use Rattle.refute_tests.specs.Survivors.{LackRefuted}
 use Rattle.day_partitions.proofs.placing.extend.Goals as goal
 
 pub returns-clause-slots : goal.returns-clause-slots

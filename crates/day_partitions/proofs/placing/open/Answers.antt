@@ -1,6 +1,6 @@
 use Rattle.std.proofs.Common.{◌∙◌, sym, ap, subst, length}
 use Rattle.day_partitions.proofs.SlotLemmas.{slots_inserted}
-use Rattle.pipeline_tests.specs.Rows.{LackRefuted}
+use Rattle.refute_tests.specs.Survivors.{LackRefuted}
 use Rattle.day_partitions.proofs.placing.open.Goals as goal
 
 pub returns-clause-slots : goal.returns-clause-slots

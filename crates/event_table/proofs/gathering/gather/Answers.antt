@@ -3,7 +3,7 @@ use Rattle.std.proofs.lemmas.List.{length-map}
 use Rattle.event_table.specs.declared.event_numbers.EventNumbers.{EventNumbers}
 use Rattle.event_table.specs.declared.numbered_part.NumberedPart.{NumberedPart}
 use Rattle.event_table.specs.Gathered.{events_of_tables}
-use Rattle.event_table.specs.Numbers.{AreWithin}
+use Rattle.event_table.specs.inner.Tables.{AreWithin}
 use Rattle.event_table.specs.inner.Groups.{groups_of_blocks}
 use Rattle.event_table.specs.inner.Placing.{groups_of, request_numbers, with_request}
 use Rattle.event_table.specs.inner.Renumbering.{whole_events}

@@ -1,8 +1,9 @@
 use Rattle.std.proofs.Common.{◌≡◌, ◌<◌, ◌^◌, ◌++◌, All, length}
 use Rattle.std.specs.Vec.Iter.{into_iter_items, into_iter_len}
 use Rattle.event_table.specs.Gathered.{events_of_tables}
-use Rattle.event_table.specs.Numbers.{AreWithin, events_under}
-use Rattle.event_table.specs.Texts.{AreFewMessages, AreFewTexts}
+use Rattle.event_table.specs.Numbers.{events_under}
+use Rattle.event_table.specs.inner.Tables.{AreWithin}
+use Rattle.event_table.specs.inner.Growth.{AreFewMessages, AreFewTexts}
 use Rattle.event_table.specs.inner.Renumbering.{whole_events}
 use Rattle.event_table.proofs.numbering.add_parts.Given as goal
 

@@ -2,7 +2,7 @@ use Rattle.std.proofs.Common.{◌≡◌, ◌+◌, ◌≤◌, ℕ, List, length, 
 use Rattle.std.proofs.lemmas.List.{length-map}
 use Rattle.trace_types.specs.declared.event.Event.{Event}
 use Rattle.event_table.specs.Numbers.{event_under, no_message}
-use Rattle.event_table.specs.Texts.{MessagesGrowBy, TextsGrowBy}
+use Rattle.event_table.specs.inner.Growth.{MessagesGrowBy, TextsGrowBy}
 use Rattle.event_table.proofs.PartLemmas.{events_own, events_same, events_there, messages_grown, receipts_fit, sends_fit}
 use Rattle.event_table.proofs.numbering.number_part.Goals as goal
 

@@ -1,6 +1,6 @@
 use Rattle.std.proofs.Common.{◌≡◌, List, [], ◌++◌, take, drop, length, sym, ap, subst, ◌∙◌, arith}
 use Rattle.event_table.specs.declared.event_numbers.EventNumbers.{EventNumbers}
-use Rattle.event_table.specs.Cuts.{AreStops, cut_at}
+use Rattle.event_table.specs.inner.Cuts.{AreStops, cut_at}
 use Rattle.event_table.specs.inner.Placing.{IsPlacing}
 use Rattle.event_table.specs.inner.Renumbering.{whole_events}
 use Rattle.event_table.proofs.GroupLemmas.{placed_groups, placed_stops, placing_slices, sizes_few, written_back}

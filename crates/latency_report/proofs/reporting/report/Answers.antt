@@ -18,7 +18,7 @@ use Rattle.trace_paths.specs.Durations.{path_length}
 use Rattle.trace_paths.specs.NameOrders.{AreNamesOf, number_cmp}
 use Rattle.trace_paths.specs.Tables.{IsTableOf}
 use Rattle.latency_report.specs.declared.segment_row.SegmentRow.{SegmentRow}
-use Rattle.latency_report.specs.inner.TableRows.{list_at}
+use Rattle.trace_paths.specs.Tables.{list_at}
 use Rattle.latency_report.specs.Numbers.{AreFigures}
 use Rattle.latency_report.specs.Reports.{IsReport, IsRowOf}
 use Rattle.latency_report.proofs.ReportLemmas.{durations_tell, joined, latencies_shown, paths_are, paths_named, row_of, segments_at, segments_below, segments_shown, short_paths, short_traces, traces_at}

@@ -6,7 +6,8 @@ use Rattle.std.proofs.lemmas.Option.{get_or_from_slice_get}
 use Rattle.trace_types.specs.Listing.{ListsExactly}
 use Rattle.trace_paths.specs.NameOrders.{number_cmp}
 use Rattle.latency_report.specs.declared.segment_row.SegmentRow.{SegmentRow}
-use Rattle.latency_report.specs.inner.TableRows.{IsRowFrom, IsShort, list_at}
+use Rattle.latency_report.specs.inner.TableRows.{IsRowFrom}
+use Rattle.trace_paths.specs.Tables.{list_at}
 use Rattle.latency_report.specs.Numbers.{AreFigures}
 use Rattle.latency_report.proofs.RowLemmas.{has_some, name_within, names_listed}
 use Rattle.latency_report.proofs.rows.make_rows.Goals as goal
@@ -33,7 +34,7 @@ sum_and_greatest-sum-requires c =
     let lt : n < length c.args.durations = name_within (number_cmp c.args.catalogue.now.names) c.args.durations c.in_ok-names.names.items items i listed c.deref-name-items.ensures.value c.names-test.true in
     let same = c.requires.names in
     let steps = c.requires.steps in
-    subst IsShort (get_or_from_slice_get c.args.on_paths.now n c.of-steps.result.now [] c.of-steps.ensures) (c.requires.short_steps n [] (omega arith))
+    subst (λ (ns : List ℕ). length ns < 2 ^ 32) (get_or_from_slice_get c.args.on_paths.now n c.of-steps.result.now [] c.of-steps.ensures) (c.requires.short_steps n [] (omega arith))
 
 pub index-requires : goal.index-requires
 index-requires c =
@@ -57,7 +58,7 @@ overflow_cast-steps c =
     let lt : n < length c.args.durations = name_within (number_cmp c.args.catalogue.now.names) c.args.durations c.in_ok-names.names.items items i listed c.deref-name-items.ensures.value c.names-test.true in
     let same = c.requires.names in
     let steps = c.requires.steps in
-    let short : length c.of-steps.result.now < 2 ^ 32 = subst IsShort (get_or_from_slice_get c.args.on_paths.now n c.of-steps.result.now [] c.of-steps.ensures) (c.requires.short_steps n [] (omega arith)) in
+    let short : length c.of-steps.result.now < 2 ^ 32 = subst (λ (ns : List ℕ). length ns < 2 ^ 32) (get_or_from_slice_get c.args.on_paths.now n c.of-steps.result.now [] c.of-steps.ensures) (c.requires.short_steps n [] (omega arith)) in
     omega arith
 
 pub names-preserved : goal.names-preserved

@@ -1,8 +1,8 @@
-use Rattle.std.proofs.Common.{◌≡◌, ◌⊎◌, ◌<◌, ◌≤◌, ℕ, [], List, length, get_or, set, All, arith, sym, ap, ◌∙◌, subst, ⊎_elim, inl, inr}
+use Rattle.std.proofs.Common.{◌≡◌, ◌⊎◌, ◌^◌, ◌<◌, ◌≤◌, ℕ, [], List, length, get_or, set, All, arith, sym, ap, ◌∙◌, subst, ⊎_elim, inl, inr}
 use Rattle.std.proofs.lemmas.Bool.{cases_lt}
 use Rattle.std.proofs.lemmas.List.{get_or-set_other, get_or-set_same, length_push, length-set}
 use Rattle.latency_report.specs.declared.figures.Figures.{Figures}
-use Rattle.latency_report.specs.inner.TableRows.{IsShort, list_at}
+use Rattle.trace_paths.specs.Tables.{list_at}
 use Rattle.latency_report.specs.Numbers.{AreFigures}
 use Rattle.latency_report.proofs.RowLemmas.{popped}
 use Rattle.latency_report.proofs.rows.measure_each.Goals as goal
@@ -11,7 +11,7 @@ pub measure-requires : goal.measure-requires
 measure-requires c =
     let so_far = c.lists.invariant in
     let p = popped c.args.table c.lists.lists.items c.pop.new.self.items c.in-Some.list c.in-Some.ensures.items so_far.left so_far.few in
-    subst IsShort (p.list ∙ sym c.deref_mut.ensures.value) (c.requires (length c.pop.new.self.items) [] p.within)
+    subst (λ (ns : List ℕ). length ns < 2 ^ 32) (p.list ∙ sym c.deref_mut.ensures.value) (c.requires (length c.pop.new.self.items) [] p.within)
 
 pub lists-preserved : goal.lists-preserved
 lists-preserved c =

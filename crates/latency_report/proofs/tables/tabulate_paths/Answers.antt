@@ -17,7 +17,7 @@ paths-preserved c =
     let count : length c.paths.table ≡ names = c.paths.invariant.count in
     let added : IsTableOf names (before ++ c.items.result.now) c.add.new.self =
     subst (λ (k : ℕ). IsTableOf k (before ++ c.items.result.now) c.add.new.self) count
-    (c.in_ok-add.ensures before (subst (λ (k : ℕ). IsTableOf k before c.paths.table) (sym count) c.paths.invariant)) in
+    (c.in_ok-add.ensures.added before (subst (λ (k : ℕ). IsTableOf k before c.paths.table) (sym count) c.paths.invariant)) in
     subst (λ (l : List NamedSegment). IsTableOf names l c.add.new.self)
     (ap (λ (l : List NamedSegment). before ++ l) c.items.ensures ∙ sym (flat_more same ps i path c.paths-test.true c.path-item.is)) added
 

@@ -18,6 +18,6 @@ traces-preserved c =
     let count : length c.traces.table ≡ names = c.traces.invariant.count in
     let added : IsTableOf names (before ++ c.items.result.now) c.add.new.self =
     subst (λ (k : ℕ). IsTableOf k (before ++ c.items.result.now) c.add.new.self) count
-    (c.in_ok-add.ensures before (subst (λ (k : ℕ). IsTableOf k before c.traces.table) (sym count) c.traces.invariant)) in
+    (c.in_ok-add.ensures.added before (subst (λ (k : ℕ). IsTableOf k before c.traces.table) (sym count) c.traces.invariant)) in
     subst (λ (l : List NamedSegment). IsTableOf names l c.add.new.self)
     (ap (λ (l : List NamedSegment). before ++ l) c.items.ensures ∙ sym (flat_more segments ts i t c.traces-test.true c.trace-item.is)) added

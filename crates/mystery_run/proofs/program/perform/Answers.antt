@@ -1,7 +1,8 @@
 use Rattle.std.proofs.Common.{refl}
 use Rattle.mystery_io.specs.ReadFaults.{files_seen}
-use Rattle.mystery_run.specs.CommandLines.{Call, call_of_line}
+use Rattle.mystery_run.specs.CommandLines.{Call}
 use Rattle.mystery_run.specs.Runs.{Seen, run_seen}
+use Rattle.mystery_run.specs.inner.ParsedLines.{call_of_line}
 use Rattle.mystery_run.specs.inner.ReadingTwice.{said_by}
 use Rattle.mystery_run.proofs.EndingLemmas.{explains_file, explains_memory, explains_read, explains_size, reads_all}
 use Rattle.mystery_run.proofs.program.perform.Goals as goal

@@ -1,6 +1,6 @@
 use Rattle.std.proofs.Common.{◌≡◌, ◌<◌, ◌↔◌, ℕ, length, take}
 use Rattle.hypothesis_index.specs.Places.{width_of}
-use Rattle.pipeline_tests.specs.Rows.{IsRefutedPlace}
+use Rattle.refute_tests.specs.Survivors.{IsRefutedPlace}
 use Rattle.word_rows.specs.Words.{bit_of}
 use Rattle.pipeline_tests.proofs.sheets.survivors.Given as goal
 

@@ -3,7 +3,7 @@ use Rattle.std.proofs.lemmas.List.{get_or_default}
 use Rattle.std.proofs.lemmas.Int.{to_z-of_z}
 use Rattle.std.specs.Int.{bit_at}
 use Rattle.hypothesis_index.specs.Places.{pairs_below}
-use Rattle.refute_tests.specs.Clearing.{early}
+use Rattle.refute_tests.specs.Clearing.{starts_early}
 use Rattle.refute_tests.specs.inner.Hits.{IsEndLimit, IsStartLimit, clears_with, hits, kinds_of}
 use Rattle.refute_tests.proofs.MaskLemmas.{pair_mask, more_bits}
 use Rattle.refute_tests.proofs.StepLemmas.{more_cleared}
@@ -24,7 +24,7 @@ loop-other-preserved c =
     let at : slot ≡ 2016 + pairs_below t.name + s.name = omega arith in
     let end = subst (λ (z : ℤ). IsEndLimit z c.args.grace t) (sym (to_z-of_z w64 c.end_limit-end_limit.result (search rules))) c.end_limit-end_limit.ensures in
     let start = subst (λ (z : ℤ). IsStartLimit z c.args.grace t) (sym (to_z-of_z w64 c.start_limit-start_limit.result (search rules))) c.start_limit-start_limit.ensures in
-    let kinds : c.pair_kinds.result ≡ kinds_of (early c.args.grace s t) (early c.args.grace t s) = c.pair_kinds.ensures c.args.grace t end start in
+    let kinds : c.pair_kinds.result ≡ kinds_of (starts_early c.args.grace t s) (starts_early c.args.grace s t) = c.pair_kinds.ensures c.args.grace t end start in
     record {
       cleared = λ i b. more_cleared (λ u. hits c.args.grace u t i b) c.args.before.now k s
           (clears_with c.turn_to.new.maker (slot / 16) _ i b) (clears_with c.turn_to.new.maker (slot / 16) c.in_ok-mask.mask i b) (clears c.args.maker.now i b) c.loop-other-test.true c.other-item.is

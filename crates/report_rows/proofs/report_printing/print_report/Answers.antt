@@ -3,7 +3,7 @@ use Rattle.std.proofs.lemmas.Result.{err_from_is_err_and}
 use Rattle.day_partitions.specs.Books.{all_traces}
 use Rattle.latency_report.specs.declared.segment_row.SegmentRow.{SegmentRow}
 use Rattle.session_rules.specs.Parts.{LatenciesOf, ReportHead, SegmentOf}
-use Rattle.trace_paths.specs.NameOrders.{name_at}
+use Rattle.trace_paths.specs.NameOrders.{name_with_number}
 use Rattle.report_rows.specs.inner.NumberedTexts.{segment_row}
 use Rattle.report_rows.proofs.NameLemmas.{rows_below}
 use Rattle.report_rows.proofs.PrintLemmas.{rows_printed}
@@ -27,4 +27,4 @@ returns-clause-printed g c = λ kept shown names are.
     let texts = c.report_is_shown.ensures known (all_traces c.args.book.now.days) kept report c.names-names.ensures.kept shown c.in_ok-found.ensures in
     c.part_calls_follow.ensures.follow tt c.print_each.result _ _ _ (ReportHead kept ∷ LatenciesOf kept ∷ []) (map (SegmentOf kept) names) _ _ _
     (c.in_ok-print_first_rows.ensures.printed kept texts.head texts.latency)
-    (rows_printed g.S.Sink.written g.S.Sink.faults (SegmentOf kept) (λ (r : SegmentRow). name_at known.names r.name) (segment_row known.names) report.rows c.items.result.now names c.print_each.result _ _ _ _ c.items.ensures (texts.names names are) texts.rows c.print_each.ensures.printed)
+    (rows_printed g.S.Sink.written g.S.Sink.faults (SegmentOf kept) (λ (r : SegmentRow). name_with_number known.names r.name) (segment_row known.names) report.rows c.items.result.now names c.print_each.result _ _ _ _ c.items.ensures (texts.names names are) texts.rows c.print_each.ensures.printed)

@@ -3,7 +3,7 @@ use Rattle.std.proofs.lemmas.Result.{err_from_is_err_and}
 use Rattle.day_partitions.specs.Books.{all_traces}
 use Rattle.session_rules.specs.Parts.{TailHead, TailOf}
 use Rattle.slow_tail.specs.declared.tail_row.TailRow.{TailRow}
-use Rattle.trace_paths.specs.NameOrders.{name_at}
+use Rattle.trace_paths.specs.NameOrders.{name_with_number}
 use Rattle.report_rows.specs.inner.NumberedTexts.{tail_head, tail_row}
 use Rattle.report_rows.proofs.NameLemmas.{rows_below}
 use Rattle.report_rows.proofs.PrintLemmas.{done, rows_printed}
@@ -28,4 +28,4 @@ returns-clause-printed g c = λ kept shown names are.
     let texts = c.tail_is_shown.ensures known (all_traces c.args.book.now.days) kept report c.names-names.ensures.kept shown c.in_ok-found.ensures in
     c.part_calls_follow.ensures.follow tt c.print_each.result _ _ _ (TailHead kept ∷ []) (map (TailOf kept) names) _ _ _
     (c.part_calls_follow.ensures.one (TailHead kept) (tail_head report) done _ _ _ _ texts.head c.in_ok-print_tail_head.ensures)
-    (rows_printed g.S.Sink.written g.S.Sink.faults (TailOf kept) (λ (r : TailRow). name_at known.names r.name) (tail_row known.names) report.rows c.items.result.now names c.print_each.result _ _ _ _ c.items.ensures (texts.names names are) texts.rows c.print_each.ensures.printed)
+    (rows_printed g.S.Sink.written g.S.Sink.faults (TailOf kept) (λ (r : TailRow). name_with_number known.names r.name) (tail_row known.names) report.rows c.items.result.now names c.print_each.result _ _ _ _ c.items.ensures (texts.names names are) texts.rows c.print_each.ensures.printed)

@@ -2,7 +2,7 @@ use Rattle.std.proofs.Common.{◌≡◌, ℕ, List, [], ◌∷◌, ◌++◌, Boo
 use Rattle.std.specs.Str.{bytes_eq}
 use Rattle.std.specs.List.{list_any}
 use Rattle.trace_types.specs.Firsts.{firsts_of}
-use Rattle.segment_names.specs.inner.Filing.{AreDifferent}
+use Rattle.event_table.specs.Texts.{AreDifferent}
 use Rattle.segment_names.proofs.FirstLemmas.{differ-new, firsts-push, firsts-same, with_key}
 use Rattle.segment_names.proofs.TextLemmas.{text_means, text_own}
 use Rattle.segment_names.proofs.tables.intern.Goals as goal

@@ -11,13 +11,13 @@ use Rattle.trace_paths.specs.Durations.{paths_with, time_on}
 use Rattle.latency_report.specs.declared.segment_row.SegmentRow.{SegmentRow}
 use Rattle.latency_report.specs.Reports.{IsRowOf}
 use Rattle.slow_tail.specs.declared.tail_row.TailRow.{TailRow}
-use Rattle.slow_tail.specs.SlowReports.{IsTailRow, latencies_of}
+use Rattle.slow_tail.specs.SlowReports.{IsTailRow, trace_latencies}
 use Rattle.slow_tail.specs.SlowTraces.{rest_of, slow_of}
 use Rattle.slow_tail.proofs.laws.rows_add_up.Goals as goal
 
 pub returns : goal.returns
 returns c = λ known traces report full row all slow is has_row has_all same.
-    let latencies = latencies_of traces in
+    let latencies = trace_latencies traces in
     let of_row = All-contains (λ (r : TailRow). IsTailRow by_number nat_eq (slow_of latencies slow.paths) (rest_of latencies slow.paths) r.name r) report.rows row slow.rows has_row in
     let of_all = All-contains (λ (r : SegmentRow). IsRowOf by_number nat_eq traces is.paths r.name r) full.rows all is.rows has_all in
     let one : slow.paths ≡ is.paths = c.paths_are_one.ensures by_number traces slow.paths is.paths slow.critical_paths is.critical_paths in

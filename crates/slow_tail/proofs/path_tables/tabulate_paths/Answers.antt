@@ -29,7 +29,7 @@ paths-preserved c =
             slow = subst (λ (t : List (List ℕ)). IsTableOf names (joined (marked (take (i + 1) marks) (take (i + 1) paths))) t) (sym w.slow-is)
                 (subst (λ (l : List (List NamedSegment)). IsTableOf names (joined l) w.add.new.self) (sym slow)
                 (table_more names slow_before path c.paths.slow w.add.new.self c.paths.invariant.slow
-                (λ b t. subst (λ (p : List NamedSegment). IsTableOf (length c.paths.slow) (b ++ p) w.add.new.self) c.items-path.ensures (w.in_ok-add.ensures b t))));
+                (λ b t. subst (λ (p : List NamedSegment). IsTableOf (length c.paths.slow) (b ++ p) w.add.new.self) c.items-path.ensures (w.in_ok-add.ensures.added b t))));
             rest = subst (λ (t : List (List ℕ)). IsTableOf names (joined (unmarked (take (i + 1) marks) (take (i + 1) paths))) t) (sym w.rest-is)
                 (subst (λ (l : List (List NamedSegment)). IsTableOf names (joined l) c.paths.rest) (sym rest) c.paths.invariant.rest);
           }
@@ -42,7 +42,7 @@ paths-preserved c =
             rest = subst (λ (t : List (List ℕ)). IsTableOf names (joined (unmarked (take (i + 1) marks) (take (i + 1) paths))) t) (sym w.rest-is)
                 (subst (λ (l : List (List NamedSegment)). IsTableOf names (joined l) w.add-else-marks-index.new.self) (sym rest)
                 (table_more names rest_before path c.paths.rest w.add-else-marks-index.new.self c.paths.invariant.rest
-                (λ b t. subst (λ (p : List NamedSegment). IsTableOf (length c.paths.rest) (b ++ p) w.add-else-marks-index.new.self) c.items-path.ensures (w.in_ok-add-2.ensures b t))));
+                (λ b t. subst (λ (p : List NamedSegment). IsTableOf (length c.paths.rest) (b ++ p) w.add-else-marks-index.new.self) c.items-path.ensures (w.in_ok-add-2.ensures.added b t))));
           }
     ]
 

@@ -17,7 +17,7 @@ use Rattle.trace_paths.specs.CriticalPaths.{IsCriticalPath, IsNamedPath, IsPathU
 use Rattle.trace_paths.specs.NameOrders.{AreNamesOf, number_cmp}
 use Rattle.trace_paths.specs.Tables.{IsTableOf}
 use Rattle.slow_tail.specs.declared.tail_row.TailRow.{TailRow}
-use Rattle.slow_tail.specs.SlowReports.{IsTailRow, latencies_of}
+use Rattle.slow_tail.specs.SlowReports.{IsTailRow, trace_latencies}
 use Rattle.slow_tail.specs.SlowTraces.{IsFloor, marked, rest_of, slow_count, slow_marks, slow_of, unmarked}
 use Rattle.slow_tail.proofs.MarkLemmas.{All-kept, length-kept}
 use Rattle.slow_tail.proofs.PathLemmas.{joined, latencies_shown, paths_are, paths_named, segments_at, segments_shown, short_paths, traces_at}
@@ -97,7 +97,7 @@ returns g c =
     let tells : AreSurvivors traces model.words = subst (AreSurvivors traces) (sym (ap (λ (m : ModelState). m.words) c.new-model.ensures)) c.words.ensures.survivors in
     let zipped : AllZip (λ (t : Bor NamedTrace) (path : List NamedSegment). IsPathUnder model t.now path) ts paths =
     subst (λ (l : List (Bor NamedTrace)). AllZip (λ (t : Bor NamedTrace) (path : List NamedSegment). IsPathUnder model t.now path) l paths) c.deref.ensures.value c.in_ok-paths.ensures in
-    let latencies : List ℕ = latencies_of traces in
+    let latencies : List ℕ = trace_latencies traces in
     let told : c.deref-3.result.now ≡ latencies =
     c.deref-3.ensures.value ∙ (c.in_ok-latencies.ensures ∙ (ap (map (λ (t : Bor NamedTrace). t.now.latency)) c.deref-2.ensures.value ∙ (latencies_shown ts ∙ ap (map (λ (t : NamedTrace). t.latency)) are))) in
     let marks : c.deref-5.result.now ≡ slow_marks latencies = c.deref-5.ensures.value ∙ (c.in_ok-slow.ensures.marks ∙ ap slow_marks told) in

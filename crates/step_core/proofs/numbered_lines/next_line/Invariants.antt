@@ -1,5 +1,5 @@
 use Rattle.std.proofs.Common.{◌≡◌, ◌+◌, ◌≤◌, option_copied}
-use Rattle.step_core.specs.inner.Cutting.{lines_left, room_left}
+use Rattle.step_core.specs.LinesLeft.{lines_left, room_left}
 use Rattle.step_core.proofs.numbered_lines.next_line.Given as goal
 
 -- only blank lines were passed

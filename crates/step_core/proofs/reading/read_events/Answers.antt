@@ -1,5 +1,5 @@
 use Rattle.std.proofs.Common.{arith, option_copied, sym, ◌∙◌, ◌+◌}
-use Rattle.step_core.specs.inner.Cutting.{lines_left}
+use Rattle.step_core.specs.LinesLeft.{lines_left}
 use Rattle.step_core.proofs.FileLemmas.{step_added}
 use Rattle.step_core.proofs.reading.read_events.Goals as goal
 

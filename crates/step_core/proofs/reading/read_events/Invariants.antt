@@ -1,6 +1,6 @@
 use Rattle.std.proofs.Common.{◌≡◌, ◌+◌, ◌≤◌, length, option_copied}
 use Rattle.step_core.specs.StepFiles.{steps_of_lines}
-use Rattle.step_core.specs.inner.Cutting.{lines_left, room_left}
+use Rattle.step_core.specs.LinesLeft.{lines_left, room_left}
 use Rattle.step_core.proofs.FileLemmas.{after_steps}
 use Rattle.step_core.proofs.reading.read_events.Given as goal
 

@@ -1,5 +1,5 @@
 use Rattle.std.proofs.Common.{◌+◌, option_copied}
-use Rattle.step_core.specs.inner.Cutting.{lines_left}
+use Rattle.step_core.specs.LinesLeft.{lines_left}
 use Rattle.step_core.proofs.FileLemmas.{steps_have_rows}
 use Rattle.step_core.proofs.reading.read_steps.Goals as goal
 

@@ -2,13 +2,13 @@ use Rattle.std.proofs.Common.{ℕ, List, [], ◌∷◌, ◌++◌, length, codes,
 use Rattle.std.specs.List.{flat_map, range_with_len}
 use Rattle.std.proofs.lemmas.Result.{err_from_is_err_and}
 use Rattle.session_rules.specs.TraceTexts.{edges_of}
-use Rattle.trace_rows.specs.inner.NumberedTraces.{NumberedTrace, edge_rows, named_row, vertex_row}
+use Rattle.trace_rows.specs.inner.NumberedTraces.{NumberedTrace, edge_rows, row_of_trace, vertex_row}
 use Rattle.trace_rows.proofs.graph_texts.print_graph.Goals as goal
 use Rattle.weighted_dag.specs.Graphs.{Graph, order_of}
 
 -- the row of the trace, and the rows of its vertices and edges
 abbrev head : NumberedTrace → Graph → List ℕ
-head n g = named_row (codes "trace") n.trace (decimal (order_of g) ∷ decimal (length (edges_of g)) ∷ [])
+head n g = row_of_trace (codes "trace") n.trace (decimal (order_of g) ∷ decimal (length (edges_of g)) ∷ [])
 
 abbrev rest : NumberedTrace → Graph → List ℕ
 rest n g = flat_map (vertex_row n) (range_with_len 0 (order_of g)) ++ flat_map (edge_rows g) (range_with_len 0 (order_of g))

@@ -2,15 +2,15 @@ use Rattle.std.proofs.Common.{ℕ, List, [], ◌∷◌, length, codes, decimal, 
 use Rattle.std.specs.List.{flat_map}
 use Rattle.std.proofs.lemmas.Result.{err_from_is_err_and}
 use Rattle.text_rows.specs.Printing.{PrintsText}
-use Rattle.trace_rows.specs.inner.NumberedTraces.{NumberedTrace, named_row, step_row}
+use Rattle.trace_rows.specs.inner.NumberedTraces.{NumberedTrace, row_of_trace, vertex_step_row}
 use Rattle.trace_rows.proofs.path_texts.print_path.Goals as goal
 
 -- the row of the trace, and the rows of its steps
 abbrev head : NumberedTrace → ℕ → List ℕ → List ℕ
-head n long chain = named_row (codes "path") n.trace (decimal long ∷ decimal (length chain) ∷ [])
+head n long chain = row_of_trace (codes "path") n.trace (decimal long ∷ decimal (length chain) ∷ [])
 
 abbrev steps : NumberedTrace → List ℕ → List ℕ
-steps n chain = flat_map (step_row n) chain
+steps n chain = flat_map (vertex_step_row n) chain
 
 pub returns-in_err-print_path_row : goal.returns-in_err-print_path_row
 returns-in_err-print_path_row g c =

@@ -2,15 +2,15 @@ use Rattle.std.proofs.Common.{ℕ, List, [], ◌∷◌, length, codes, decimal, 
 use Rattle.std.specs.List.{flat_map, range_with_len}
 use Rattle.std.proofs.lemmas.Result.{err_from_is_err_and}
 use Rattle.text_rows.specs.Printing.{PrintsText}
-use Rattle.trace_rows.specs.inner.NumberedTraces.{NumberedTrace, named_row, segment_row}
+use Rattle.trace_rows.specs.inner.NumberedTraces.{NumberedTrace, row_of_trace, vertex_slack_row}
 use Rattle.trace_rows.proofs.slack_texts.print_table.Goals as goal
 
 -- the row of the trace, and the rows of its segments
 abbrev head : NumberedTrace → ℕ → List ℕ
-head n longest = named_row (codes "trace") n.trace (decimal longest ∷ [])
+head n longest = row_of_trace (codes "trace") n.trace (decimal longest ∷ [])
 
 abbrev segments : NumberedTrace → List ℕ → ℕ → List ℕ
-segments n slacks count = flat_map (segment_row n slacks) (range_with_len 0 count)
+segments n slacks count = flat_map (vertex_slack_row n slacks) (range_with_len 0 count)
 
 pub returns-in_err-print_length_row : goal.returns-in_err-print_length_row
 returns-in_err-print_length_row g c =

@@ -1,7 +1,7 @@
 use Rattle.std.proofs.Common.{◌≡◌, ◌∙◌, ap, ℕ, ◌<◌, arith, List, [], ◌∷◌, ◌++◌, ◌+◌, length}
 use Rattle.std.proofs.lemmas.List.{length_push, get_or_default}
 use Rattle.clock_offsets.specs.declared.message_entry.MessageEntry.{MessageEntry}
-use Rattle.clock_offsets.specs.inner.MessagePlaces.{place_in}
+use Rattle.clock_offsets.specs.inner.MessagePlaces.{message_place_in}
 use Rattle.clock_offsets.specs.inner.Digests.{chain_of}
 use Rattle.clock_offsets.specs.inner.Chains.{newest_first}
 use Rattle.clock_offsets.proofs.ChainLemmas.{table_more, place_added, digests_more}
@@ -22,7 +22,7 @@ invariant_of-self-2 c =
     })
 
 pub returns-then-is_empty-clause-place : goal.returns-then-is_empty-clause-place
-returns-then-is_empty-clause-place c = ap (λ (es : List MessageEntry). place_in (newest_first es) c.args.message.now) c.in_ok-push.ensures.items ∙ place_added c.self.inside.entries.items _
+returns-then-is_empty-clause-place c = ap (λ (es : List MessageEntry). message_place_in (newest_first es) c.args.message.now) c.in_ok-push.ensures.items ∙ place_added c.self.inside.entries.items _
 
 pub returns-clause-place : goal.returns-clause-place
-returns-clause-place c = ap (λ (es : List MessageEntry). place_in (newest_first es) c.args.message.now) c.in_ok-push-2.ensures.items ∙ place_added c.self.inside.entries.items _
+returns-clause-place c = ap (λ (es : List MessageEntry). message_place_in (newest_first es) c.args.message.now) c.in_ok-push-2.ensures.items ∙ place_added c.self.inside.entries.items _

@@ -1,7 +1,7 @@
 use Rattle.std.proofs.Common.{◌≡◌, ◌∙◌, ◌∷◌, sym, ap, subst, arith, length}
 use Rattle.std.proofs.lemmas.List.{length-map}
 use Rattle.std.specs.Vec.Iter.{into_iter_items}
-use Rattle.day_partitions.specs.Books.{BookState, IsBook, book, with_traces}
+use Rattle.day_partitions.specs.Books.{BookState, IsBook, book, with_day_traces}
 use Rattle.day_partitions.specs.Batches.{AreSheetsFor, HasRoomFor, new_days, with_all}
 use Rattle.day_partitions.specs.inner.Insides.{book_of}
 use Rattle.day_partitions.specs.inner.Rooms.{HaveTraceRoom}
@@ -82,7 +82,7 @@ sheets-preserved g c =
       capacity = t.capacity;
       leads =
           ap (λ l. with_all (book l a.names c.take_in.new.tree.spare) rest) t.days
-          ∙ ap (λ n. with_all (book (with_traces s.day s.sheet.traces (shown_days a.days.items)) a.names n) rest) t.spare
+          ∙ ap (λ n. with_all (book (with_day_traces s.day s.sheet.traces (shown_days a.days.items)) a.names n) rest) t.spare
           ∙ sym (ap (with_all (book (shown_days a.days.items) a.names a.tree.spare)) steps) ∙ i.leads;
       left = (let was = i.left in let gone = c.in-Some.ensures.steps.1 in let short = ap length steps in omega arith);
     }

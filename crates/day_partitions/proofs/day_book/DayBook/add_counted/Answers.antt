@@ -1,5 +1,6 @@
 use Rattle.std.proofs.Common.{◌∙◌, ◌+◌, ◌^◌, ◌<◌, sym, ap, subst, arith, length}
 use Rattle.day_partitions.specs.Books.{AreRising, BookState, IsBook, IsSheetOf, all_traces, with_added}
+use Rattle.day_partitions.specs.Meets.{meets_of_add}
 use Rattle.day_partitions.specs.inner.Insides.{book_of}
 use Rattle.day_partitions.specs.inner.Slots.{HasTraceRoom}
 use Rattle.day_partitions.proofs.RoomLemmas.{same_shown, same_slots}
@@ -53,3 +54,9 @@ returns-clause-added g c =
     let a = c.self.inside in
     view_added a.names c.args.day c.args.sheet.traces a.tree c.make_room.new.tree c.take_in.new.tree a.days.items c.make_room.new.days.items c.take_in.new.days.items c.make_room.ensures.same c.make_room.ensures.kept c.make_room.ensures.spare c.take_in.ensures.days c.take_in.ensures.spare
     ∙ ap (λ b. with_added b c.args.day c.args.sheet.traces) c.self.view_is
+
+pub returns-clause-steps : goal.returns-clause-steps
+returns-clause-steps g c =
+    c.take_in.ensures.steps
+    ∙ ap (λ l. c.args.steps.now + meets_of_add l c.args.day) (same_shown _ _ c.make_room.ensures.same)
+    ∙ ap (λ (b : BookState). c.args.steps.now + meets_of_add b.days c.args.day) c.self.view_is

@@ -1,5 +1,5 @@
 use Rattle.std.proofs.Common.{◌∙◌, sym, ap, subst, arith}
-use Rattle.day_partitions.specs.Books.{IsBook, newest, with_fewer}
+use Rattle.day_partitions.specs.Books.{IsBook, newest_days, with_fewer}
 use Rattle.day_partitions.specs.inner.Insides.{book_of}
 use Rattle.day_partitions.proofs.DropLemmas.{book_newest, view_newest}
 use Rattle.day_partitions.proofs.day_book.DayBook.keep_from.Goals as goal
@@ -18,4 +18,4 @@ pub returns-clause-kept : goal.returns-clause-kept
 returns-clause-kept g c =
     let a = c.self.inside in
     view_newest a.names c.args.days a.tree c.drop_oldest.new.tree a.days.items c.drop_oldest.new.days.items c.drop_oldest.ensures.days c.drop_oldest.ensures.spare
-    ∙ ap (λ b. with_fewer b (newest c.args.days b.days)) c.self.view_is
+    ∙ ap (λ b. with_fewer b (newest_days c.args.days b.days)) c.self.view_is

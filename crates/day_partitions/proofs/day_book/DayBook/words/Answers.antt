@@ -1,7 +1,7 @@
 use Rattle.std.proofs.Common.{sym, subst}
 use Rattle.word_rows.specs.Words.{AreWords}
 use Rattle.day_partitions.specs.Books.{all_traces}
-use Rattle.pipeline_tests.specs.Rows.{LackRefuted}
+use Rattle.refute_tests.specs.Survivors.{LackRefuted}
 use Rattle.day_partitions.proofs.SurvivorLemmas.{common_lacks}
 use Rattle.day_partitions.proofs.day_book.DayBook.words.Goals as goal
 

@@ -1,5 +1,5 @@
 use Rattle.std.proofs.Common.{◌≡◌, ◌+◌, ◌++◌, List, ℕ, length, map, sym, ap, subst, ◌∙◌, length-append}
-use Rattle.event_table.specs.Cuts.{AreStops, cut_at}
+use Rattle.event_table.specs.inner.Cuts.{AreStops, cut_at}
 use Rattle.event_table.proofs.MessageLemmas.{cuts_append, stops_append}
 use Rattle.event_table.proofs.message_list.MessageList.append.Goals as goal
 

@@ -1,5 +1,5 @@
 use Rattle.std.proofs.Common.{◌≡◌, ◌∷◌, [], ◌++◌, List, ℕ, length, sym, ap, subst, ◌∙◌, arith}
-use Rattle.event_table.specs.Cuts.{AreStops, cut_at}
+use Rattle.event_table.specs.inner.Cuts.{AreStops, cut_at}
 use Rattle.event_table.proofs.CutLemmas.{cut_length}
 use Rattle.event_table.proofs.MessageLemmas.{cuts_push, stops_push}
 use Rattle.event_table.proofs.message_list.MessageList.push.Goals as goal

@@ -15,7 +15,7 @@ rows-init c =
       width = refl;
       spare = omega arith;
       total = omega arith;
-      room = omega (arith, ap length c.in_ok-grow.ensures.ok, length-append {A = ℕ}, length-replicate {A = ℕ});
+      room = c.in_ok-grow.ensures.long;
     }
 
 pub invariant_of-self-in-rows : goal.invariant_of-self-in-rows

@@ -1,5 +1,6 @@
 use Rattle.std.proofs.Common.{◌≡◌, ◌<◌, ◌+◌, ◌++◌, ◌∷◌, [], ℕ, Global, List, length, get_or, set, map, take, arith, refl, sym, ap, ◌∙◌, subst}
 use Rattle.std.specs.declared.vec.Vec.{Vec}
+use Rattle.std.proofs.Math.Seq.{map-set_same}
 use Rattle.std.proofs.lemmas.List.{append_assoc, get_or-map, get_or_read, length-map, length-set, map-set, take_all, take_more}
 use Rattle.trace_types.specs.Parts.{by_number}
 use Rattle.trace_types.specs.declared.named_segment.NamedSegment.{NamedSegment}
@@ -35,8 +36,21 @@ segments-preserved c =
           (subst (IsTableOf (length many) ((before ++ take i segments) ++ s ∷ [])) (sym written) t);
     }
 
-pub returns : goal.returns
-returns c = λ before table.
+pub returns-clause-added : goal.returns-clause-added
+returns-clause-added c = λ before table.
     let told = c.segments.invariant.told before table in
     let whole = take_all c.segments.segment-index c.args.segments.now c.segments-test.false in
     subst (λ (ss : List NamedSegment). IsTableOf (length c.args.self.now) (before ++ ss) (shown c.segments.self-inside.lists.items)) whole told
+
+pub returns-clause-partial : goal.returns-clause-partial
+returns-clause-partial c = λ before table.
+    (c.segments.segment-index, omega arith, c.segments.invariant.told before table)
+
+pub returns-in_err-push-clause-partial : goal.returns-in_err-push-clause-partial
+returns-in_err-push-clause-partial c = λ before table.
+    let lists = c.segments.self-inside.lists.items in
+    let s = c.segment-item.result in
+    let v = c.index_mut-list.result.now in
+    let same : c.push.new.self.items ≡ (get_or lists s.name v).items = c.in_err-push.ensures.items ∙ ap (λ (w : Vec ℕ Global). w.items) c.index_mut-list.ensures.value in
+    let kept : shown (set lists s.name c.push.new.self) ≡ shown lists = map-set_same (λ (w : Vec ℕ Global). w.items) lists s.name c.push.new.self v same in
+    (c.segments.segment-index, omega (arith, c.segments-test.true), subst (IsTableOf (length c.args.self.now) (before ++ take c.segments.segment-index c.args.segments.now)) (sym kept) (c.segments.invariant.told before table))
