@@ -1,4 +1,4 @@
-ghost use Rattle.std.specs.Prelude.{◌≡◌, [], ◌++◌, OnOk};
+ghost use Rattle.std.specs.Prelude.{◌≡◌, [], ◌++◌, OnErr, OnOk};
 ghost use Rattle.event_table.specs.Gathered.{events_of_tables};
 
 use event_table::EventTable;
@@ -31,9 +31,11 @@ impl EventParts {
         }
     }
 
-    /// Appends events; none of them is moved. The only error is out of memory.
+    /// Appends events; none of them is moved. The only error is out of memory; the list is then as it
+    /// was.
     pub fn push_part(&mut self, events: EventTable) -> Result<(), AllocError>
-        ensures { OnOk result (self.new ≡ self.old ++ events) }
+        ensures ok { OnOk result (self.new ≡ self.old ++ events) }
+        ensures unchanged { OnErr result (self.new ≡ self.old) }
     {
         if events.is_empty() {
             return Ok(());

@@ -2,7 +2,7 @@ mod all_ways;
 mod control_lines;
 mod pieces;
 
-use crate::{EventParts, LineError, lines_rise, read_lines};
+use crate::{EventParts, LineError, LineRun, lines_rise, read_lines};
 use event_table::{EventFields, EventTable, TextHints};
 use std::alloc::{AllocError, Global};
 use std::test::Fail;
@@ -24,18 +24,30 @@ pub(crate) fn fault_of<R: Threads + Sync>(
     }
 }
 
-/// Reads the times of the events of a short input.
-fn times_of<R: Threads + Sync>(rt: &R, alloc: Global, bytes: &[u8]) -> Result<Vec<u64>, LineError> {
-    let mut times = Vec::new(alloc);
-    if bytes.len() > 1000 {
-        return Ok(times);
+/// Appends the times of the events of a run.
+fn push_times(run: &LineRun, times: &mut Vec<u64>) -> Result<(), AllocError> {
+    for index in 0..run.events.len() {
+        times.push(run.events.event(index).time)?;
     }
-    for run in read_lines(rt, alloc, bytes, 1)?.into_runs() {
-        for index in 0..run.events.len() {
-            times.push(run.events.event(index).time)?;
-        }
+    Ok(())
+}
+
+/// Gives the times of the events of runs.
+fn times_in(alloc: Global, runs: &[LineRun]) -> Result<Vec<u64>, AllocError> {
+    let mut times = Vec::new(alloc);
+    for run in runs {
+        push_times(run, &mut times)?;
     }
     Ok(times)
+}
+
+/// Reads the times of the events of a short input.
+fn times_of<R: Threads + Sync>(rt: &R, alloc: Global, bytes: &[u8]) -> Result<Vec<u64>, LineError> {
+    if bytes.len() > 1000 {
+        return Ok(Vec::new(alloc));
+    }
+    let runs = read_lines(rt, alloc, bytes, 1)?.into_runs();
+    Ok(times_in(alloc, &runs)?)
 }
 
 /// Rows of a reason and a line that is bad for it; some lines have later reasons too.
@@ -120,6 +132,22 @@ fn a_good_line_gives_its_time_in_nanoseconds(rt: HostRuntime) -> Result<(), Fail
     Ok(())
 }
 
+/// Makes a line with this task, and a member of which so many arrays are within one another.
+fn nested_line(alloc: Global, task: &str, nested: usize) -> Result<String, AllocError> {
+    let opened = "[".repeat(alloc, nested)?;
+    let closed = "]".repeat(alloc, nested)?;
+    format!(in alloc;
+        "{{\"request\":\"r1\",\"machine\":\"m\",\"task\":\"{task}\",\"event\":\"s\",\"time\":0,\
+         \"more\":{opened}0{closed}}}"
+    )
+}
+
+/// The same, where the task is this text so many times.
+fn long_line(alloc: Global, text: &str, times: usize, nested: usize) -> Result<String, AllocError> {
+    let task = text.repeat(alloc, times)?;
+    nested_line(alloc, &task, nested)
+}
+
 #[test]
 fn texts_have_at_most_64_bytes_and_values_at_most_127_levels(rt: HostRuntime) -> Result<(), Fail> {
     for (text, times, nested, fault) in [
@@ -130,13 +158,7 @@ fn texts_have_at_most_64_bytes_and_values_at_most_127_levels(rt: HostRuntime) ->
         ("x", 1, 126, None),
         ("x", 1, 127, Some((1, "not a JSON object"))),
     ] {
-        let task = text.repeat(rt.alloc(), times)?;
-        let opened = "[".repeat(rt.alloc(), nested)?;
-        let closed = "]".repeat(rt.alloc(), nested)?;
-        let line = format!(in rt.alloc();
-            "{{\"request\":\"r1\",\"machine\":\"m\",\"task\":\"{task}\",\"event\":\"s\",\"time\":0,\
-             \"more\":{opened}0{closed}}}"
-        )?;
+        let line = long_line(rt.alloc(), text, times, nested)?;
         assert_eq!(rt;
             fault_of(&rt, rt.alloc(), line.as_str().as_bytes()),
             fault,

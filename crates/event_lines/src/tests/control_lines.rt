@@ -112,7 +112,7 @@ fn a_bad_control_line_has_the_first_reason_that_holds(rt: HostRuntime) -> Result
 fn a_good_control_line_is_its_command(rt: HostRuntime) {
     for (line, command) in GOOD {
         let found = command_of(&rt, rt.alloc(), line.as_bytes());
-        assert_eq!(rt; found, Some((1, command)), "{line}");
+        assert!(rt; found == Some((1, command)), "{line}");
     }
 }
 

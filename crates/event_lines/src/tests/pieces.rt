@@ -68,13 +68,19 @@ fn print_run(alloc: Global, run: &LineRun, printed: &mut Vec<String>) -> Result<
     Ok(())
 }
 
-/// Prints what lines say.
-fn print_lines(alloc: Global, lines: LineParts) -> Result<String, AllocError> {
+/// Prints what runs say, one after another.
+fn print_runs(alloc: Global, runs: &[LineRun]) -> Result<String, AllocError> {
     let mut printed = Vec::new(alloc);
-    for run in lines.into_runs() {
-        print_run(alloc, &run, &mut printed)?;
+    for run in runs {
+        print_run(alloc, run, &mut printed)?;
     }
     printed.join(alloc, ",")
+}
+
+/// Prints what lines say.
+fn print_lines(alloc: Global, lines: LineParts) -> Result<String, AllocError> {
+    let runs = lines.into_runs();
+    print_runs(alloc, &runs)
 }
 
 /// Prints what lines say, or the first bad one.
@@ -107,13 +113,28 @@ fn print_shared<R: Threads + Sync>(
     print_reading(alloc, reading.map(|read| read.lines))
 }
 
+/// Tells whether a short input says this that so many workers share in such pieces.
+fn says_shared<R: Threads + Sync>(
+    rt: &R,
+    alloc: Global,
+    input: &str,
+    said: &str,
+    workers: u32,
+    least: usize,
+) -> Result<bool, AllocError>
+    requires { 0 < least }
+{
+    let printed = print_shared(rt, alloc, input.as_bytes(), workers, least)?;
+    Ok(printed.as_str() == said)
+}
+
 #[test]
 fn an_input_says_the_same_in_any_number_of_pieces(rt: HostRuntime) -> Result<(), Fail> {
     for (input, said) in INPUTS {
         for workers in [1, 2, 3, 64] {
             for least in [1, 9, 30] {
-                let printed = print_shared(&rt, rt.alloc(), input.as_bytes(), workers, least)?;
-                assert_eq!(rt; printed.as_str(), said, "{workers} workers, {least} bytes");
+                let same = says_shared(&rt, rt.alloc(), input, said, workers, least)?;
+                assert!(rt; same, "{said}: {workers} workers, {least} bytes");
             }
         }
     }
@@ -152,8 +173,8 @@ fn last_of<R: Threads + Sync>(rt: &R, alloc: Global, bytes: &[u8], workers: u32)
 fn blank_lines_at_the_ends_of_pieces_are_numbered(rt: HostRuntime) -> Result<(), Fail> {
     for (input, said, last) in BLANK_ENDS {
         for workers in [1, 2, 3, 4, 7] {
-            let printed = print_shared(&rt, rt.alloc(), input.as_bytes(), workers, 1)?;
-            assert_eq!(rt; printed.as_str(), said, "{workers} workers");
+            let same = says_shared(&rt, rt.alloc(), input, said, workers, 1)?;
+            assert!(rt; same, "{said}: {workers} workers");
             let found = last_of(&rt, rt.alloc(), input.as_bytes(), workers);
             assert_eq!(rt; found, last, "{workers} workers");
         }
@@ -199,12 +220,26 @@ fn print_taken<R: Threads + Sync>(
     print_reading(alloc, reader.finish())
 }
 
+/// Tells whether an input says this that a reader takes in pieces of this length.
+fn says_taken<R: Threads + Sync>(
+    rt: &R,
+    alloc: Global,
+    input: &str,
+    said: &str,
+    length: usize,
+) -> Result<bool, AllocError>
+    requires { 0 < length }
+{
+    let printed = print_taken(rt, alloc, input.as_bytes(), length)?;
+    Ok(printed.as_str() == said)
+}
+
 #[test]
 fn an_input_says_the_same_wherever_it_is_cut(rt: HostRuntime) -> Result<(), Fail> {
     for (input, said) in INPUTS {
         for length in [1, 7, 20, 1000] {
-            let printed = print_taken(&rt, rt.alloc(), input.as_bytes(), length)?;
-            assert_eq!(rt; printed.as_str(), said, "pieces of {length} bytes");
+            let same = says_taken(&rt, rt.alloc(), input, said, length)?;
+            assert!(rt; same, "{said}: pieces of {length} bytes");
         }
     }
     Ok(())
@@ -224,11 +259,16 @@ fn count_runs<R: Threads + Sync>(
     Some(lines.into_runs().len())
 }
 
+/// Makes so many lines of 99 spaces.
+fn blank_lines(alloc: Global, lines: usize) -> Result<String, AllocError> {
+    let blanks = " ".repeat(alloc, 99)?;
+    let line = format!(in alloc; "{blanks}\n")?;
+    line.repeat(alloc, lines)
+}
+
 /// A piece of fewer than 65,536 events is one run.
 #[test]
 fn a_long_input_is_read_in_a_piece_for_each_worker(rt: HostRuntime) -> Result<(), Fail> {
-    let blanks = " ".repeat(rt.alloc(), 99)?;
-    let line = format!(in rt.alloc(); "{blanks}\n")?;
     for (lines, workers, runs) in [
         (1310, 64, 1),
         (1311, 64, 2),
@@ -238,7 +278,7 @@ fn a_long_input_is_read_in_a_piece_for_each_worker(rt: HostRuntime) -> Result<()
         (2000, 3, 3),
         (2000, 64, 3),
     ] {
-        let input = line.repeat(rt.alloc(), lines)?;
+        let input = blank_lines(rt.alloc(), lines)?;
         let counted = count_runs(&rt, rt.alloc(), input.as_str().as_bytes(), workers);
         assert_eq!(rt; counted, Some(runs), "{lines} lines, {workers} workers");
     }
