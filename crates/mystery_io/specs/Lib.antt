@@ -7,4 +7,5 @@ pub mod Prefixes
 pub mod ReadFaults
 pub mod RealObjects
 pub mod SinkState
+pub mod Taken
 pub mod inner

@@ -1,5 +1,6 @@
 -- What the real objects hold: the writer of a sink, and the open file.
 use Rattle.std.specs.Prelude.{ℕ, List, [], Option, Some, None}
+use Rattle.mystery_io.specs.Taken.{bytes_of}
 use Rattle.mystery_io.specs.declared.real_files.RealFiles.{RealFiles}
 use Rattle.mystery_io.specs.declared.real_sink.RealSink.{RealSink}
 
@@ -10,6 +11,10 @@ untold = None
 -- the writer that a sink sends to
 abbrev pub writer_of : {W : Type 0} → RealSink W → W
 writer_of sink = sink.writer
+
+-- all bytes that its writes took, which it tells in proofs alone
+abbrev pub sink_taken : {W : Type 0} → RealSink W → List ℕ
+sink_taken sink = bytes_of sink.taken
 
 -- how many of its writes failed
 abbrev pub sink_faults : {W : Type 0} → RealSink W → ℕ

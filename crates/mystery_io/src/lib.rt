@@ -21,6 +21,7 @@ mod real_sink;
 mod sink;
 mod sure_files;
 mod sure_sink;
+mod taken;
 mod writing;
 
 pub use byte_list::ByteList;
@@ -36,6 +37,7 @@ pub use real_sink::RealSink;
 pub use sink::Sink;
 pub use sure_files::SureFiles;
 pub use sure_sink::SureSink;
+pub use taken::Taken;
 pub use writing::{send_text, write_text};
 
 #[cfg(test)]
