@@ -9,7 +9,6 @@ pub mod ListedLemmas
 pub mod OrderLemmas
 pub mod PairLemmas
 pub mod RefuterLemmas
-pub mod TestLemmas
 pub mod TextLemmas
 pub mod VerdictLemmas
 pub mod WalkLemmas

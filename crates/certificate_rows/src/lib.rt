@@ -10,8 +10,6 @@ mod numbers;
 mod row_texts;
 mod row_walks;
 mod source;
-#[cfg(test)]
-mod tests;
 mod verdict_printing;
 
 pub use certificate_printing::print_certificate;

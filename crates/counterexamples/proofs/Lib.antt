@@ -5,5 +5,3 @@ pub mod DayLemmas
 pub mod TableLemmas
 pub mod FirstLemmas
 pub mod ShownLemmas
-pub mod TestLemmas
-pub mod PairLemmas

@@ -2,8 +2,6 @@
 //! trace that does, those of all relations in one pass, and whether kept traces show a claim.
 #![tactic(auto)]
 
-#[cfg(test)]
-mod claim_tests;
 mod claims;
 mod elements;
 mod finding;
@@ -13,8 +11,6 @@ mod names;
 mod pipes;
 mod refuting;
 mod searching;
-#[cfg(test)]
-mod tests;
 mod word_refuters;
 
 pub use claims::shown;

@@ -9,8 +9,6 @@ mod layout;
 mod pairs;
 mod reading;
 mod relation;
-#[cfg(test)]
-mod tests;
 
 pub use bit_place::BitPlace;
 pub use layout::{exclusion_place, place, width};

@@ -9,8 +9,6 @@ mod finding;
 mod journaled_book;
 pub mod laws;
 mod roll_fault;
-#[cfg(test)]
-mod tests;
 
 pub use deed_fault::DeedFault;
 pub use entry::Entry;

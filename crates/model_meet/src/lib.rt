@@ -1,5 +1,5 @@
 //! The relations that no trace of a list refutes. `Model` answers questions on them from words of
-//! bits, one for each relation. The crate `model_tests` compares the answers with those of the
+//! bits, one for each relation. The crate `model_checks` compares the answers with those of the
 //! definitions' plain program, on drawn lists of traces.
 #![tactic(auto)]
 
@@ -9,8 +9,6 @@ mod exclusions;
 pub mod laws;
 mod model;
 mod pair_lines;
-#[cfg(test)]
-mod question_tests;
 
 pub use counts::Counts;
 pub use exclusion_rows::ExclusionRows;

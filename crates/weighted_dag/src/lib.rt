@@ -8,8 +8,6 @@ mod length;
 mod lengths;
 mod number_list;
 mod reduction;
-#[cfg(test)]
-mod tests;
 
 pub use dag::Dag;
 pub use length::Length;

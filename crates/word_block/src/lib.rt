@@ -4,8 +4,6 @@
 mod allocation;
 mod block;
 mod places;
-#[cfg(test)]
-mod tests;
 
 pub use block::WordBlock;
 // A crate can name a block in a contract only if the types of its fields are exported.

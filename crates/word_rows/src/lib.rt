@@ -8,8 +8,6 @@ pub mod laws;
 mod making;
 mod replies;
 mod sheets;
-#[cfg(test)]
-mod tests;
 mod views;
 
 pub use entries::{Entry, Row};

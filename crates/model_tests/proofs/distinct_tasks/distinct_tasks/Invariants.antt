@@ -1,7 +1,0 @@
-use Rattle.std.proofs.Common.{[], take, map}
-use Rattle.model_tests.specs.inner.Growing.{AddsDistinct}
-use Rattle.model_tests.proofs.NameLemmas.{task_in}
-use Rattle.model_tests.proofs.distinct_tasks.distinct_tasks.Given as goal
-
-abbrev pub invariant-loop-name : goal.invariant-loop-name
-invariant-loop-name l = AddsDistinct (map task_in (take l.name-index l.names)) [] l.tasks.items

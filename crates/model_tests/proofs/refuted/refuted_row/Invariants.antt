@@ -1,6 +1,0 @@
-use Rattle.std.proofs.Common.{take}
-use Rattle.model_tests.specs.inner.Answers.{AreAnswers}
-use Rattle.model_tests.proofs.refuted.refuted_row.Given as goal
-
-abbrev pub invariant-loop-at : goal.invariant-loop-at
-invariant-loop-at l = AreAnswers (take l.at l.traces) l.first l.names l.row.items
