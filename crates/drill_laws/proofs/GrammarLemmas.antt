@@ -1,0 +1,105 @@
+-- Arguments that ask for a drill ask for at most 20,000 traces.
+use Rattle.std.proofs.Common.{◌≡◌, ℕ, ◌≤◌, ◌^◌, List, [], ◌∷◌, Bool, true, false, Option, Some, None, option_map, refl, subst, codes}
+use Rattle.std.specs.Prelude.{IfSome, if◌then◌else◌, nat_lt, nat_le, option_and_then, length}
+use Rattle.std.specs.Int.{is_in_range}
+use Rattle.std.specs.Str.{bytes_eq}
+use Rattle.std.proofs.lemmas.Bool.{and_parts, leb-true}
+use Rattle.mystery_run.specs.CommandLines.{Action, Call, action_of_words, action_over, call_of, call_of_words, call_with, change_of_words, drill, drill_of_words, is_filled, named_action, named_view, one_file, replay, session, some_files, tail, verify, verify_of_words, view, view_of_words, what_if, what_if_of_words, why}
+use Rattle.mystery_run.specs.Numbers.{number_between}
+use Rattle.step_core.specs.Numbers.{plain_number}
+
+-- a drill has few traces
+abbrev IsFew : Action → Type 0
+IsFew (session files) = Unit {0}
+IsFew (view v files) = Unit {0}
+IsFew (what_if change files) = Unit {0}
+IsFew (tail files) = Unit {0}
+IsFew (why files) = Unit {0}
+IsFew (verify file files) = Unit {0}
+IsFew (drill number traces) = traces ≤ 20000
+IsFew (replay file) = Unit {0}
+
+abbrev Few : Option Action → Type 0
+Few o = IfSome o IsFew
+
+few_if : (b : Bool) (x y : Option Action) → Few x → Few y → Few (if b then x else y)
+few_if true x y h k = h
+few_if false x y h k = k
+
+few_map : {X : Type 0} (f : X → Action) → ((x : X) → IsFew (f x)) → (o : Option X) → Few (option_map f o)
+few_map f each None = tt
+few_map f each (Some x) = each x
+
+few_then : {X : Type 0} (f : X → Option Action) → ((x : X) → Few (f x)) → (o : Option X) → Few (option_and_then f o)
+few_then f each None = tt
+few_then f each (Some x) = each x
+
+in_range : (n t : ℕ) (b : Bool) → is_in_range 1 20000 t ≡ b → Few (option_map (drill n) (if b then Some t else None))
+in_range n t true e = leb-true t 20000 (and_parts (nat_le 1 t) (nat_le t 20000) e).1
+in_range n t false e = tt
+
+drill_of : (n : ℕ) (o : Option ℕ) → Few (option_map (drill n) (option_and_then (λ t. if is_in_range 1 20000 t then Some t else None) o))
+drill_of n None = tt
+drill_of n (Some t) = in_range n t (is_in_range 1 20000 t) refl
+
+drill_few : (words : List (List ℕ)) → Few (drill_of_words words)
+drill_few [] = tt
+drill_few (number ∷ []) = tt
+drill_few (number ∷ traces ∷ []) = few_then (λ n. option_map (drill n) (number_between 1 20000 traces)) (λ n. drill_of n (plain_number traces)) (number_between 0 2147483647 number)
+drill_few (number ∷ traces ∷ more ∷ words) = tt
+
+what_if_few : (words : List (List ℕ)) → Few (what_if_of_words words)
+what_if_few [] = tt
+what_if_few (a ∷ []) = tt
+what_if_few (a ∷ b ∷ []) = tt
+what_if_few (a ∷ b ∷ c ∷ []) = tt
+what_if_few (a ∷ b ∷ c ∷ d ∷ []) = tt
+what_if_few (a ∷ b ∷ c ∷ d ∷ e ∷ files) = few_then (λ change. option_map (what_if change) (some_files files)) (λ change. few_map (what_if change) (λ x. tt) (some_files files)) (change_of_words a b c d e)
+
+verify_few : (words : List (List ℕ)) → Few (verify_of_words words)
+verify_few [] = tt
+verify_few (file ∷ files) = few_if (is_filled file) (option_map (verify file) (some_files files)) None (few_map (verify file) (λ x. tt) (some_files files)) tt
+
+over_few : (name : List ℕ) (words : List (List ℕ)) → Few (action_over name words)
+over_few name words =
+    few_if (bytes_eq name (codes "session")) _ _ (few_map session (λ x. tt) (some_files words)) (
+    few_if (bytes_eq name (codes "tail")) _ _ (few_map tail (λ x. tt) (some_files words)) (
+    few_if (bytes_eq name (codes "why")) _ _ (few_map why (λ x. tt) (some_files words)) (
+    few_if (bytes_eq name (codes "replay")) _ _ (few_map replay (λ x. tt) (one_file words))
+    (few_then (view_of_words words) (λ v. few_map (view v) (λ x. tt) (some_files words)) (named_view name)))))
+
+named_few : (name : List ℕ) (words : List (List ℕ)) → Few (named_action name words)
+named_few name words =
+    few_if (bytes_eq name (codes "whatif")) _ _ (what_if_few words) (
+    few_if (bytes_eq name (codes "verify")) _ _ (verify_few words) (
+    few_if (bytes_eq name (codes "drill")) _ _ (drill_few words) (over_few name words)))
+
+action_few : (words : List (List ℕ)) → Few (action_of_words words)
+action_few [] = tt
+action_few (name ∷ words) = named_few name words
+
+-- the action of a call has
+abbrev FewCall : Option Call → Type 0
+FewCall o = IfSome o (λ (c : Call). IsFew c.action)
+
+call_if : (b : Bool) (x y : Option Call) → FewCall x → FewCall y → FewCall (if b then x else y)
+call_if true x y h k = h
+call_if false x y h k = k
+
+with_few : (workers : Option ℕ) (action : Option Action) → Few action → FewCall (call_with workers action)
+with_few None action h = tt
+with_few (Some n) None h = tt
+with_few (Some n) (Some a) h = h
+
+words_few : (words : List (List ℕ)) → FewCall (call_of_words words)
+words_few [] = tt
+words_few (first ∷ []) = tt
+words_few (first ∷ second ∷ form) =
+    call_if (bytes_eq first (codes "--workers")) _ _ (with_few (number_between 1 64 second) (action_of_words form) (action_few form))
+    (with_few (Some 4) (action_of_words (first ∷ second ∷ form)) (action_few (first ∷ second ∷ form)))
+
+call_few : (words : List (List ℕ)) → FewCall (call_of words)
+call_few words = call_if (nat_lt (length words) (2 ^ 32)) (call_of_words words) None (words_few words) tt
+
+pub few_traces : (words : List (List ℕ)) (workers number traces : ℕ) → call_of words ≡ Some (record { workers = workers; action = drill number traces }) → traces ≤ 20000
+few_traces words workers number traces called = subst FewCall called (call_few words)

@@ -1,0 +1,121 @@
+-- How a drill ends.
+use Rattle.std.proofs.Common.{◌≡◌, ℕ, List, [], ◌∷◌, ◌++◌, Option, Some, Ok, map, refl, sym, ap, subst, ◌∙◌, inl, inr, arith, append_assoc, append-nil}
+use Rattle.std.specs.Prelude.{All, IfSome, ◌⊎◌}
+use Rattle.std.specs.Option.{option_map_or}
+use Rattle.drill_input.specs.DrillInput.{drill_input}
+use Rattle.event_lines.specs.InputLines.{lines_said}
+use Rattle.event_lines.specs.declared.command.Command.TheVariants as commands
+use Rattle.event_lines.specs.declared.line.Line.TheVariants as lines
+use Rattle.job_runs.specs.JobTexts.{IsTextToLimit}
+use Rattle.mystery_io.specs.ReadFaults.{FilesSeen}
+use Rattle.mystery_run.specs.CommandLines.{Call, call_of, certificate_of, certificate_of_action, drill, files_of, files_of_action}
+use Rattle.mystery_run.specs.Endings.{CallEnds, Ends, CallEndsAt, Writes}
+use Rattle.mystery_run.specs.Readings.{FailsAt, told_input}
+use Rattle.mystery_run.specs.Runs.{Explains, Reads, Seen}
+use Rattle.mystery_run.specs.Texts.{IsTextUpTo}
+use Rattle.mystery_run.specs.Works.{Work, Jobs, work_from, work_said}
+use Rattle.mystery_run.specs.declared.outcome.Outcome.{Outcome}
+use Rattle.mystery_run.specs.declared.outcome.Outcome.TheVariants.{Done, Memory, Arguments, BadLine, File, Write, Size, Over}
+use Rattle.session_rules.specs.Jobs as rules
+use Rattle.session_rules.specs.Sessions.{Leads, Passes, State, first_state}
+use Rattle.session_rules.specs.Parts.{Part}
+use Rattle.session_rules.specs.declared.job.Job.{Job}
+use Rattle.session_rules.specs.declared.job.Job.TheVariants.{Add, Summary}
+use Rattle.session_rules.specs.declared.limit.Limit.{Limit}
+use Rattle.trace_types.specs.declared.event.Event.{Event}
+use Rattle.drill_laws.proofs.InputLemmas.{IsDrillEvent}
+use Rattle.drill_laws.proofs.LimitLemmas.{add_passes}
+
+-- events and then an add are one job
+one_add : (batch events : List Event) → rules.jobs_from batch (map lines.Event events ++ lines.Control 0 commands.Add ∷ []) ≡ Add (batch ++ events) ∷ []
+one_add batch [] = ap (λ xs. Add xs ∷ []) (sym (append-nil batch))
+one_add batch (e ∷ events) = one_add (batch ++ e ∷ []) events ∙ ap (λ xs. Add xs ∷ []) (append_assoc batch (e ∷ []) events)
+
+none_left : (done : List Job) (job : Job) (rest : List Job) → [] ≡ done ++ (job ∷ rest) → ⊥
+none_left [] job rest e = cc e
+none_left (x ∷ xs) job rest e = cc e
+
+-- the two jobs of a drill
+abbrev jobs_over : List Event → List Job
+jobs_over events = Add events ∷ Summary ∷ []
+
+-- a run that reads a certificate and an input of files with these names, and ends so
+abbrev EndsFrom : List (List ℕ) → List (List ℕ) → Outcome → Seen → Type 0
+EndsFrom names files outcome seen =
+    IfSome (told_input seen.files.contents names) (λ certificate. IfSome (told_input seen.files.contents files) (λ input. (text : List ℕ)
+    × Ends seen.words certificate input outcome text × Writes outcome seen.written_before seen.written_now text))
+
+-- where such a run ends at a file, that one failed
+abbrev ReadsFrom : List (List ℕ) → List (List ℕ) → Outcome → Seen → Type 0
+ReadsFrom names files (File index) seen = FailsAt seen.files names files index
+ReadsFrom names files Done seen = Unit {0}
+ReadsFrom names files Memory seen = Unit {0}
+ReadsFrom names files Arguments seen = Unit {0}
+ReadsFrom names files (BadLine line why) seen = Unit {0}
+ReadsFrom names files Write seen = Unit {0}
+ReadsFrom names files Size seen = Unit {0}
+ReadsFrom names files (Over limit) seen = Unit {0}
+
+reads_from : (outcome : Outcome) (seen : Seen) → Reads outcome seen → ReadsFrom (certificate_of seen.words) (files_of seen.words) outcome seen
+reads_from (File index) seen h = h.1
+reads_from Done seen h = tt
+reads_from Memory seen h = tt
+reads_from Arguments seen h = tt
+reads_from (BadLine line why) seen h = tt
+reads_from Write seen h = tt
+reads_from Size seen h = tt
+reads_from (Over limit) seen h = tt
+
+-- where there is no file, none fails
+no_file : (files : FilesSeen) (index : ℕ) → FailsAt files [] [] index → ⊥
+no_file files index h = elim h [ inl at ↦ omega (arith, at.opened.within) | inr at ↦ omega (arith, at.3.opened.within) ]
+
+-- neither a bad line nor a limit nor a file ends it
+abbrev EndsWell : Outcome → Type 0
+EndsWell outcome = (outcome ≡ Done) ⊎ (outcome ≡ Memory) ⊎ (outcome ≡ Write)
+
+module _ (number traces : ℕ) (events : List Event) (good : All IsDrillEvent events) (said : lines_said (drill_input number traces) ≡ Ok (map lines.Event events)) where
+  work_is : work_said (drill number traces) [] [] ≡ Ok (Jobs (jobs_over events))
+  work_is = ap (work_from (Some Summary)) said ∙ ap (λ jobs. Ok (Jobs (jobs ++ Summary ∷ []))) (one_add [] events)
+
+  -- no job passes a limit
+  no_job : (workers : ℕ) (limit : Limit) (done : List Job) (job : Job) (rest : List Job) (parts : List Part) (last : State) → jobs_over events ≡ done ++ (job ∷ rest) → Leads workers done first_state parts last → Passes job last limit → ⊥
+  no_job workers limit [] job rest parts last split led passes =
+      let same : Add events ≡ job = cc in
+      let over : Passes (Add events) first_state limit = subst (λ (s : State). Passes (Add events) s limit) led.1 (subst (λ (j : Job). Passes j last limit) (sym same) passes) in
+      add_passes events over.0 over.1 good over.2 limit over.3
+  no_job workers limit (first ∷ []) job rest parts last split led passes =
+      let same : Summary ≡ job = cc in
+      subst (λ (j : Job). Passes j last limit) (sym same) passes
+  no_job workers limit (first ∷ second ∷ done) job rest parts last split led passes =
+      let left : [] ≡ done ++ (job ∷ rest) = cc in
+      none_left done job rest left
+
+  no_limit : (workers : ℕ) (limit : Limit) (text : List ℕ) → IsTextToLimit workers (jobs_over events) limit text → ⊥
+  no_limit workers limit text h = no_job workers limit h.done h.job h.rest h.told.parts h.last h.split h.told.led h.passes
+
+  module _ (call : Call) (is : call.action ≡ drill number traces) where
+    call_work : work_said call.action [] [] ≡ Ok (Jobs (jobs_over events))
+    call_work = ap (λ a. work_said a [] []) is ∙ work_is
+
+    ends_well : (outcome : Outcome) (seen : Seen) (text : List ℕ) → ReadsFrom [] [] outcome seen → CallEnds call [] [] outcome text → EndsWell outcome
+    ends_well Done seen text reads h = inl refl
+    ends_well Memory seen text reads h = inr (inl refl)
+    ends_well Arguments seen text reads h = absurd h
+    ends_well (File index) seen text reads h = absurd (no_file seen.files index reads)
+    ends_well Write seen text reads h = inr (inr refl)
+    ends_well (BadLine line why) seen text reads h = let e = sym call_work ∙ h.1 in absurd (cc e)
+    ends_well Size seen text reads h = elim h.0 [ inl more ↦ absurd (omega arith) | inr more ↦ absurd (omega arith) ]
+    ends_well (Over limit) seen text reads h =
+        let e : Ok (Jobs (jobs_over events)) ≡ Ok h.1.0 = sym call_work ∙ h.1.1 in
+        let same : Jobs (jobs_over events) ≡ h.1.0 = cc in
+        absurd (no_limit call.workers limit text (subst (λ (w : Work). IsTextUpTo call.workers w limit text) (sym same) h.1.2))
+
+    -- the same by what a run saw
+    pub seen_well : (outcome : Outcome) (seen : Seen) → call_of seen.words ≡ Some call → Explains outcome seen → EndsWell outcome
+    seen_well outcome seen called h =
+        let no_certificate : certificate_of seen.words ≡ [] = ap (λ (o : Option Call). option_map_or (λ (c : Call). certificate_of_action c.action) o []) called ∙ ap certificate_of_action is in
+        let no_files : files_of seen.words ≡ [] = ap (λ (o : Option Call). option_map_or (λ (c : Call). files_of_action c.action) o []) called ∙ ap files_of_action is in
+        let ends : EndsFrom [] [] outcome seen = subst (λ files. EndsFrom [] files outcome seen) no_files (subst (λ names. EndsFrom names (files_of seen.words) outcome seen) no_certificate h.ends) in
+        let reads : ReadsFrom [] [] outcome seen = subst (λ files. ReadsFrom [] files outcome seen) no_files (subst (λ names. ReadsFrom names (files_of seen.words) outcome seen) no_certificate (reads_from outcome seen h.reads)) in
+        ends_well outcome seen ends.0 reads (subst (λ (o : Option Call). CallEndsAt o [] [] outcome ends.0) called ends.1)
