@@ -1,13 +1,15 @@
 ghost use Rattle.std.specs.Prelude.{◌≡◌, ◌≢◌, ◌^◌, ◌<◌, ◌≤◌, ◌≤ℤ◌, All, length, IfOk, None};
 ghost use Rattle.refute_tests.specs.Clearing.{HaveNamesBelow};
 
+mod gates;
+
+use crate::tests::gates::{BothFirst, MeetingGate, OneBeforeZero, PassingGate};
 use crate::{Recorder, RecorderFault, WatchLine, WatchLines, offer_all};
 use mystery_io::{Gate, OpenGate};
 use pipeline_tests::DaySheet;
 use std::alloc::{AllocError, Global};
-use std::sync::atomic::{AtomicU64, Ordering};
 use std::test::Fail;
-use std::thread::{self, Threads};
+use std::thread::Threads;
 use trace_types::{NamedSegment, NamedSegmentList, NamedTrace, Text};
 
 /// The word of the pairs of two names when a touching and a swapped trace were offered.
@@ -120,76 +122,6 @@ fn sheet_by<R: Threads + Sync, G: Gate + Sync>(
     }
 }
 
-/// Waits for a turn that another worker marks, for so many rounds. Answers whether it came.
-fn comes(turn: &AtomicU64) -> bool {
-    for _ in 0..10_000_000u64 {
-        if turn.load(Ordering::SeqCst) == 1 {
-            return true;
-        }
-        thread::yield_now();
-    }
-    false
-}
-
-/// Holds turn 0 of each of two workers until turn 0 of the other has come.
-#[derive(Drop)]
-struct BothFirst {
-    zero: AtomicU64,
-    one: AtomicU64,
-    failed: AtomicU64,
-}
-
-impl Gate for BothFirst {
-    fn turn(&self, worker: u32, _trace: u32) {
-        let (mine, other) = if worker == 0 {
-            (&self.zero, &self.one)
-        } else {
-            (&self.one, &self.zero)
-        };
-        mine.store(1, Ordering::SeqCst);
-        if !comes(other) {
-            self.failed.store(1, Ordering::SeqCst);
-        }
-    }
-}
-
-/// Holds turn 0 of worker 0 until turn 1 of worker 1 has come, and that turn until turn 1 of worker
-/// 0 has come.
-#[derive(Drop)]
-struct OneBeforeZero {
-    zero: AtomicU64,
-    one: AtomicU64,
-    failed: AtomicU64,
-}
-
-impl Gate for OneBeforeZero {
-    fn turn(&self, worker: u32, trace: u32) {
-        let came = match (worker, trace) {
-            (0, 0) => comes(&self.one),
-            (0, 1) => {
-                self.zero.store(1, Ordering::SeqCst);
-                true
-            }
-            (1, 1) => {
-                self.one.store(1, Ordering::SeqCst);
-                comes(&self.zero)
-            }
-            _ => true,
-        };
-        if !came {
-            self.failed.store(1, Ordering::SeqCst);
-        }
-    }
-}
-
-/// Never waits, and does not tell so: all workers stand beside one another.
-#[derive(Clone, Copy)]
-struct PassingGate;
-
-impl Gate for PassingGate {
-    fn turn(&self, _worker: u32, _trace: u32) {}
-}
-
 #[test]
 fn two_recordings_become_one_sheet(rt: HostRuntime) -> Result<(), Fail> {
     let alloc = rt.alloc();
@@ -235,40 +167,27 @@ fn two_recordings_become_one_sheet(rt: HostRuntime) -> Result<(), Fail> {
 #[test]
 fn two_workers_run_beside_each_other(rt: HostRuntime) -> Result<(), Fail> {
     let alloc = rt.alloc();
-    let gate = BothFirst {
-        zero: AtomicU64::new(0),
-        one: AtomicU64::new(0),
-        failed: AtomicU64::new(0),
-    };
+    let gate = BothFirst::new();
     let (recorder, recording) = Recorder::open(alloc, 2, 2)?;
     let traces = day_of(alloc, 1, 2)?;
     let Ok((recording, _lines)) = offer_all(&rt, &recorder, recording, traces, 0, &gate) else {
         return Err(Fail::from("memory"));
     };
     assert_eq!(rt; recording.shares(), 2);
-    let turns = (
-        gate.zero.load(Ordering::SeqCst),
-        gate.one.load(Ordering::SeqCst),
-        gate.failed.load(Ordering::SeqCst),
-    );
-    assert_eq!(rt; turns, (1, 1, 0));
+    assert_eq!(rt; gate.turns(), (1, 1, 0));
     Ok(())
 }
 
 #[test]
 fn workers_share_one_table(rt: HostRuntime) -> Result<(), Fail> {
     let alloc = rt.alloc();
-    let gate = OneBeforeZero {
-        zero: AtomicU64::new(0),
-        one: AtomicU64::new(0),
-        failed: AtomicU64::new(0),
-    };
+    let gate = OneBeforeZero::new();
     let (recorder, recording) = Recorder::open(alloc, 2, 2)?;
     let traces = day_of(alloc, 2, 4)?;
     let Ok((_recording, lines)) = offer_all(&rt, &recorder, recording, traces, 1, &gate) else {
         return Err(Fail::from("memory"));
     };
-    assert_eq!(rt; gate.failed.load(Ordering::SeqCst), 0);
+    assert!(rt; !gate.has_failed());
     let expected = [(0, 1, 3), (0, 2, 3), (1, 1, 2), (1, 2, 3)];
     assert_eq!(rt; lines.items().len(), 4);
     for (line, (worker, done, refuted)) in lines.items().iter().zip(expected) {
@@ -358,6 +277,29 @@ fn workers_with_little_to_do_run_one_after_another(rt: HostRuntime) -> Result<()
         );
     }
     Ok(())
+}
+
+/// Offers 1,024 traces by two workers through a gate. Gives the number of the sheet's traces and
+/// its last word, or nothing where memory ran out.
+fn record_much<R: Threads + Sync, G: Gate + Sync>(
+    rt: &R,
+    alloc: Global,
+    gate: &G,
+) -> Option<(usize, Option<u64>)> {
+    let Ok(day) = day_of(alloc, 512, 1024) else {
+        return None;
+    };
+    let (sheet, _lines) = sheet_by(rt, alloc, 2, day, 0, gate)?;
+    Some((sheet.traces().len(), sheet.words().words().last().copied()))
+}
+
+// 1,024 traces of two segments are work of 1,024 * (2 * 2 + 256) = 266,240, which is not below
+// 262,144. Workers one after the other would never end: the first would wait for the second.
+#[test]
+fn workers_with_much_to_do_run_beside_each_other(rt: HostRuntime) {
+    let gate = MeetingGate::new();
+    let recorded = record_much(&rt, rt.alloc(), &gate);
+    assert_eq!(rt; recorded, Some((1024, Some(LEFT))));
 }
 
 #[test]
