@@ -6,5 +6,6 @@ mod JudgeLemmas
 mod NameLemmas
 mod RangeLemmas
 mod RecordLemmas
+mod NewDayLemmas
 mod NewLemmas
 mod ZipLemmas

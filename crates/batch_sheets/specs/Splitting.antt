@@ -1,5 +1,6 @@
 -- Traces that are split by their days.
 use Rattle.std.specs.Prelude.{◌≡◌, ℕ, ◌<◌, List, All, length, map}
+use Rattle.day_partitions.specs.declared.dated_sheet.DatedSheet.{DatedSheet}
 use Rattle.kept_books.specs.Shown.{named_on}
 use Rattle.trace_types.specs.declared.named_trace.NamedTrace.{NamedTrace}
 use Rattle.batch_sheets.specs.declared.days.DayTraces.{DayTraces}
@@ -10,6 +11,10 @@ named_day t = t.day
 
 abbrev pub split_day : DayTraces → ℕ
 split_day s = s.day
+
+-- the day of a sheet
+abbrev pub sheet_day : DatedSheet → ℕ
+sheet_day s = s.day
 
 -- there is one list for each of these days, with the traces of that day, in their order
 pub record AreSplitSoFar (days : List ℕ) (named : List NamedTrace) (split : List DayTraces)

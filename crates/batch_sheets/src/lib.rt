@@ -6,6 +6,7 @@ mod days;
 mod judging;
 mod known_names;
 mod naming;
+mod new_days;
 mod parts;
 mod recording;
 #[cfg(test)]
@@ -14,4 +15,5 @@ mod tests;
 pub use days::{DayTraces, list_days, split_by_day};
 pub use judging::{JudgedTraces, judge_batch};
 pub use naming::name_batch;
+pub use new_days::days_with;
 pub use recording::{DayLines, RecordedDays, record_days};

@@ -22,10 +22,11 @@ use Rattle.session_rules.specs.declared.limit.Limit.TheVariants.{Names, Tasks, D
 use Rattle.session_rules.specs.declared.refused.Refused.{Refused}
 use Rattle.text_rows.specs.TextsOfParts.{AreTexts}
 use Rattle.trace_types.specs.declared.event.Event.{Event}
+use Rattle.trace_types.specs.declared.named_trace.NamedTrace.{NamedTrace}
 use Rattle.trace_types.specs.declared.trace.Trace.{Trace}
 use Rattle.trace_types.specs.Batch.{traces_of}
 use Rattle.session.specs.SessionStates.{SessionState, Shows}
-use Rattle.session.specs.AddLaws.{IsAdded, added_text, day_text, session_after}
+use Rattle.session.specs.AddLaws.{IsAdded, IsNamedAdd, added_text, day_text, session_after}
 use Rattle.session.specs.Sheets.{AreLinesOn, graced_by}
 
 -- ---- the text
@@ -47,24 +48,31 @@ parts_of every workers refused kept days = Refusals refused ∷ watch_parts ever
 pub told : (every workers : ℕ) (refused : List Refused) (kept : List Kept) (days : List ℕ) (watched : List DayLines) → AllZip (AreLinesOn every workers kept) days watched → AreTexts IsPart (parts_of every workers refused kept days) (added_text refused watched)
 told every workers refused kept days watched z = (flat_map refused_row refused, flat_map day_text watched, refl, day_told every workers kept days watched z, refl)
 
-module _ (grown : GrownShows) (shown : SheetsShow) (counted : DaysAreCounted) (old : SessionState) (s : State) (h : Shows old s) (wide : BookState) (valid : List Trace) (sheets : List DatedSheet) (watched : List DayLines) (a : IsAdded old wide valid sheets watched) where
+module _ (grown : GrownShows) (shown : SheetsShow) (counted : DaysAreCounted) (old : SessionState) (s : State) (h : Shows old s) (wide : BookState) (valid : List Trace) (named : List NamedTrace) (sheets : List DatedSheet) (a : IsNamedAdd old wide valid named sheets) where
   same_graced : graced_by old.grace valid ≡ graced s valid
   same_graced = ap (λ g. map (kept_with (1000 * g)) valid) h.grace
 
   before_shown : AreShown (with_traces old.known valid) (all_traces wide.days) s.kept
   before_shown = subst (λ ds. AreShown (with_traces old.known valid) (all_traces ds) s.kept) (sym a.days) (grown old.known valid (all_traces old.book.days) s.kept a.kept h.traces)
 
-  pub after_shown : AreShown (with_traces old.known valid) (all_traces (with_all wide sheets).days) (kept_after s valid)
+  after_shown : AreShown (with_traces old.known valid) (all_traces (with_all wide sheets).days) (kept_after s valid)
   after_shown = subst (λ k. AreShown (with_traces old.known valid) (all_traces (with_all wide sheets).days) (with_taken s.kept k)) same_graced
-      (shown (with_traces old.known valid) wide s.kept (graced_by old.grace valid) sheets a.recorded.named a.book before_shown a.recorded.shown a.recorded.parts)
+      (shown (with_traces old.known valid) wide s.kept (graced_by old.grace valid) sheets named a.book before_shown a.shown a.parts)
 
-  pub after_days : length wide.days + new_days wide.days sheets ≡ length (days_of (kept_after s valid))
+  after_days : length wide.days + new_days wide.days sheets ≡ length (days_of (kept_after s valid))
   after_days =
-      counted (with_traces old.known valid) wide s.kept (graced_by old.grace valid) sheets a.recorded.named a.book before_shown a.recorded.shown a.recorded.parts
+      counted (with_traces old.known valid) wide s.kept (graced_by old.grace valid) sheets named a.book before_shown a.shown a.parts
       ∙ ap (λ k. length (days_of (with_taken s.kept k))) same_graced
 
-  pub no_name_limit : (fault : NameFault) → PassesLimit s.known valid fault → ⊥
+  no_name_limit : (fault : NameFault) → PassesLimit s.known valid fault → ⊥
   no_name_limit = subst (λ k. (fault : NameFault) → PassesLimit k valid fault → ⊥) h.known a.none
+
+  pub passes_days : (days : ℕ) → 64 < days → days ≡ length wide.days + new_days wide.days sheets → PassesLimitOf s valid (Days days)
+  passes_days days many is = (no_name_limit, (let e = after_days in omega (arith, e, many, is)), is ∙ after_days)
+
+module _ (grown : GrownShows) (shown : SheetsShow) (counted : DaysAreCounted) (old : SessionState) (s : State) (h : Shows old s) (wide : BookState) (valid : List Trace) (sheets : List DatedSheet) (watched : List DayLines) (a : IsAdded old wide valid sheets watched) where
+  abbrev batch : IsNamedAdd old wide valid a.recorded.named sheets
+  batch = record { kept = a.kept; days = a.days; book = a.book; none = a.none; shown = a.recorded.shown; parts = a.recorded.parts }
 
   pub adds : (events : List Event) (refused : List Refused) → AreJudged (traces_of events) valid refused → HasRoomFor wide sheets → Adds old.workers events s (parts_of s.watch old.workers refused (graced s valid) a.recorded.days) (state_after s valid)
   adds events refused judged room = record {
@@ -74,22 +82,19 @@ module _ (grown : GrownShows) (shown : SheetsShow) (counted : DaysAreCounted) (o
     fits = fits;
     after = refl;
     days = a.recorded.days;
-    days_are = subst (λ k. ListsExactly nat_cmp (Contains (map day_of k)) a.recorded.days) same_graced a.recorded.days_are;
+    days_are = subst (λ k. ListsExactly nat_cmp (Contains (map day_of k)) a.recorded.days) (same_graced grown shown counted old s h wide valid a.recorded.named sheets batch) a.recorded.days_are;
     printed = refl;
   }
     where
       fits : (limit : Limit) → PassesLimitOf s valid limit → ⊥
-      fits (Names count) p = no_name_limit (names.TooManyNames count) p
-      fits (Tasks count) p = no_name_limit (names.TooManyTasks count) p
-      fits (Days count) p = (let e = after_days in let few = room in let many = p.1 in absurd (omega (arith, e, few, many)))
+      fits (Names count) p = no_name_limit grown shown counted old s h wide valid a.recorded.named sheets batch (names.TooManyNames count) p
+      fits (Tasks count) p = no_name_limit grown shown counted old s h wide valid a.recorded.named sheets batch (names.TooManyTasks count) p
+      fits (Days count) p = (let e = after_days grown shown counted old s h wide valid a.recorded.named sheets batch in let few = room in let many = p.1 in absurd (omega (arith, e, few, many)))
 
   pub shows_after : Shows (session_after old wide valid sheets) (state_after s valid)
   shows_after = record {
     known = ap (λ k. with_traces k valid) h.known;
     watch = h.watch;
     grace = h.grace;
-    traces = after_shown;
+    traces = after_shown grown shown counted old s h wide valid a.recorded.named sheets batch;
   }
-
-  pub passes_days : (days : ℕ) → 64 < days → days ≡ length wide.days + new_days wide.days sheets → PassesLimitOf s valid (Days days)
-  passes_days days many is = (no_name_limit, (let e = after_days in omega (arith, e, many, is)), is ∙ after_days)

@@ -7,6 +7,7 @@ use Rattle.day_partitions.specs.Books.{BookState, IsBook, with_names}
 use Rattle.day_partitions.specs.declared.add_all_fault.AddAllFault.{AddAllFault}
 use Rattle.day_partitions.specs.declared.add_all_fault.AddAllFault.TheVariants as sheeting
 use Rattle.day_partitions.specs.declared.dated_sheet.DatedSheet.{DatedSheet}
+use Rattle.kept_books.specs.Shown.{AreShown}
 use Rattle.segment_names.specs.Known.{Known, with_traces}
 use Rattle.segment_names.specs.Limits.{HasCause, IsKept, PassesLimit}
 use Rattle.segment_names.specs.declared.name_fault.NameFault.{NameFault}
@@ -19,6 +20,7 @@ use Rattle.session_rules.specs.declared.limit.Limit.TheVariants.{Names, Tasks, D
 use Rattle.session_rules.specs.declared.refused.Refused.{Refused}
 use Rattle.trace_types.specs.Batch.{PlainTrace, traces_of}
 use Rattle.trace_types.specs.declared.event.Event.{Event}
+use Rattle.trace_types.specs.declared.named_trace.NamedTrace.{NamedTrace}
 use Rattle.trace_types.specs.declared.trace.Trace.{Trace}
 use Rattle.session.specs.AddLaws.{AddIsTold, AddLeadsOn, AddPassesDays, IsAdded, session_after}
 use Rattle.session.specs.SessionStates.{SessionState, Shows}
@@ -26,7 +28,7 @@ use Rattle.session.specs.Sheets.{AreLinesOn, AreSheets, graced_by}
 use Rattle.session.specs.declared.add_fault.AddFault.{AddFault}
 use Rattle.session.specs.declared.add_fault.AddFault.TheVariants.{Memory, Over}
 use Rattle.session.specs.inner.AddFaults.{HasAddCause, HasNamesCause, fault_of_names, fault_of_sheets}
-use Rattle.session.specs.inner.AddSteps.{AreBooked, AreNamed, HasDaysCause, IsAddOf}
+use Rattle.session.specs.inner.AddSteps.{AreBooked, AreNamed, HasDaysCause, HasRoomCause, IsAddOf}
 use Rattle.session.specs.inner.Changes.{session_with_book}
 
 -- why names are not added
@@ -39,7 +41,18 @@ names_cause (names.TooManyTasks count) known valid h = h
 pub days_cause : (fault : AddAllFault) (old : SessionState) (valid : List Trace) (sheets : List DatedSheet) (watched : List DayLines) → IsBook old.book → AreSheets old.known old.workers old.watch (graced_by old.grace valid) sheets watched → IsBatchFault old.book sheets fault
     → HasDaysCause old valid (fault_of_sheets fault)
 days_cause (sheeting.Memory back) old valid sheets watched book recorded h = tt
-days_cause (sheeting.TooManyDays back days) old valid sheets watched book recorded h = record { book = book; sheets = sheets; watched = watched; recorded = recorded; many = h.1; count = h.2 }
+days_cause (sheeting.TooManyDays back days) old valid sheets watched book recorded h = record {
+  named = recorded.named;
+  shown = recorded.shown;
+  over = record { book = book; sheets = sheets; parts = recorded.parts; many = h.1; count = h.2 };
+}
+
+-- why there is no room for days
+pub room_cause : (fault : AddFault) (old : SessionState) (valid : List Trace) (named : List NamedTrace) → AreShown old.known named (graced_by old.grace valid) → HasRoomCause old.book named fault → HasDaysCause old valid fault
+room_cause Memory old valid named shown h = tt
+room_cause (Over (Names count)) old valid named shown h = h
+room_cause (Over (Tasks count)) old valid named shown h = h
+room_cause (Over (Days days)) old valid named shown h = record { named = named; shown = shown; over = h }
 
 -- a session with these fields, whose names and tasks were added and whose book was widened
 abbrev pub session_of : ℕ → Known → BookState → ℕ → ℕ → SessionState
@@ -97,7 +110,14 @@ module _ (old : SessionState) (valid : List Trace) (wide : SessionState) (named 
     valid,
     refused,
     j,
-    passes old s valid wide.book h.sheets h.watched days shown (is_added h.sheets h.watched h.book h.recorded) h.many h.count,
+    passes old s valid wide.book h.named h.over.sheets days shown (record {
+      kept = named.kept;
+      days = ap (λ (x : SessionState). x.book.days) named.is;
+      book = h.over.book;
+      none = named.none;
+      shown = subst (λ (x : SessionState). AreShown x.known h.named (graced_by x.grace valid)) named.is h.shown;
+      parts = h.over.parts;
+    }) h.over.many h.over.count,
   )
 
 -- what is judged of the traces that were gathered of a batch is judged of its traces

@@ -3,6 +3,7 @@ mod AddingLemmas
 mod CarryLemmas
 mod ControlLemmas
 mod CountLemmas
+mod DayLemmas
 mod KnownLemmas
 mod RunLemmas
 mod SheetLemmas

@@ -17,6 +17,7 @@ use Rattle.session.specs.Sheets.{AreLinesOn, AreSheets, graced_by}
 use Rattle.day_partitions.specs.Batches.{trace_count}
 use Rattle.day_partitions.specs.declared.dated_sheet.DatedSheet.{DatedSheet}
 use Rattle.kept_books.specs.BookLaws.{AreSheetsOf}
+use Rattle.kept_books.specs.Shown.{AreShown}
 use Rattle.segment_names.specs.Known.{Known, with_traces}
 use Rattle.segment_names.specs.Limits.{IsKept}
 use Rattle.session_rules.specs.Batches.{AreJudged}
@@ -74,11 +75,22 @@ AddLeadsOn = (old : SessionState) (s : State) (events : List Event) (valid : Lis
     (state_after s valid)
     × Shows (session_after old wide valid sheets) (state_after s valid)
 
+-- the valid traces of a batch are named, no limit of names or tasks is passed, the book has the
+-- days of the session's, and sheets have just the named traces
+pub record IsNamedAdd (old : SessionState) (wide : BookState) (valid : List Trace)
+    (named : List NamedTrace) (sheets : List DatedSheet) : Type 0 where
+  pub kept : IsKept old.known
+  pub days : wide.days ≡ old.book.days
+  pub book : IsBook wide
+  pub none : (fault : NameFault) → PassesLimit old.known valid fault → ⊥
+  pub shown : AreShown (with_traces old.known valid) named (graced_by old.grace valid)
+  pub parts : AreSheetsOf sheets named
+
 -- where there would be too many days, the add passes the limit of days
 abbrev pub AddPassesDays : Type 0
 AddPassesDays = (old : SessionState) (s : State) (valid : List Trace) (wide : BookState)
-    (sheets : List DatedSheet) (watched : List DayLines) (days : ℕ) → Shows old s
-    → IsAdded old wide valid sheets watched → most_days < days
+    (named : List NamedTrace) (sheets : List DatedSheet) (days : ℕ) → Shows old s
+    → IsNamedAdd old wide valid named sheets → most_days < days
     → days ≡ length wide.days + new_days wide.days sheets → PassesLimitOf s valid (Days days)
 
 -- the watch rows of a day, and the text of an add

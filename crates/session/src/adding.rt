@@ -23,7 +23,7 @@ ghost use Rattle.trace_types.specs.declared.trace.Trace.{Trace};
 
 use crate::Session;
 use crate::add_fault::AddFault;
-use crate::batch_records::record_batch;
+use crate::batch_records::{list_days_within, record_batch};
 use crate::laws::{
     add_is_told, add_leads_on, add_passes_days, names_grow, no_more_are_sheeted, no_more_are_valid,
 };
@@ -149,8 +149,8 @@ impl Session {
         })
     }
 
-    /// Records named traces, and adds their days to the book, all or, after an error, none. Returns
-    /// their watch lines.
+    /// Records named traces, and adds their days to the book, all or, after an error, none. Where
+    /// there would be too many days, none is recorded. Returns their watch lines.
     fn add_days<R: Threads + Sync, G: Gate + Sync>(
         &mut self,
         rt: &R,
@@ -171,11 +171,13 @@ impl Session {
     {
         no_more_are_sheeted();
         let _days = self.book.days();
+        let days = list_days_within(self.alloc, &self.book, &named)?;
         let recorded = record_batch(
             rt,
             self.alloc,
             &self.catalogue,
             named,
+            &days,
             self.workers,
             self.watch,
             gate,

@@ -1,25 +1,61 @@
-ghost use Rattle.std.specs.Prelude.{◌^◌, ◌<◌, All, List, length, IfOk};
+ghost use Rattle.std.specs.Prelude.{◌^◌, ◌+◌, ◌<◌, All, Contains, List, length, map};
+ghost use Rattle.std.specs.Prelude.{IfErr, IfOk};
+ghost use Rattle.std.specs.Ordering.{nat_cmp};
+ghost use Rattle.batch_sheets.specs.Splitting.{named_day};
+ghost use Rattle.day_partitions.specs.Books.{all_traces};
 ghost use Rattle.kept_books.specs.Shown.{AreShown};
 ghost use Rattle.refute_tests.specs.Clearing.{HaveNamesBelow};
 ghost use Rattle.session.specs.Sheets.{AreSheets};
+ghost use Rattle.session.specs.inner.AddSteps.{HasRoomCause};
 ghost use Rattle.session_rules.specs.KeptTraces.{Kept};
+ghost use Rattle.trace_types.specs.Listing.{ListsExactly};
 
-use batch_sheets::{RecordedDays, list_days, record_days, split_by_day};
+use crate::add_fault::AddFault;
+use batch_sheets::{RecordedDays, days_with, list_days, record_days, split_by_day};
+use day_partitions::DayBook;
 use mystery_io::Gate;
 use segment_names::Catalogue;
+use session_rules::Limit;
 use std::alloc::{AllocError, Global};
 use std::thread::Threads;
 use trace_types::NamedTrace;
 use watch_bounds::laws::watch_lines_are_told_by_text;
 
-/// Records the named traces of a batch day by day by so many workers, who may wait for the gate: a
-/// sheet of each day, days rising, and the watch lines of each day after every so many of a worker's
-/// traces, 0 for none. The only error is out of memory.
+/// How many days a book has at most.
+const MOST_DAYS: u32 = 64;
+
+/// Lists the different days of named traces, rising, where the book has room for them too.
+pub(crate) fn list_days_within(
+    alloc: Global,
+    book: &DayBook,
+    named: &[NamedTrace],
+) -> Result<Vec<u32>, AddFault>
+    requires { length (all_traces book.now.days) + length named.now < 2 ^ 32 }
+    ensures days { IfOk result
+        (λ days. ListsExactly nat_cmp (Contains (map named_day named.now)) days.items) }
+    ensures cause { IfErr result (HasRoomCause book.now named.now) }
+{
+    // Its contract tells what every book keeps.
+    let _kept = book.days();
+    let days = list_days(alloc, named)?;
+    let count = days_with(book, &days);
+    if count > MOST_DAYS {
+        return Err(AddFault::Over {
+            limit: Limit::Days { count },
+        });
+    }
+    Ok(days)
+}
+
+/// Records the named traces of a batch, of which these are the days, day by day by so many workers,
+/// who may wait for the gate: a sheet of each day, days rising, and the watch lines of each day after
+/// every so many of a worker's traces, 0 for none. The only error is out of memory.
 pub(crate) fn record_batch<R: Threads + Sync, G: Gate + Sync>(
     rt: &R,
     alloc: Global,
     catalogue: &Catalogue,
     named: Vec<NamedTrace>,
+    days: &[u32],
     workers: u32,
     watch: u32,
     gate: &G,
@@ -27,11 +63,11 @@ pub(crate) fn record_batch<R: Threads + Sync, G: Gate + Sync>(
     requires workers { 0 < workers }
     requires below { All (HaveNamesBelow (length catalogue.now.names)) named.items }
     requires many { length named.items < 2 ^ 32 }
+    requires days { ListsExactly nat_cmp (Contains (map named_day named.items)) days.now }
     ensures { IfOk result (λ r. (kept : List Kept) → AreShown catalogue.now named.items kept
         → AreSheets catalogue.now workers watch kept r.sheets.items r.watched.items) }
 {
     watch_lines_are_told_by_text();
-    let days = list_days(alloc, &named)?;
-    let split = split_by_day(alloc, named, &days)?;
+    let split = split_by_day(alloc, named, days)?;
     record_days(rt, alloc, catalogue.names(), workers, watch, split, gate)
 }

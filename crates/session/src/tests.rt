@@ -6,9 +6,10 @@ use crate::{CommandFault, Job, Session};
 use certificates::{Claim, ClaimList, Matter};
 use event_lines::{Command, EventParts, lines_rise};
 use event_table::EventTable;
-use mystery_io::{MemSink, OpenGate, Sink};
+use mystery_io::{Gate, MemSink, OpenGate, Sink};
 use session_rules::NamedChange;
 use std::alloc::{AllocError, Global};
+use std::sync::atomic::{AtomicU64, Ordering};
 use std::test::Fail;
 use std::thread::Threads;
 use trace_types::{Event, NameText, Text};
@@ -79,13 +80,24 @@ fn add<R: Threads + Sync, S: Sink>(
     events: Vec<Event>,
     out: &mut S,
 ) -> Result<Session, CommandFault> {
+    add_through(rt, session, events, out, &OpenGate)
+}
+
+/// Carries out an add, as `add` does, whose workers wait for this gate.
+fn add_through<R: Threads + Sync, S: Sink, G: Gate + Sync>(
+    rt: &R,
+    session: Session,
+    events: Vec<Event>,
+    out: &mut S,
+    gate: &G,
+) -> Result<Session, CommandFault> {
     if session.trace_count() > 1000 {
         return Err(CommandFault::Memory);
     }
     let Some(parts) = parts_of(session.alloc, &events) else {
         return Err(CommandFault::Memory);
     };
-    session.command(rt, Job::Add { events: parts }, out, &OpenGate)
+    session.command(rt, Job::Add { events: parts }, out, gate)
 }
 
 /// Carries out a job that adds nothing, or answers `Memory` where there are many traces.
@@ -339,21 +351,55 @@ fn a_session_certifies_and_verifies(rt: HostRuntime) -> Result<(), Fail> {
     Ok(())
 }
 
-#[test]
-fn an_add_of_65_days_writes_nothing(rt: HostRuntime) -> Result<(), Fail> {
-    let alloc = rt.alloc();
-    let mut out = MemSink::new(alloc, 100, Vec::new(alloc), 1000)?;
+/// Makes the events of so many traces, each on a day of its own.
+fn on_days(alloc: Global, days: u32) -> Result<Vec<Event>, AllocError> {
     let mut events = Vec::new(alloc);
-    for day in 0..65u32 {
+    for day in 0..days.min(1000) {
         let request = format!(in alloc; "r{day}")?;
         let time = u64::from(day) * DAY;
         events.push(event(alloc, 2 * day + 1, request.as_str(), "a", "s", time)?)?;
         events.push(event(alloc, 2 * day + 2, request.as_str(), "a", "e", time + 5_000)?)?;
     }
+    Ok(events)
+}
+
+/// Counts its turns, one before each trace that is recorded.
+#[derive(Drop)]
+struct CountingGate {
+    turns: AtomicU64,
+}
+
+impl Gate for CountingGate {
+    fn turn(&self, _worker: u32, _trace: u32) {
+        self.turns.fetch_add(1, Ordering::SeqCst);
+    }
+}
+
+/// Adds so many days to a new session. Gives the fault and how many traces were recorded.
+fn add_days<R: Threads + Sync, S: Sink>(
+    rt: &R,
+    alloc: Global,
+    days: u32,
+    out: &mut S,
+) -> Result<(Option<CommandFault>, u64), AllocError> {
+    let gate = CountingGate {
+        turns: AtomicU64::new(0),
+    };
+    let events = on_days(alloc, days)?;
     let session = Session::new(alloc, 2)?;
-    let fault = add(&rt, session, events, &mut out).err();
-    assert_eq!(rt; fault, Some(CommandFault::TooManyDays { days: 65 }));
+    let fault = add_through(rt, session, events, out, &gate).err();
+    Ok((fault, gate.turns.load(Ordering::SeqCst)))
+}
+
+// No trace is recorded where there would be too many days.
+#[test]
+fn an_add_of_65_days_records_and_writes_nothing(rt: HostRuntime) -> Result<(), Fail> {
+    let alloc = rt.alloc();
+    let mut out = MemSink::new(alloc, 100, Vec::new(alloc), 1000)?;
+    let many = Some(CommandFault::TooManyDays { days: 65 });
+    assert_eq!(rt; add_days(&rt, alloc, 65, &mut out)?, (many, 0));
     assert_eq!(rt; out.bytes(), b"".as_slice());
+    assert_eq!(rt; add_days(&rt, alloc, 64, &mut out)?, (None, 64));
     Ok(())
 }
 

@@ -2,8 +2,10 @@
 use Rattle.std.specs.Prelude.{◌≡◌, ℕ, ◌+◌, ◌<◌, List, length, ⊤}
 use Rattle.batch_sheets.specs.declared.recording.DayLines.{DayLines}
 use Rattle.day_partitions.specs.Batches.{HasRoomFor, new_days, with_all}
-use Rattle.day_partitions.specs.Books.{IsBook}
+use Rattle.day_partitions.specs.Books.{BookState, IsBook}
 use Rattle.day_partitions.specs.declared.dated_sheet.DatedSheet.{DatedSheet}
+use Rattle.kept_books.specs.BookLaws.{AreSheetsOf}
+use Rattle.kept_books.specs.Shown.{AreShown}
 use Rattle.segment_names.specs.Limits.{IsKept, PassesLimit}
 use Rattle.segment_names.specs.declared.name_fault.NameFault.{NameFault}
 use Rattle.session_rules.specs.Parts.{IsPart, Part}
@@ -12,6 +14,7 @@ use Rattle.session_rules.specs.declared.limit.Limit.TheVariants.{Names, Tasks, D
 use Rattle.session_rules.specs.declared.refused.Refused.{Refused}
 use Rattle.text_rows.specs.TextsOfParts.{AreTexts}
 use Rattle.trace_types.specs.declared.event.Event.{Event}
+use Rattle.trace_types.specs.declared.named_trace.NamedTrace.{NamedTrace}
 use Rattle.trace_types.specs.declared.trace.Trace.{Trace}
 use Rattle.session.specs.AddLaws.{added_text}
 use Rattle.session.specs.SessionStates.{SessionState, Shows}
@@ -36,15 +39,26 @@ pub record AreBooked (old : SessionState) (valid : List Trace) (new : SessionSta
   pub room : HasRoomFor old.book sheets
   pub is : new ≡ session_with_book old (with_all old.book sheets)
 
--- the valid traces were recorded, and with their days there would be too many: so many
-pub record PassDays (old : SessionState) (valid : List Trace) (days : ℕ) : Type 0 where
-  pub book : IsBook old.book
+-- with sheets of the traces the book would have too many days: so many
+pub record LacksRoom (b : BookState) (named : List NamedTrace) (days : ℕ) : Type 0 where
+  pub book : IsBook b
   pub sheets : List DatedSheet
-  pub watched : List DayLines
-  pub recorded : AreSheets old.known old.workers old.watch (graced_by old.grace valid) sheets
-      watched
+  pub parts : AreSheetsOf sheets named
   pub many : most_days < days
-  pub count : days ≡ length old.book.days + new_days old.book.days sheets
+  pub count : days ≡ length b.days + new_days b.days sheets
+
+-- memory ran out, or the book would have so many days
+abbrev pub HasRoomCause : BookState → List NamedTrace → AddFault → Type 0
+HasRoomCause b named Memory = ⊤
+HasRoomCause b named (Over (Names count)) = ⊥
+HasRoomCause b named (Over (Tasks count)) = ⊥
+HasRoomCause b named (Over (Days days)) = LacksRoom b named days
+
+-- the valid traces are named, and with their days there would be too many: so many
+pub record PassDays (old : SessionState) (valid : List Trace) (days : ℕ) : Type 0 where
+  pub named : List NamedTrace
+  pub shown : AreShown old.known named (graced_by old.grace valid)
+  pub over : LacksRoom old.book named days
 
 -- memory ran out, or there would be so many days
 abbrev pub HasDaysCause : SessionState → List Trace → AddFault → Type 0

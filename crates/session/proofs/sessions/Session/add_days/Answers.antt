@@ -8,9 +8,22 @@ use Rattle.session.specs.SessionStates.{SessionState}
 use Rattle.session.specs.Sheets.{graced_by}
 use Rattle.session.specs.inner.AddFaults.{fault_of_sheets}
 use Rattle.session.specs.inner.AddSteps.{HasDaysCause}
-use Rattle.session.proofs.AddingLemmas.{days_cause, session_of}
+use Rattle.session.proofs.AddingLemmas.{days_cause, room_cause, session_of}
 use Rattle.session.proofs.CountLemmas.{count_after, same_names, sheets_for, shown_long}
 use Rattle.session.proofs.sessions.Session.add_days.Goals as goal
+
+pub record_batch-requires-clause-days : goal.record_batch-requires-clause-days
+record_batch-requires-clause-days g c κs within = rw (c.deref.ensures.value, sym c.deref-2.ensures.value) at c.in_ok-days.ensures.days
+
+pub returns-in_err-days-clause-cause : goal.returns-in_err-days-clause-cause
+returns-in_err-days-clause-cause g c =
+    let old = c.self.inside in
+    let fault = c.in_err-days.field-0.0 in
+    let p = err_from_is_err_and c.from_residual.result c.from_residual.ensures.1 in
+    rw (p.1, p.2) (λ valid given.
+    let shown = subst (λ (s : SessionState). AreShown s.known c.args.named.items (graced_by s.grace valid)) (sym c.self.view_is) given in
+    let cause = room_cause fault (session_of old.workers old.catalogue old.book old.watch old.grace) valid c.args.named.items shown (rw c.deref.ensures.value at c.in_err-days.ensures.cause) in
+    subst (λ (s : SessionState). HasDaysCause s valid fault) c.self.view_is cause)
 
 pub add_all-requires : goal.add_all-requires
 add_all-requires g c =
