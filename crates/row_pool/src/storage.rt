@@ -96,6 +96,8 @@ impl Storage {
         ensures ok { OnOk result
             (self.new ≡ self.old ++ replicate (length self.new - length self.old) 0) }
         ensures long { OnOk result (len ≤ length self.new) }
+        ensures same { len ≤ length self.old → length self.new ≡ length self.old }
+        ensures moved { OnOk result (length self.old < len → length self.new ≡ room) }
         ensures err { OnErr result (self.new ≡ self.old) }
     {
         let count = self.words().len();
