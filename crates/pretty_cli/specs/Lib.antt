@@ -1,0 +1,9 @@
+pub mod Contexts
+pub mod Dates
+pub mod Durations
+pub mod Fields
+pub mod Lines
+pub mod Orders
+pub mod Shown
+pub mod Texts
+pub mod Titles
