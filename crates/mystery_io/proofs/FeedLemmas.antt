@@ -8,7 +8,7 @@ use Rattle.mystery_io.specs.Input.{ends_line}
 use Rattle.mystery_io.specs.declared.feeder.Feeder.{Feeder}
 use Rattle.mystery_io.specs.inner.Feeding.{Feeds, Holds, KeepsBytes}
 
-some_not_none : (n : ℕ) → 0 < n → (n == 0) ≡ false
+pub some_not_none : (n : ℕ) → 0 < n → (n == 0) ≡ false
 some_not_none n lt = ne_eqb n 0 (λ none. omega (arith, lt, none))
 
 -- the last byte ends a line, or it does not

@@ -1,7 +1,7 @@
 pub mod ContentLemmas
-pub mod FaultLemmas
 pub mod FeedLemmas
+pub mod GivenLemmas
+pub mod HonestLemmas
 pub mod KnownLemmas
-pub mod NameLemmas
 pub mod NamedLemmas
-pub mod InputLemmas
+pub mod OpenLemmas

@@ -1,10 +1,13 @@
 pub mod Counts
 pub mod FilesState
+pub mod Histories
+pub mod Honest
 pub mod Input
 pub mod Intakes
 pub mod NamedBytes
 pub mod Prefixes
 pub mod ReadFaults
+pub mod Readings
 pub mod RealObjects
 pub mod SinkState
 pub mod Taken

@@ -1,12 +1,11 @@
--- What the real objects hold: the writer of a sink, and the open file.
+-- What the real objects hold and tell: the writer of a sink and what it took, the open file and what
+-- the calls gave.
 use Rattle.std.specs.Prelude.{ℕ, List, [], Option, Some, None}
+use Rattle.mystery_io.specs.Histories.{readings_of}
+use Rattle.mystery_io.specs.Readings.{Reading}
 use Rattle.mystery_io.specs.Taken.{bytes_of}
 use Rattle.mystery_io.specs.declared.real_files.RealFiles.{RealFiles}
 use Rattle.mystery_io.specs.declared.real_sink.RealSink.{RealSink}
-
--- what a real object tells of its bytes: nothing
-abbrev pub untold : Option (List ℕ)
-untold = None
 
 -- the writer that a sink sends to
 abbrev pub writer_of : {W : Type 0} → RealSink W → W
@@ -19,6 +18,10 @@ sink_taken sink = bytes_of sink.taken
 -- how many of its writes failed
 abbrev pub sink_faults : {W : Type 0} → RealSink W → ℕ
 sink_faults sink = sink.faults
+
+-- what its calls gave, which it tells in proofs alone
+abbrev pub files_given : {R F D : Type 0} → RealFiles R F D → List Reading
+files_given files = readings_of files.history
 
 -- the file that is open
 abbrev pub open_file : {R F D : Type 0} → RealFiles R F D → Option F

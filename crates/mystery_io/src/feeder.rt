@@ -1,8 +1,8 @@
 ghost use Rattle.std.specs.Prelude.{◌≡◌, ◌+◌, ◌<◌, ◌≤◌, ◌∷◌, [], drop, length, take, vec_len};
 ghost use Rattle.std.specs.Prelude.{IfOk, OnOk, OnErr, true};
-ghost use Rattle.std.specs.Io.KnownBytes.{prepend_known, IsAtEnd};
 ghost use Rattle.mystery_io.specs.Counts.{faults_after};
 ghost use Rattle.mystery_io.specs.Input.{input_limit};
+ghost use Rattle.mystery_io.specs.Readings.{after_read};
 ghost use Rattle.mystery_io.specs.inner.Feeding.{Feeds, Holds, IsFeeder, KeepsBytes};
 
 use crate::{Failed, Files, Intake};
@@ -34,19 +34,17 @@ pub(crate) fn fill<F: Files>(
     buffer: &mut [u8],
     filled: usize,
 ) -> Result<usize, Failed>
-    requires { filled < length buffer.old }
-    ensures contents { F.contents files.new ≡ F.contents files.old }
-    ensures is_open { F.is_open files.new ≡ F.is_open files.old }
-    ensures named { F.names files.new ≡ F.names files.old }
+    requires some { filled < length buffer.old }
+    requires open { F.is_open files.old ≡ true }
+    ensures is_open { F.is_open files.new ≡ true }
     ensures opens { F.opens files.new ≡ F.opens files.old }
     ensures tallied { F.faults files.new ≡ faults_after result (F.faults files.old) }
     ensures within { IfOk result (λ n. filled + n ≤ length buffer.new) }
     ensures length { length buffer.new ≡ length buffer.old }
     ensures kept { take filled buffer.new ≡ take filled buffer.old }
-    ensures takes { IfOk result (λ n. F.left files.old
-        ≡ prepend_known (take n (drop filled buffer.new)) (F.left files.new)) }
-    ensures end { IfOk result (λ n. n ≡ 0 → IsAtEnd (F.left files.new)) }
-    ensures stays { OnErr result (F.left files.new ≡ F.left files.old) }
+    ensures gives { IfOk result (λ n. F.given files.new
+        ≡ after_read (F.given files.old) (take n (drop filled buffer.new))) }
+    ensures stays { OnErr result (F.given files.new ≡ F.given files.old) }
 {
     files.read(&mut buffer[filled..])
 }

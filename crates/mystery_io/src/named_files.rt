@@ -74,6 +74,13 @@ impl NamedFiles {
         count
     }
 
+    /// Tells whether a file is open.
+    pub(crate) fn is_open(&self) -> bool
+        ensures { result ≡ self.now.is_open }
+    {
+        self.opened.is_some()
+    }
+
     /// Returns what is left of the open file.
     fn rest(&self) -> &[u8]
         ensures { result.now ≡ self.now.left }

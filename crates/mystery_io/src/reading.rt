@@ -1,13 +1,11 @@
-ghost use Rattle.std.specs.Prelude.{◌≡◌, ◌<◌, ◌≤◌, ◌+◌, ◌∷◌, [], ◌^◌, List, ℕ, length, option_map};
-ghost use Rattle.std.specs.Prelude.{IfOk, IfErr, IfSome, OnOk, true};
-ghost use Rattle.std.specs.Io.KnownBytes.{prepend_known, IsAtEnd};
-ghost use Rattle.mystery_io.specs.Input.{ended, input_limit, input_of};
+ghost use Rattle.std.specs.Prelude.{◌≡◌, ◌<◌, ◌≤◌, ◌+◌, ◌==◌, [], ◌^◌, ℕ, length, false, true};
+ghost use Rattle.std.specs.Prelude.{IfOk, IfErr, OnOk};
+ghost use Rattle.mystery_io.specs.Input.{input_limit, input_read};
 ghost use Rattle.mystery_io.specs.Counts.{counted_up};
-ghost use Rattle.mystery_io.specs.Intakes.{TakesInput};
-ghost use Rattle.mystery_io.specs.ReadFaults.{append_names, files_seen, OpensFirst, HasReadCause};
-ghost use Rattle.mystery_io.specs.ReadFaults.{read_faults};
-ghost use Rattle.mystery_io.specs.inner.Feeding.{EndsLine, FeedsContent, FeedsPiece, IsFeeder};
-ghost use Rattle.mystery_io.specs.inner.FileCauses.{HasFileCause, HasEndedCause, IsPassedByFeed};
+ghost use Rattle.mystery_io.specs.ReadFaults.{files_seen, OpensFirst, HasReadCause, read_faults};
+ghost use Rattle.mystery_io.specs.Readings.{AreEnded, OnlyGrow, new_readings};
+ghost use Rattle.mystery_io.specs.inner.Feeding.{EndsLine, FeedsBytes, FeedsFile, IsFeeder};
+ghost use Rattle.mystery_io.specs.inner.FileCauses.{HasFileCause, HasRestCause, IsPassedByFeed};
 
 use crate::feeder::{Feeder, fill};
 use crate::{Files, Intake};
@@ -59,19 +57,17 @@ fn read_piece<F: Files, I: Intake + Drop>(
     index: u32,
     feeder: &mut Feeder<I>,
 ) -> Result<usize, ReadFault>
-    requires { IsFeeder I.room I.ready feeder.old }
-    ensures contents { F.contents files.new ≡ F.contents files.old }
-    ensures is_open { F.is_open files.new ≡ F.is_open files.old }
-    ensures named { F.names files.new ≡ F.names files.old }
+    requires sound { IsFeeder I.room I.ready feeder.old }
+    requires open { F.is_open files.old ≡ true }
+    ensures is_open { F.is_open files.new ≡ true }
     ensures opens { F.opens files.new ≡ F.opens files.old }
     ensures tallied { F.faults files.new ≡ read_faults result (F.faults files.old) }
     ensures sound { OnOk result (IsFeeder I.room I.ready feeder.new) }
     ensures count { IfOk result (λ n. feeder.new.count ≡ feeder.old.count + n) }
-    ensures takes { OnOk result (FeedsPiece I.took feeder.old feeder.new
-        (F.left files.old) (F.left files.new)) }
-    ensures end { IfOk result (λ n. n ≡ 0 → IsAtEnd (F.left files.new)) }
+    ensures takes { IfOk result (λ n. FeedsBytes I.took feeder.old feeder.new
+        (F.given files.old) (F.given files.new) (n == 0)) }
     ensures cause { IfErr result
-        (HasFileCause index feeder.old.count (F.left files.old) (F.left files.new)) }
+        (HasRestCause index feeder.old.count (F.given files.old) (F.given files.new)) }
 {
     feeder.make_room()?;
     let filled = feeder.filled;
@@ -91,17 +87,15 @@ fn read_rest<F: Files, I: Intake + Drop>(
     index: u32,
     feeder: &mut Feeder<I>,
 ) -> Result<(), ReadFault>
-    requires { IsFeeder I.room I.ready feeder.old }
-    ensures contents { F.contents files.new ≡ F.contents files.old }
-    ensures is_open { F.is_open files.new ≡ F.is_open files.old }
-    ensures named { F.names files.new ≡ F.names files.old }
+    requires sound { IsFeeder I.room I.ready feeder.old }
+    requires open { F.is_open files.old ≡ true }
     ensures opens { F.opens files.new ≡ F.opens files.old }
     ensures tallied { F.faults files.new ≡ read_faults result (F.faults files.old) }
     ensures sound { OnOk result (IsFeeder I.room I.ready feeder.new) }
-    ensures takes { OnOk result (FeedsContent I.took feeder.old feeder.new (F.left files.old)) }
-    ensures end { OnOk result (IsAtEnd (F.left files.new)) }
+    ensures takes { OnOk result (FeedsBytes I.took feeder.old feeder.new
+        (F.given files.old) (F.given files.new) true) }
     ensures cause { IfErr result
-        (HasFileCause index feeder.old.count (F.left files.old) (F.left files.new)) }
+        (HasRestCause index feeder.old.count (F.given files.old) (F.given files.new)) }
 {
     loop {
         let count = read_piece(files, index, feeder)?;
@@ -140,18 +134,14 @@ fn read_file<F: Files, I: Intake + Drop>(
 ) -> Result<(), ReadFault>
     requires sound { IsFeeder I.room I.ready feeder.old }
     requires lines { feeder.old.ends_line ≡ true }
-    ensures contents { F.contents files.new ≡ F.contents files.old }
-    ensures named { F.names files.new ≡ append_names (F.names files.old) (name.now ∷ []) }
     ensures opens { F.opens files.new ≡ counted_up (F.opens files.old) }
     ensures tallied { F.faults files.new ≡ read_faults result (F.faults files.old) }
     ensures sound { OnOk result (IsFeeder I.room I.ready feeder.new) }
     ensures lines { OnOk result (feeder.new.ends_line ≡ true) }
-    ensures takes { OnOk result (FeedsContent I.took feeder.old feeder.new
-        (option_map (λ c. ended (c name.now)) (F.contents files.old))) }
-    ensures end { OnOk result (IsAtEnd (F.left files.new)) }
-    ensures cause { IfErr result (HasEndedCause index feeder.old.count
-        (option_map (λ c. c name.now) (F.contents files.old)) (F.left files.new)
-        (F.is_open files.new)) }
+    ensures takes { OnOk result (FeedsFile I.took feeder.old feeder.new name.now
+        (F.given files.old) (F.given files.new)) }
+    ensures cause { IfErr result
+        (HasFileCause index feeder.old.count name.now (F.given files.old) (F.given files.new)) }
 {
     if files.open(name.as_str()).is_err() {
         return Err(ReadFault::File { index });
@@ -178,15 +168,17 @@ pub fn read_into<F: Files, I: Intake + Drop>(
     requires room { input_limit ≤ I.room intake }
     requires ready { I.ready intake }
     ensures input { IfOk result
-        (λ new. TakesInput I.took new (F.contents files.old) names.now) }
-    ensures end { OnOk result (0 < length names.now → IsAtEnd (F.left files.new)) }
+        (λ new. I.took new (input_read (new_readings (F.given files.old) (F.given files.new)))) }
+    ensures fits { OnOk result
+        (length (input_read (new_readings (F.given files.old) (F.given files.new)))
+        ≤ input_limit) }
+    ensures ended { OnOk result (AreEnded (new_readings (F.given files.old) (F.given files.new))) }
     ensures opened { OnOk result
-        (OpensFirst (files_seen F.contents F.left F.is_open F.names F.opens files.old files.new)
-        names.now (length names.now)) }
+        (OpensFirst (files_seen F.given F.opens files.old files.new) names.now
+        (length names.now)) }
     ensures cause { IfErr result
-        (HasReadCause (files_seen F.contents F.left F.is_open F.names F.opens files.old files.new)
-        names.now) }
-    ensures contents { F.contents files.new ≡ F.contents files.old }
+        (HasReadCause (files_seen F.given F.opens files.old files.new) names.now) }
+    ensures grows { OnlyGrow (F.given files.old) (F.given files.new) }
     ensures tallied { F.faults files.new ≡ read_faults result (F.faults files.old) }
 {
     let mut feeder = Feeder::new(alloc, intake, most)?;
@@ -206,17 +198,16 @@ pub fn read_all<F: Files>(
     names: &[Text],
 ) -> Result<Vec<u8>, ReadFault>
     requires { length names.now < 2 ^ 32 }
-    ensures input { IfOk result
-        (λ v. IfSome (F.contents files.old) (λ c. v.items ≡ input_of c names.now)) }
+    ensures input { IfOk result (λ v. v.items
+        ≡ input_read (new_readings (F.given files.old) (F.given files.new))) }
     ensures fits { IfOk result (λ v. length v.items ≤ input_limit) }
-    ensures end { OnOk result (0 < length names.now → IsAtEnd (F.left files.new)) }
+    ensures ended { OnOk result (AreEnded (new_readings (F.given files.old) (F.given files.new))) }
     ensures opened { OnOk result
-        (OpensFirst (files_seen F.contents F.left F.is_open F.names F.opens files.old files.new)
-        names.now (length names.now)) }
+        (OpensFirst (files_seen F.given F.opens files.old files.new) names.now
+        (length names.now)) }
     ensures cause { IfErr result
-        (HasReadCause (files_seen F.contents F.left F.is_open F.names F.opens files.old files.new)
-        names.now) }
-    ensures contents { F.contents files.new ≡ F.contents files.old }
+        (HasReadCause (files_seen F.given F.opens files.old files.new) names.now) }
+    ensures grows { OnlyGrow (F.given files.old) (F.given files.new) }
     ensures tallied { F.faults files.new ≡ read_faults result (F.faults files.old) }
 {
     read_into(alloc, files, names, Vec::new(alloc), PIECE)

@@ -3,8 +3,8 @@ ghost use Rattle.mystery_io.specs.Taken.{bytes_of};
 
 use std::snapshot::Snapshot;
 
-/// The bytes that a sink took so far, in proofs alone: a list in which the latest stands outermost.
-/// At run time it is one byte.
+/// Bytes in proofs alone, as those that a sink took so far: a list in which the latest stands
+/// outermost. At run time it is one byte.
 #[derive(Drop)]
 pub enum Taken {
     Nothing,
@@ -31,5 +31,14 @@ impl Taken {
         for byte in piece {
             self.push(*byte);
         }
+    }
+
+    /// Notes these bytes alone.
+    pub(crate) fn of(piece: &[u8]) -> Taken
+        ensures { bytes_of result ≡ piece.now }
+    {
+        let mut taken = Taken::Nothing;
+        taken.add(piece);
+        taken
     }
 }

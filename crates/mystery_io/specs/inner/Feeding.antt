@@ -1,8 +1,8 @@
 -- Bytes that are kept in a buffer on their way to an intake.
 use Rattle.std.specs.Prelude.{ℕ, ◌≡◌, ◌+◌, ◌++◌, ◌<◌, ◌≤◌, List, [], ◌∷◌, length, take, vec_len}
-use Rattle.std.specs.Prelude.{Option, IfSome, if◌then◌else◌}
-use Rattle.std.specs.Io.KnownBytes.{prepend_known}
-use Rattle.mystery_io.specs.Input.{ends_line, input_limit}
+use Rattle.std.specs.Prelude.{Bool, true, map, if◌then◌else◌}
+use Rattle.mystery_io.specs.Input.{ended, ends_line, input_limit, input_read}
+use Rattle.mystery_io.specs.Readings.{AreEnded, Reading, after_bytes}
 use Rattle.mystery_io.specs.declared.feeder.Feeder.{Feeder}
 
 -- the buffer has bytes, the numbers are in their limits, and the intake takes what may still come
@@ -36,19 +36,30 @@ pub record Feeds {I : Type 0} (took : I → List ℕ → Type 0) (old : Feeder I
   pub ended : (bytes : List ℕ) → old.ends_line ≡ ends_line bytes
       → new.ends_line ≡ ends_line (bytes ++ more)
 
--- the first bytes of what is left of a file come
-pub record FeedsPiece {I : Type 0} (took : I → List ℕ → Type 0) (old new : Feeder I)
-    (left_before left_now : Option (List ℕ)) : Type 0 where
+-- bytes of the open file come, and with `ends` its end
+pub record FeedsBytes {I : Type 0} (took : I → List ℕ → Type 0) (old new : Feeder I)
+    (given_before given_now : List Reading) (ends : Bool) : Type 0 where
   pub more : List ℕ
   pub feeds : Feeds took old more new
-  pub known : left_before ≡ prepend_known more left_now
+  pub given : given_now ≡ after_bytes given_before more ends
 
--- a content comes, where it is told
-pub record FeedsContent {I : Type 0} (took : I → List ℕ → Type 0) (old new : Feeder I)
-    (content : Option (List ℕ)) : Type 0 where
+-- a file of this name comes that was read to its end, with the end of its last line
+pub record FeedsFile {I : Type 0} (took : I → List ℕ → Type 0) (old new : Feeder I)
+    (name : List ℕ) (given_before given_now : List Reading) : Type 0 where
   pub more : List ℕ
-  pub feeds : Feeds took old more new
-  pub known : IfSome content (λ xs. more ≡ xs)
+  pub feeds : Feeds took old (ended more) new
+  pub given :
+      given_now ≡ given_before ++ record { name = name; bytes = more; at_end = true } ∷ []
+
+-- files of these names were read to their ends, and these are all bytes so far: their input
+pub record HasRead {I : Type 0} (took : I → List ℕ → Type 0) (f : Feeder I)
+    (names : List (List ℕ)) (given_before given_now : List Reading) : Type 0 where
+  pub readings : List Reading
+  pub given : given_now ≡ given_before ++ readings
+  pub named : map (λ (r : Reading). r.name) readings ≡ names
+  pub ended : AreEnded readings
+  pub holds : Holds took f (input_read readings)
+  pub counted : f.count ≡ length (input_read readings)
 
 -- a line feed comes, unless the last line has ended
 abbrev pub EndsLine : {I : Type 0} → (I → List ℕ → Type 0) → Feeder I → Feeder I → Type 0

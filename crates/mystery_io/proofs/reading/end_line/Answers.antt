@@ -1,4 +1,4 @@
-use Rattle.mystery_io.proofs.ContentLemmas.{feed_came, line_ended, no_feed_came}
+use Rattle.mystery_io.proofs.ContentLemmas.{feed_came, line_ended}
 use Rattle.mystery_io.proofs.FeedLemmas.{feeds_after}
 use Rattle.mystery_io.proofs.reading.end_line.Goals as goal
 
