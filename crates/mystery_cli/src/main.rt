@@ -1,9 +1,10 @@
 //! The program `mystery`: it learns from logged events how the segments of requests depend on each
-//! other. `mystery_run::run` is the whole program; `main` gives it the real files and streams.
+//! other. `mystery_run::run_real` is the whole program over the real files and streams; `main` gives it the
+//! arguments and ends with its status.
 #![tactic(auto)]
 
-use mystery_io::{OpenGate, RealFiles, RealSink, send_text};
-use mystery_run::{Outcome, run};
+use mystery_io::{RealSink, send_text};
+use mystery_run::{Outcome, run_real};
 use std::alloc::{AllocError, Global};
 use std::env;
 use std::io::ErrorKind;
@@ -26,17 +27,14 @@ fn collect_arguments(rt: &HostRuntime, alloc: Global) -> Result<Vec<Text>, Alloc
     Ok(words)
 }
 
-/// Runs the program over the real files, standard output and standard error.
+/// Runs the program over the real files, standard output and standard error, and ends with its status.
 fn main(rt: HostRuntime) -> ExitCode {
     let alloc = rt.alloc();
-    let mut files = RealFiles::new(&rt);
-    let mut out = RealSink::new(rt.stdout());
-    let mut err = RealSink::new(rt.stderr());
     let Ok(words) = collect_arguments(&rt, alloc) else {
+        let mut err = RealSink::new(rt.stderr());
         send_text(&mut err, Outcome::Memory.message().as_str().as_bytes());
         return ExitCode::from(Outcome::Memory.status());
     };
-    ExitCode::from(run(
-        &rt, alloc, &words, &mut files, &mut out, &mut err, &OpenGate,
-    ))
+    let (status, _, _, _) = run_real(&rt, alloc, &words, rt.stdout(), rt.stderr());
+    ExitCode::from(status)
 }

@@ -1,13 +1,13 @@
 -- Arguments, a certificate and an input decide how a run ends that meets no fault and finds memory.
 use Rattle.std.proofs.Common.{◌≡◌, ◌⊎◌, ℕ, List, Option, Some, None, refl, sym, ◌∙◌, ap, subst, inl, inr}
-use Rattle.std.specs.Prelude.{IfSome, Result, Ok, Err}
+use Rattle.std.specs.Prelude.{Result, Ok, Err}
+use Rattle.mystery_io.specs.ReadFaults.{FilesSeen}
 use Rattle.session_rules.specs.declared.limit.Limit.{Limit}
 use Rattle.mystery_run.specs.declared.outcome.Outcome.{Outcome}
 use Rattle.mystery_run.specs.declared.outcome.Outcome.TheVariants.{Done, Memory, Arguments, BadLine, File, Write, Size, Over}
-use Rattle.mystery_run.specs.CommandLines.{Call, call_of, certificate_of, files_of}
+use Rattle.mystery_run.specs.CommandLines.{Call, call_of}
 use Rattle.mystery_run.specs.Endings.{CallEnds, Ends, CallEndsAt, IsDecided, Writes}
 use Rattle.mystery_run.specs.Messages.{status_of}
-use Rattle.mystery_run.specs.Readings.{told_input}
 use Rattle.mystery_run.specs.Runs.{OfInputs}
 use Rattle.mystery_run.specs.Texts.{IsTextOf, IsTextUpTo}
 use Rattle.mystery_run.specs.Works.{BadInput, Work, Jobs, Steps, work_said}
@@ -138,16 +138,9 @@ module _ (one : HaveOneEnding) where
   decided_as words cert input (File i) p n t u s d h k = inr (inr (inl s))
   decided_as words cert input Write p n t u s d h k = inr (inr (inr s))
 
-  decided_of : (a b : Option (List ℕ)) (words : List (List ℕ)) (old new : Option (List ℕ)) (o : Outcome) (n : ℕ) → n ≡ status_of o
-      → IfSome a (λ cert. IfSome b (λ input. (text : List ℕ) × Ends words cert input o text × Writes o old new text))
-      → IfSome a (λ cert. IfSome b (λ input. (p : Outcome) (u : List ℕ) → IsDecided p → Ends words cert input p u → (n ≡ status_of p) ⊎ (n ≡ 1) ⊎ (n ≡ 4) ⊎ (n ≡ 5)))
-  decided_of None b words old new o n s h = tt
-  decided_of (Some cert) None words old new o n s h = tt
-  decided_of (Some cert) (Some input) words old new o n s h = λ p u d k. decided_as words cert input o p n h.0 u s d h.1 k
-
-  pub decided_by : (contents : Option (List ℕ → List ℕ)) (words : List (List ℕ)) (old new : Option (List ℕ)) (o : Outcome) (n : ℕ) → n ≡ status_of o → OfInputs contents words (λ cert input. (text : List ℕ) × Ends words cert input o text × Writes o old new text)
-      → OfInputs contents words (λ cert input. (p : Outcome) (u : List ℕ) → IsDecided p → Ends words cert input p u → (n ≡ status_of p) ⊎ (n ≡ 1) ⊎ (n ≡ 4) ⊎ (n ≡ 5))
-  decided_by contents words old new o n s h = decided_of (told_input contents (certificate_of words)) (told_input contents (files_of words)) words old new o n s h
+  pub decided_by : (seen : FilesSeen) (words : List (List ℕ)) (old new : Option (List ℕ)) (o : Outcome) (n : ℕ) → n ≡ status_of o → OfInputs seen words (λ cert input. (text : List ℕ) × Ends words cert input o text × Writes o old new text)
+      → OfInputs seen words (λ cert input. (p : Outcome) (u : List ℕ) → IsDecided p → Ends words cert input p u → (n ≡ status_of p) ⊎ (n ≡ 1) ⊎ (n ≡ 4) ⊎ (n ≡ 5))
+  decided_by seen words old new o n s h = λ p u d k. decided_as words _ _ o p n h.0 u s d h.1 k
 
 -- two texts of one ending are one, or alike
 module _ (whole : WholeTextsAreAlike) (limited : TextsToLimitAreAlike) where

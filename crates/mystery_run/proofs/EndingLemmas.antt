@@ -1,12 +1,12 @@
 -- How the outcome of an input that was read is that of the run.
-use Rattle.std.proofs.Common.{◌≡◌, ◌⊎◌, ℕ, ◌+◌, ◌++◌, ◌<◌, ◌≤◌, List, [], length, true, Option, Some, None, ap, refl, sym, subst, inl, inr}
-use Rattle.std.specs.Prelude.{IfSome, Result, Ok, Err}
-use Rattle.std.specs.Io.KnownBytes.{IsAtEnd}
+use Rattle.std.proofs.Common.{◌≡◌, ◌⊎◌, ℕ, ◌+◌, ◌++◌, List, [], drop, length, take, true, Option, Some, None, ap, refl, sym, subst, inl, inr}
+use Rattle.std.specs.Prelude.{Result, Ok, Err}
 use Rattle.certificates.specs.Certificates.{certificate_said}
 use Rattle.certificates.specs.declared.claim.Claim.{Claim}
 use Rattle.mystery_io.specs.Prefixes.{AppendsPrefix}
-use Rattle.mystery_io.specs.Input.{input_limit}
+use Rattle.mystery_io.specs.Input.{input_read}
 use Rattle.mystery_io.specs.ReadFaults.{OpensFirst}
+use Rattle.mystery_io.specs.Readings.{AreEnded}
 use Rattle.job_runs.specs.Running.{WritesWhole}
 use Rattle.session_rules.specs.Sessions.{first_state}
 use Rattle.session_rules.specs.declared.job.Job.{Job}
@@ -14,12 +14,12 @@ use Rattle.mystery_run.specs.declared.outcome.Outcome.{Outcome}
 use Rattle.mystery_run.specs.declared.outcome.Outcome.TheVariants.{Done, Memory, Arguments, BadLine, File, Write, Size, Over}
 use Rattle.mystery_run.specs.CommandLines.{Call, all_files_of, call_of, certificate_of, certificate_of_action, files_of, files_of_action, is_in_grammar}
 use Rattle.mystery_run.specs.Endings.{CallEnds, Ends, CallEndsAt, Writes}
-use Rattle.mystery_run.specs.Readings.{FailsAt, FitsSize, PassesAt, PassesSize, told_input}
+use Rattle.mystery_run.specs.Readings.{FailsAt, FitsSize, PassesAt, PassesSize}
 use Rattle.mystery_run.specs.ReplayTexts.{replay_text}
 use Rattle.mystery_run.specs.Runs.{Seen, OfInputs, ReadsAll, EndsAs, Reads, Explains}
 use Rattle.mystery_run.specs.Works.{BadInput, Work, Jobs, Steps, work_after, work_said}
 use Rattle.mystery_run.specs.inner.InputEnds.{InputEnds, SaidEnds}
-use Rattle.mystery_run.proofs.ReadingLemmas.{both_told, opens_to_failed, opens_to_passed, told_twice, too_big}
+use Rattle.mystery_run.proofs.ReadingLemmas.{opens_to_failed, opens_to_passed, too_big}
 use Rattle.mystery_run.proofs.ReplayLemmas.{unbegun}
 
 -- a run that ran out of memory before it wrote anything
@@ -35,23 +35,6 @@ no_memory workers (Err bad) old = ([], (inr refl, refl), unbegun old [])
 -- jobs that were carried out
 pub whole_ends : (workers : ℕ) (jobs : List Job) (old new : Option (List ℕ)) → WritesWhole workers jobs old new → InputEnds workers (Ok (Jobs jobs)) Done old new
 whole_ends workers jobs old new h = (h.1, (h.0, h.2), h.3)
-
--- what holds of every input holds of those that are told
-some_any : (a b : Option (List ℕ)) (P : List ℕ → List ℕ → Type 0) → ((x y : List ℕ) → P x y) → IfSome a (λ x. IfSome b (P x))
-some_any None b P f = tt
-some_any (Some x) None P f = tt
-some_any (Some x) (Some y) P f = f x y
-
-some_map : (a b : Option (List ℕ)) (P Q : List ℕ → List ℕ → Type 0) → ((x y : List ℕ) → P x y → Q x y) → IfSome a (λ x. IfSome b (P x)) → IfSome a (λ x. IfSome b (Q x))
-some_map None b P Q f h = tt
-some_map (Some x) None P Q f h = tt
-some_map (Some x) (Some y) P Q f h = f x y h
-
-any_inputs : (contents : Option (List ℕ → List ℕ)) (words : List (List ℕ)) (P : List ℕ → List ℕ → Type 0) → ((cert input : List ℕ) → P cert input) → OfInputs contents words P
-any_inputs contents words P f = some_any (told_input contents (certificate_of words)) (told_input contents (files_of words)) P f
-
-of_inputs : (contents : Option (List ℕ → List ℕ)) (words : List (List ℕ)) (P Q : List ℕ → List ℕ → Type 0) → ((cert input : List ℕ) → P cert input → Q cert input) → OfInputs contents words P → OfInputs contents words Q
-of_inputs contents words P Q f h = some_map (told_input contents (certificate_of words)) (told_input contents (files_of words)) P Q f h
 
 -- the call of the arguments is known
 module _ (s : Seen) (call : Call) (known : Some call ≡ call_of s.words) where
@@ -71,14 +54,13 @@ module _ (s : Seen) (call : Call) (known : Some call ≡ call_of s.words) where
   pub explains_memory : (count : ℕ) × OpensFirst s.files (certificate_of_action call.action ++ files_of_action call.action) count → s.written_now ≡ s.written_before → Explains Memory s
   explains_memory opened same = record {
     reads = (in_grammar, rw (certificate_named, files_named) opened);
-    ends = any_inputs s.files.contents s.words (λ cert input. (text : List ℕ) × Ends s.words cert input Memory text × Writes Memory s.written_before s.written_now text)
-        (λ cert input. ([], ends_at cert input Memory [] (inl refl), subst (λ now. AppendsPrefix s.written_before now []) (sym same) (unbegun s.written_before [])));
+    ends = ([], ends_at _ _ Memory [] (inl refl), subst (λ now. AppendsPrefix s.written_before now []) (sym same) (unbegun s.written_before []));
   }
 
   pub explains_file : (index : ℕ) → FailsAt s.files (certificate_of_action call.action) (files_of_action call.action) index → s.written_now ≡ s.written_before → Explains (File index) s
   explains_file index failed same = record {
     reads = (in_grammar, rw (certificate_named, files_named) failed);
-    ends = any_inputs s.files.contents s.words (λ cert input. (text : List ℕ) × Ends s.words cert input (File index) text × Writes (File index) s.written_before s.written_now text) (λ cert input. ([], ends_at cert input (File index) [] refl, same));
+    ends = ([], ends_at _ _ (File index) [] refl, same);
   }
 
   -- the certificate or the input passes the limit
@@ -87,8 +69,7 @@ module _ (s : Seen) (call : Call) (known : Some call ≡ call_of s.words) where
       let there : (index : ℕ) × PassesAt s.files (certificate_of s.words) (files_of s.words) index = rw (certificate_named, files_named) passed in
       record {
         reads = (in_grammar, there);
-        ends = of_inputs s.files.contents s.words PassesSize (λ cert input. (text : List ℕ) × Ends s.words cert input Size text × Writes Size s.written_before s.written_now text)
-            (λ cert input big. ([], ends_at cert input Size [] (big, refl), same)) (too_big s.files (certificate_of s.words) (files_of s.words) there.0 there.1);
+        ends = ([], ends_at _ _ Size [] (too_big s.files (certificate_of s.words) (files_of s.words) there.0 there.1, refl), same);
       }
 
 -- how the input of a call ends, by what was said
@@ -128,33 +109,26 @@ said_reads s workers (Ok work) Size text all h = absurd h
 said_reads s workers (Err bad) o text all h = bad_reads s bad o all h.0
 
 -- what was read is the certificate and the input of the arguments
-module _ (s : Seen) (call : Call) (known : Some call ≡ call_of s.words) (said : Result (List Claim) ℕ) (input : List ℕ) (le : length input ≤ input_limit) where
-  abbrev IsRead : List ℕ → Type 0
-  IsRead cert = (certificate_said cert ≡ said) × (length cert ≤ input_limit)
+module _ (s : Seen) (call : Call) (known : Some call ≡ call_of s.words) (said : Result (List Claim) ℕ) (cert input : List ℕ) (read : certificate_said cert ≡ said) (fits : FitsSize cert input) where
+  ends_read : (o : Outcome) (text : List ℕ) → SaidEnds call.workers (work_after call.action said input) o text → Ends s.words cert input o text
+  ends_read o text h =
+      let e : work_said call.action cert input ≡ work_after call.action said input = ap (λ said. work_after call.action said input) read in
+      ends_at s call known cert input o text (said_ends call cert input fits (work_after call.action said input) e o text h)
 
-  ends_read : (o : Outcome) (text cert i : List ℕ) → IsRead cert → input ≡ i → SaidEnds call.workers (work_after call.action said input) o text → Ends s.words cert i o text
-  ends_read o text cert i read same h =
-      let e : work_said call.action cert input ≡ work_after call.action said input = ap (λ said. work_after call.action said input) read.0 in
-      let here : CallEnds call cert input o text = said_ends call cert input (read.1, le) (work_after call.action said input) e o text h in
-      ends_at s call known cert i o text (subst (λ j. CallEnds call cert j o text) same here)
-
-  pub explains_read : (o : Outcome) → IfSome (told_input s.files.contents (certificate_of_action call.action)) (λ cert. certificate_said cert ≡ said) → IfSome (told_input s.files.contents (certificate_of_action call.action)) (λ cert. length cert ≤ input_limit)
-      → IfSome (told_input s.files.contents (files_of_action call.action)) (λ i. input ≡ i) → ReadsAll s
+  pub explains_read : (o : Outcome) → cert ≡ input_read (take (length (certificate_of_action call.action)) s.files.readings) → input ≡ input_read (drop (length (certificate_of_action call.action)) s.files.readings) → ReadsAll s
       → InputEnds call.workers (work_after call.action said input) o s.written_before s.written_now → Explains o s
-  explains_read o cert fits told all h = record {
+  explains_read o first rest all h = record {
     reads = said_reads s call.workers (work_after call.action said input) o h.0 all h.1;
-    ends = rw (certificate_named s call known, files_named s call known) (both_told (told_input s.files.contents (certificate_of_action call.action)) (told_input s.files.contents (files_of_action call.action)) IsRead (λ i. input ≡ i)
-        (λ c i. (text : List ℕ) × Ends s.words c i o text × Writes o s.written_before s.written_now text)
-        (λ c i read same. (h.0, ends_read o h.0 c i read same h.1, h.2)) (told_twice (told_input s.files.contents (certificate_of_action call.action)) (λ c. certificate_said c ≡ said) (λ c. length c ≤ input_limit) cert fits) told);
+    ends = rw (certificate_named s call known, ← first, ← rest) (h.0, ends_read o h.0 h.1, h.2);
   }
 
 -- what was read of the files of a call
 pub reads_all : (s : Seen) (call : Call) (known : Some call ≡ call_of s.words) → OpensFirst s.files (certificate_of_action call.action ++ files_of_action call.action) (length (certificate_of_action call.action ++ files_of_action call.action))
-    → (0 < length (certificate_of_action call.action ++ files_of_action call.action) → IsAtEnd s.files.left) → ReadsAll s
-reads_all s call known opened at_end = record {
+    → AreEnded s.files.readings → ReadsAll s
+reads_all s call known opened ended = record {
   called = in_grammar s call known;
   opened = rw (certificate_named s call known, files_named s call known) opened;
-  at_end = rw (certificate_named s call known, files_named s call known) at_end;
+  ended = ended;
 }
 
 -- whatever the outcome, the first files were opened, so many
@@ -175,6 +149,5 @@ size_at None cert input text h =
     cc
 size_at (Some call) cert input text h = h.0
 
-pub size_passed : (s : Seen) → EndsAs Size s → OfInputs s.files.contents s.words PassesSize
-size_passed s h = of_inputs s.files.contents s.words (λ cert input. (text : List ℕ) × Ends s.words cert input Size text × Writes Size s.written_before s.written_now text) PassesSize
-    (λ cert input q. size_at (call_of s.words) cert input q.0 q.1) h
+pub size_passed : (s : Seen) → EndsAs Size s → OfInputs s.files s.words PassesSize
+size_passed s h = size_at (call_of s.words) _ _ h.0 h.1

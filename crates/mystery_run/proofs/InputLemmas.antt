@@ -1,22 +1,20 @@
 -- What was read of an input, and what its bytes say.
 use Rattle.std.proofs.Common.{◌≡◌, ◌<◌, ◌≤◌, ℕ, List, [], ◌++◌, length, Option, Result, Ok, Err, arith, ap, refl, subst, sym, ◌∙◌, append-nil, append_assoc}
-use Rattle.std.specs.Prelude.{IfSome, Vec}
+use Rattle.std.specs.Prelude.{Vec}
 use Rattle.std.specs.declared.alloc.Global.{Global}
 use Rattle.event_lines.specs.declared.line.Line.{Line}
 use Rattle.event_lines.specs.InputLines.{LineFault, lines_said}
 use Rattle.event_lines.specs.LinesTaken.{LinesTaken, TakesBytes, said_with}
-use Rattle.mystery_io.specs.Input.{input_limit, input_of}
+use Rattle.mystery_io.specs.Input.{input_limit}
 use Rattle.session_rules.specs.declared.job.Job.{Job}
 use Rattle.mystery_run.specs.declared.input.Input.{Input}
 use Rattle.mystery_run.specs.declared.input.Input.TheVariants.{Bytes, Lines, Bad}
 use Rattle.mystery_run.specs.declared.input_form.InputForm.{InputForm}
 use Rattle.mystery_run.specs.declared.input_form.InputForm.TheVariants as forms
 use Rattle.mystery_run.specs.declared.outcome.Outcome.{Outcome}
-use Rattle.mystery_run.specs.Readings.{told_input}
 use Rattle.mystery_run.specs.Works.{work_from, jobs_said, steps_said}
 use Rattle.mystery_run.specs.inner.InputEnds.{InputEnds}
 use Rattle.mystery_run.specs.inner.Inputs.{HasTaken, IsInputOf, IsReadAs, IsWithinLimit, bytes_kept, lines_said_by}
-use Rattle.mystery_run.proofs.ReadingLemmas.{read_told}
 
 -- bytes are taken after others
 pub has_taken_more : (old new : LinesTaken) (taken bytes : List ℕ) → TakesBytes old bytes new → HasTaken old taken → HasTaken new (taken ++ bytes)
@@ -43,11 +41,11 @@ good_bytes (Lines known) lines within e = (within.0, within.1 ∙ e, within.2)
 good_bytes (Bad line reason) lines within e = absurd (cc e)
 
 -- lines that were read are those of the bytes that were taken
-pub lines_are_read : (taken : LinesTaken) (contents : Option (List ℕ → List ℕ)) (names : List (List ℕ)) (bytes : List ℕ) (input : Input) → 0 < length names → HasTaken taken bytes → length bytes ≤ input_limit → IfSome contents (λ c. bytes ≡ input_of c names)
-    → said_with taken [] ≡ lines_said_by input → (lines_said bytes ≡ lines_said_by input → IsWithinLimit input) → IsReadAs forms.Lines input (told_input contents names)
-lines_are_read taken contents names bytes input some h fits told said within =
+pub lines_are_read : (taken : LinesTaken) (bytes : List ℕ) (input : Input) → HasTaken taken bytes → length bytes ≤ input_limit
+    → said_with taken [] ≡ lines_said_by input → (lines_said bytes ≡ lines_said_by input → IsWithinLimit input) → IsReadAs forms.Lines input bytes
+lines_are_read taken bytes input h fits said within =
     let e : lines_said bytes ≡ lines_said_by input = said_of_all taken bytes (lines_said_by input) h said in
-    record { bytes = bytes; is = sym e; fits = fits; within = within e; same = read_told contents names bytes some told }
+    record { is = sym e; fits = fits; within = within e }
 
 -- a replay of the bytes that are kept is one of the input's bytes
 pub replay_of_bytes : (workers : ℕ) (input : Input) (kept : List ℕ) (o : Outcome) (before now : Option (List ℕ)) → kept ≡ bytes_kept input → InputEnds workers (steps_said kept) o before now
@@ -55,8 +53,8 @@ pub replay_of_bytes : (workers : ℕ) (input : Input) (kept : List ℕ) (o : Out
 replay_of_bytes workers input kept o before now e h bytes is = subst (λ xs. InputEnds workers (steps_said xs) o before now) (e ∙ is) h
 
 -- bytes were read
-pub bytes_read : (form : InputForm) (bytes : Vec ℕ Global) (told : Option (List ℕ)) → length bytes.items ≤ input_limit → IfSome told (λ known. bytes.items ≡ known) → IsReadAs form (Bytes bytes) told
-bytes_read form bytes told fits same = record { bytes = bytes.items; is = bytes_are form (Bytes bytes) bytes.items refl refl; fits = fits; within = fits; same = same }
+pub bytes_read : (form : InputForm) (bytes : Vec ℕ Global) (known : List ℕ) → length bytes.items ≤ input_limit → bytes.items ≡ known → IsReadAs form (Bytes bytes) known
+bytes_read form bytes known fits same = subst (IsReadAs form (Bytes bytes)) same (record { is = bytes_are form (Bytes bytes) bytes.items refl refl; fits = fits; within = fits })
 
 -- the bytes that are kept are within the limit
 pub kept_within : (input : Input) → IsWithinLimit input → length (bytes_kept input) ≤ input_limit

@@ -1,6 +1,7 @@
 pub mod DecidedLemmas
 pub mod EndingLemmas
 pub mod HexLemmas
+pub mod HonestLemmas
 pub mod InputLemmas
 pub mod LastJobLemmas
 pub mod ReadingLemmas

@@ -3,6 +3,7 @@ pub mod Endings
 pub mod Messages
 pub mod Numbers
 pub mod Readings
+pub mod RealRuns
 pub mod ReplayTexts
 pub mod Runs
 pub mod Texts

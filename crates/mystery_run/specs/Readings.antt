@@ -1,13 +1,8 @@
 -- The two readings of a run: a certificate, if there is one, and then the input. Each is by itself.
-use Rattle.std.specs.Prelude.{ℕ, ◌≡◌, ◌+◌, ◌<◌, ◌≤◌, ◌⊎◌, List, [], ◌∷◌, length}
-use Rattle.std.specs.Prelude.{Option, Some, IfSome, option_map}
-use Rattle.mystery_io.specs.Input.{input_limit, input_of}
-use Rattle.mystery_io.specs.ReadFaults.{FilesSeen, FailedAt, PassedAt, append_names}
-
--- the input of files with these names, where their contents are told; that of no file is empty
-abbrev pub told_input : Option (List ℕ → List ℕ) → List (List ℕ) → Option (List ℕ)
-told_input contents [] = Some []
-told_input contents (name ∷ names) = option_map (λ c. input_of c (name ∷ names)) contents
+use Rattle.std.specs.Prelude.{ℕ, ◌≡◌, ◌+◌, ◌<◌, ◌≤◌, ◌⊎◌, List, drop, length, map, take}
+use Rattle.mystery_io.specs.Input.{input_limit, input_read}
+use Rattle.mystery_io.specs.ReadFaults.{FilesSeen, FailedAt, PassedAt}
+use Rattle.mystery_io.specs.Readings.{AreEnded, Reading}
 
 -- the certificate or the input passes the limit of size
 abbrev pub PassesSize : List ℕ → List ℕ → Type 0
@@ -17,26 +12,27 @@ PassesSize certificate input = (input_limit < length certificate) ⊎ (input_lim
 abbrev pub FitsSize : List ℕ → List ℕ → Type 0
 FitsSize certificate input = (length certificate ≤ input_limit) × (length input ≤ input_limit)
 
+-- the first files have these names, each was read to its end, and their input is within the limit
+pub record AreReadFirst (seen : FilesSeen) (names : List (List ℕ)) : Type 0 where
+  pub named : map (λ (r : Reading). r.name) (take (length names) seen.readings) ≡ names
+  pub ended : AreEnded (take (length names) seen.readings)
+  pub fits : length (input_read (take (length names) seen.readings)) ≤ input_limit
+
 -- what was seen of the files since these were read
 abbrev pub seen_after : List (List ℕ) → FilesSeen → FilesSeen
 seen_after names seen = record {
-  contents = seen.contents;
-  left = seen.left;
-  is_open = seen.is_open;
-  names_before = append_names seen.names_before names;
-  names_now = seen.names_now;
+  readings = drop (length names) seen.readings;
   opens_before = seen.opens_before + length names;
   opens_now = seen.opens_now;
 }
 
 -- P holds of the file with this index, counted over both readings: of the certificate's; or that
--- one was read and is within the limit, and P holds of a file of the input, as seen from then on
+-- one was read, and P holds of a file of the input, as seen from then on
 abbrev pub AtFile : (FilesSeen → List (List ℕ) → ℕ → Type 0) → FilesSeen → List (List ℕ)
     → List (List ℕ) → ℕ → Type 0
 AtFile P seen certificate files index =
     P seen certificate index
-    ⊎ ((i : ℕ) × (index ≡ length certificate + i)
-    × IfSome (told_input seen.contents certificate) (λ bytes. length bytes ≤ input_limit)
+    ⊎ ((i : ℕ) × (index ≡ length certificate + i) × AreReadFirst seen certificate
     × P (seen_after certificate seen) files i)
 
 -- the file with this index failed, counted over both readings

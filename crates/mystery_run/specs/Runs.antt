@@ -1,13 +1,14 @@
 -- What a run tells by its status and by what it wrote.
-use Rattle.std.specs.Prelude.{ℕ, ◌≡◌, ◌<◌, List, length, true, false, Option, IfSome}
-use Rattle.std.specs.Io.KnownBytes.{IsAtEnd}
+use Rattle.std.specs.Prelude.{ℕ, ◌≡◌, List, drop, length, take, true, false, Option}
+use Rattle.mystery_io.specs.Input.{input_read}
 use Rattle.mystery_io.specs.ReadFaults.{FilesSeen, OpensFirst}
+use Rattle.mystery_io.specs.Readings.{AreEnded}
 use Rattle.mystery_run.specs.declared.outcome.Outcome.{Outcome}
 use Rattle.mystery_run.specs.declared.outcome.Outcome.TheVariants.{Done, Memory, Arguments, BadLine}
 use Rattle.mystery_run.specs.declared.outcome.Outcome.TheVariants.{File, Write, Size, Over}
 use Rattle.mystery_run.specs.CommandLines.{all_files_of, certificate_of, files_of, is_in_grammar}
 use Rattle.mystery_run.specs.Endings.{Ends, Writes}
-use Rattle.mystery_run.specs.Readings.{FailsAt, PassesAt, told_input}
+use Rattle.mystery_run.specs.Readings.{FailsAt, PassesAt}
 
 -- what a run saw: its arguments, the files, and what was written to the sink of texts, before and
 -- now
@@ -27,27 +28,27 @@ run_seen words files written old new = record {
   written_now = written new;
 }
 
--- P holds of the certificate and the input, where they are told
-abbrev pub OfInputs : Option (List ℕ → List ℕ) → List (List ℕ) → (List ℕ → List ℕ → Type 0)
-    → Type 0
-OfInputs contents words P =
-    IfSome (told_input contents (certificate_of words)) (λ certificate.
-    IfSome (told_input contents (files_of words)) (P certificate))
+-- P holds of the certificate and the input that were read: what the reads gave of the first files, as
+-- many as the arguments name for a certificate, and what they gave of the rest
+abbrev pub OfInputs : FilesSeen → List (List ℕ) → (List ℕ → List ℕ → Type 0) → Type 0
+OfInputs seen words P =
+    P (input_read (take (length (certificate_of words)) seen.readings))
+    (input_read (drop (length (certificate_of words)) seen.readings))
 
 -- the run may end so over what it read, with a text of which that was written which should be
 abbrev pub EndsAs : Outcome → Seen → Type 0
 EndsAs outcome seen =
-    OfInputs seen.files.contents seen.words (λ certificate input. (text : List ℕ)
+    OfInputs seen.files seen.words (λ certificate input. (text : List ℕ)
     × Ends seen.words certificate input outcome text
     × Writes outcome seen.written_before seen.written_now text)
 
--- the arguments are in the grammar, and each of their files was opened, one after another, and
--- where they name a file, nothing is left of the last
+-- the arguments are in the grammar, and each of their files was opened, one after another, and read to
+-- its end
 pub record ReadsAll (seen : Seen) : Type 0 where
   pub called : is_in_grammar seen.words ≡ true
   pub opened :
       OpensFirst seen.files (all_files_of seen.words) (length (all_files_of seen.words))
-  pub at_end : 0 < length (all_files_of seen.words) → IsAtEnd seen.files.left
+  pub ended : AreEnded seen.files.readings
 
 -- which of the files that the arguments name were opened by a run that ends so, and how far they
 -- were read

@@ -18,6 +18,7 @@ mod numbers;
 mod outcome;
 mod program;
 mod readings;
+mod real_run;
 mod reason;
 mod replay;
 mod replaying;
@@ -26,4 +27,5 @@ mod view;
 
 pub use outcome::Outcome;
 pub use program::run;
+pub use real_run::run_real;
 pub use reason::Reason;

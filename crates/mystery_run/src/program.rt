@@ -3,6 +3,7 @@ ghost use Rattle.std.specs.Prelude.{if◌then◌else◌, IfOk};
 ghost use Rattle.mystery_io.specs.Counts.{counted_up};
 ghost use Rattle.mystery_io.specs.Prefixes.{Sends};
 ghost use Rattle.mystery_io.specs.ReadFaults.{files_seen, OpensFirst};
+ghost use Rattle.mystery_io.specs.Readings.{OnlyGrow};
 ghost use Rattle.session_rules.specs.declared.limit.Limit.{Limit};
 ghost use Rattle.mystery_run.specs.declared.outcome.Outcome.{Outcome};
 ghost use Rattle.mystery_run.specs.declared.outcome.Outcome.TheVariants.{BadLine, File, Over};
@@ -128,12 +129,12 @@ fn perform<R: Threads + Sync, F: Files, S: Sink, G: Gate + Sync>(
     gate: &G,
 ) -> Outcome
     ensures explains { Explains result (run_seen words.now
-        (files_seen F.contents F.left F.is_open F.names F.opens files.old files.new)
+        (files_seen F.given F.opens files.old files.new)
         S.written out.old out.new) }
     ensures files { LeavesFiles result files.old files.new }
     ensures unread { files_of words.now ≡ [] → files.new ≡ files.old }
     ensures sink { LeavesSink result out.old out.new }
-    ensures contents { F.contents files.new ≡ F.contents files.old }
+    ensures grows { OnlyGrow (F.given files.old) (F.given files.new) }
     ensures tallied { F.faults files.new ≡ outcome_read_faults result (F.faults files.old) }
     ensures counted { S.faults out.new ≡ outcome_faults result (S.faults out.old) }
 {
@@ -176,7 +177,7 @@ pub fn run<R: Threads + Sync, F: Files, S: Sink, E: Sink, G: Gate + Sync>(
     // The outcome has its cause, wrote what it should, and its message is on `err`.
     ensures explained { (o : Outcome) × (result ≡ status_of o)
         × Explains o (run_seen words.now
-        (files_seen F.contents F.left F.is_open F.names F.opens files.old files.new)
+        (files_seen F.given F.opens files.old files.new)
         S.written out.old out.new)
         × Sends E.written E.faults err.old err.new (message_of o) }
 
@@ -185,48 +186,49 @@ pub fn run<R: Threads + Sync, F: Files, S: Sink, E: Sink, G: Gate + Sync>(
     ensures arguments { (result == 2) ≡ not (is_in_grammar words.now) }
     ensures bad_line { result ≡ 3 → (line : ℕ) × (why : Reason)
         × EndsAs (BadLine line why) (run_seen words.now
-        (files_seen F.contents F.left F.is_open F.names F.opens files.old files.new)
+        (files_seen F.given F.opens files.old files.new)
         S.written out.old out.new)
         × Sends E.written E.faults err.old err.new (message_of (BadLine line why)) }
     ensures read_fault { F.faults files.new
         ≡ (if result == 4 then counted_up (F.faults files.old) else F.faults files.old) }
     ensures named_file { result ≡ 4 → (index : ℕ)
-        × FailsAt (files_seen F.contents F.left F.is_open F.names F.opens files.old files.new)
+        × FailsAt (files_seen F.given F.opens files.old files.new)
         (certificate_of words.now) (files_of words.now) index
         × Sends E.written E.faults err.old err.new (message_of (File index)) }
     ensures write_fault { S.faults out.new
         ≡ (if result == 5 then counted_up (S.faults out.old) else S.faults out.old) }
     ensures limit { result ≡ 6 →
         ((out.new ≡ out.old)
-        × OfInputs (F.contents files.old) words.now PassesSize
+        × OfInputs (files_seen F.given F.opens files.old files.new) words.now PassesSize
         × Sends E.written E.faults err.old err.new (message_of Outcome.Size))
         ⊎ ((limit : Limit)
         × EndsAs (Over limit) (run_seen words.now
-        (files_seen F.contents F.left F.is_open F.names F.opens files.old files.new)
+        (files_seen F.given F.opens files.old files.new)
         S.written out.old out.new)
         × Sends E.written E.faults err.old err.new (message_of (Over limit))) }
-    ensures decided { OfInputs (F.contents files.old) words.now (λ certificate input.
-        (o : Outcome) (text : List ℕ) → IsDecided o → Ends words.now certificate input o text
+    ensures decided { OfInputs (files_seen F.given F.opens files.old files.new) words.now
+        (λ certificate input. (o : Outcome) (text : List ℕ) → IsDecided o
+        → Ends words.now certificate input o text
         → (result ≡ status_of o) ⊎ (result ≡ 1) ⊎ (result ≡ 4) ⊎ (result ≡ 5)) }
 
     // Which files were opened, and how far they were read.
     ensures opened { (count : ℕ)
-        × OpensFirst (files_seen F.contents F.left F.is_open F.names F.opens files.old files.new)
+        × OpensFirst (files_seen F.given F.opens files.old files.new)
         (all_files_of words.now) count }
     ensures read_all { (result ≡ 0) ⊎ (result ≡ 3) ⊎ (result ≡ 5)
         → ReadsAll (run_seen words.now
-        (files_seen F.contents F.left F.is_open F.names F.opens files.old files.new)
+        (files_seen F.given F.opens files.old files.new)
         S.written out.old out.new) }
 
     // What is on `out`: with 0 a whole text, with 1 and 5 whole parts and a prefix.
     ensures done { result ≡ 0 → EndsAs Outcome.Done (run_seen words.now
-        (files_seen F.contents F.left F.is_open F.names F.opens files.old files.new)
+        (files_seen F.given F.opens files.old files.new)
         S.written out.old out.new) }
     ensures memory { result ≡ 1 → EndsAs Outcome.Memory (run_seen words.now
-        (files_seen F.contents F.left F.is_open F.names F.opens files.old files.new)
+        (files_seen F.given F.opens files.old files.new)
         S.written out.old out.new) }
     ensures write { result ≡ 5 → EndsAs Outcome.Write (run_seen words.now
-        (files_seen F.contents F.left F.is_open F.names F.opens files.old files.new)
+        (files_seen F.given F.opens files.old files.new)
         S.written out.old out.new) }
 
     // What stays as it was.
@@ -234,7 +236,7 @@ pub fn run<R: Threads + Sync, F: Files, S: Sink, E: Sink, G: Gate + Sync>(
     ensures unread { files_of words.now ≡ [] → files.new ≡ files.old }
     ensures nothing { (result ≡ 2) ⊎ (result ≡ 3) ⊎ (result ≡ 4) → out.new ≡ out.old }
     ensures silent { result ≡ 0 → err.new ≡ err.old }
-    ensures contents { F.contents files.new ≡ F.contents files.old }
+    ensures grows { OnlyGrow (F.given files.old) (F.given files.new) }
 {
     an_input_has_one_ending();
     let outcome = perform(rt, alloc, words, files, out, gate);

@@ -1,10 +1,9 @@
-ghost use Rattle.std.specs.Prelude.{◌≡◌, ◌<◌, ◌≤◌, ◌+◌, ◌^◌, ◌++◌, [], length, IfErr, IfOk, IfSome};
-ghost use Rattle.std.specs.Prelude.{OnOk};
-ghost use Rattle.std.specs.Io.KnownBytes.{IsAtEnd};
+ghost use Rattle.std.specs.Prelude.{◌≡◌, ◌<◌, ◌≤◌, ◌+◌, ◌^◌, ◌++◌, [], drop, length, take, IfErr};
+ghost use Rattle.std.specs.Prelude.{IfOk, OnOk};
 ghost use Rattle.certificates.specs.Certificates.{certificate_said};
-ghost use Rattle.mystery_io.specs.Input.{input_limit};
+ghost use Rattle.mystery_io.specs.Input.{input_limit, input_read};
 ghost use Rattle.mystery_io.specs.ReadFaults.{files_seen, HasReadCause, OpensFirst, read_faults};
-ghost use Rattle.mystery_run.specs.Readings.{told_input};
+ghost use Rattle.mystery_io.specs.Readings.{AreEnded, OnlyGrow, new_readings};
 ghost use Rattle.mystery_run.specs.declared.input_form.InputForm.TheVariants.{Lines};
 ghost use Rattle.mystery_run.specs.inner.Inputs.{IsReadAs};
 ghost use Rattle.mystery_run.specs.inner.ReadingTwice.{HasReadingCause, said_by};
@@ -38,18 +37,18 @@ pub(crate) struct Readings {
 /// Reads the files of these names as one list of bytes. That of no file is empty and takes no call.
 fn read_bytes<F: Files>(alloc: Global, files: &mut F, names: &[Text]) -> Result<Vec<u8>, ReadFault>
     requires { length names.now < 2 ^ 32 }
-    ensures input { IfOk result (λ v.
-        IfSome (told_input (F.contents files.old) names.now) (λ input. v.items ≡ input)) }
+    ensures input { IfOk result (λ v. v.items
+        ≡ input_read (new_readings (F.given files.old) (F.given files.new))) }
     ensures fits { IfOk result (λ v. length v.items ≤ input_limit) }
-    ensures end { OnOk result (0 < length names.now → IsAtEnd (F.left files.new)) }
+    ensures ended { OnOk result (AreEnded (new_readings (F.given files.old) (F.given files.new))) }
     ensures opened { OnOk result
-        (OpensFirst (files_seen F.contents F.left F.is_open F.names F.opens files.old files.new)
+        (OpensFirst (files_seen F.given F.opens files.old files.new)
         names.now (length names.now)) }
     ensures cause { IfErr result
-        (HasReadCause (files_seen F.contents F.left F.is_open F.names F.opens files.old files.new)
+        (HasReadCause (files_seen F.given F.opens files.old files.new)
         names.now) }
     ensures unread { names.now ≡ [] → files.new ≡ files.old }
-    ensures contents { F.contents files.new ≡ F.contents files.old }
+    ensures grows { OnlyGrow (F.given files.old) (F.given files.new) }
     ensures tallied { F.faults files.new ≡ read_faults result (F.faults files.old) }
 {
     if names.is_empty() {
@@ -65,20 +64,22 @@ fn read_claims<F: Files>(
     names: &[Text],
 ) -> Result<Certificate, ReadFault>
     requires { length names.now < 2 ^ 32 }
-    ensures said { IfOk result (λ read. IfSome (told_input (F.contents files.old) names.now)
-        (λ certificate. certificate_said certificate ≡ said_by read)) }
-    ensures fits { OnOk result (IfSome (told_input (F.contents files.old) names.now)
-        (λ certificate. length certificate ≤ input_limit)) }
+    ensures said { IfOk result (λ read.
+        certificate_said (input_read (new_readings (F.given files.old) (F.given files.new)))
+        ≡ said_by read) }
+    ensures fits { OnOk result
+        (length (input_read (new_readings (F.given files.old) (F.given files.new)))
+        ≤ input_limit) }
     ensures few { IfOk result (λ read. IfOk (said_by read) (λ claims. length claims < 2 ^ 32)) }
-    ensures end { OnOk result (0 < length names.now → IsAtEnd (F.left files.new)) }
+    ensures ended { OnOk result (AreEnded (new_readings (F.given files.old) (F.given files.new))) }
     ensures opened { OnOk result
-        (OpensFirst (files_seen F.contents F.left F.is_open F.names F.opens files.old files.new)
+        (OpensFirst (files_seen F.given F.opens files.old files.new)
         names.now (length names.now)) }
     ensures cause { IfErr result
-        (HasReadCause (files_seen F.contents F.left F.is_open F.names F.opens files.old files.new)
+        (HasReadCause (files_seen F.given F.opens files.old files.new)
         names.now) }
     ensures unread { names.now ≡ [] → files.new ≡ files.old }
-    ensures contents { F.contents files.new ≡ F.contents files.old }
+    ensures grows { OnlyGrow (F.given files.old) (F.given files.new) }
     ensures tallied { F.faults files.new ≡ read_faults result (F.faults files.old) }
 {
     let bytes = read_bytes(alloc, files, names)?;
@@ -104,15 +105,16 @@ fn read_input_lines<R: Threads + Sync, F: Files>(
     requires some { 0 < length names.now }
     requires few { length names.now < 2 ^ 32 }
     ensures input { IfOk result
-        (λ read. IsReadAs Lines read (told_input (F.contents files.old) names.now)) }
-    ensures end { OnOk result (0 < length names.now → IsAtEnd (F.left files.new)) }
+        (λ read. IsReadAs Lines read
+        (input_read (new_readings (F.given files.old) (F.given files.new)))) }
+    ensures ended { OnOk result (AreEnded (new_readings (F.given files.old) (F.given files.new))) }
     ensures opened { OnOk result
-        (OpensFirst (files_seen F.contents F.left F.is_open F.names F.opens files.old files.new)
+        (OpensFirst (files_seen F.given F.opens files.old files.new)
         names.now (length names.now)) }
     ensures cause { IfErr result
-        (HasReadCause (files_seen F.contents F.left F.is_open F.names F.opens files.old files.new)
+        (HasReadCause (files_seen F.given F.opens files.old files.new)
         names.now) }
-    ensures contents { F.contents files.new ≡ F.contents files.old }
+    ensures grows { OnlyGrow (F.given files.old) (F.given files.new) }
     ensures tallied { F.faults files.new ≡ read_faults result (F.faults files.old) }
 {
     let reader = LineReader::new(alloc, workers);
@@ -138,16 +140,17 @@ fn read_input<R: Threads + Sync, F: Files>(
     requires workers { 0 < workers }
     requires few { length names.now < 2 ^ 32 }
     ensures input { IfOk result
-        (λ read. IsReadAs form read (told_input (F.contents files.old) names.now)) }
-    ensures end { OnOk result (0 < length names.now → IsAtEnd (F.left files.new)) }
+        (λ read. IsReadAs form read
+        (input_read (new_readings (F.given files.old) (F.given files.new)))) }
+    ensures ended { OnOk result (AreEnded (new_readings (F.given files.old) (F.given files.new))) }
     ensures opened { OnOk result
-        (OpensFirst (files_seen F.contents F.left F.is_open F.names F.opens files.old files.new)
+        (OpensFirst (files_seen F.given F.opens files.old files.new)
         names.now (length names.now)) }
     ensures cause { IfErr result
-        (HasReadCause (files_seen F.contents F.left F.is_open F.names F.opens files.old files.new)
+        (HasReadCause (files_seen F.given F.opens files.old files.new)
         names.now) }
     ensures unread { names.now ≡ [] → files.new ≡ files.old }
-    ensures contents { F.contents files.new ≡ F.contents files.old }
+    ensures grows { OnlyGrow (F.given files.old) (F.given files.new) }
     ensures tallied { F.faults files.new ≡ read_faults result (F.faults files.old) }
 {
     match form {
@@ -176,27 +179,27 @@ pub(crate) fn read_both<R: Threads + Sync, F: Files>(
 ) -> Result<Readings, ReadFault>
     requires workers { 0 < workers }
     requires few { length certificate.now + length names.now < 2 ^ 32 }
-    ensures said { IfOk result (λ read.
-        IfSome (told_input (F.contents files.old) certificate.now)
-        (λ bytes. certificate_said bytes ≡ said_by read.certificate)) }
-    ensures certificate_fits { OnOk result
-        (IfSome (told_input (F.contents files.old) certificate.now)
-        (λ bytes. length bytes ≤ input_limit)) }
+    ensures said { IfOk result (λ read. certificate_said (input_read
+        (take (length certificate.now) (new_readings (F.given files.old) (F.given files.new))))
+        ≡ said_by read.certificate) }
+    ensures certificate_fits { OnOk result (length (input_read
+        (take (length certificate.now) (new_readings (F.given files.old) (F.given files.new))))
+        ≤ input_limit) }
     ensures few { IfOk result (λ read.
         IfOk (said_by read.certificate) (λ claims. length claims < 2 ^ 32)) }
     ensures input { IfOk result
-        (λ read. IsReadAs form read.input (told_input (F.contents files.old) names.now)) }
-    ensures end { OnOk result
-        (0 < length (certificate.now ++ names.now) → IsAtEnd (F.left files.new)) }
+        (λ read. IsReadAs form read.input (input_read
+        (drop (length certificate.now) (new_readings (F.given files.old) (F.given files.new))))) }
+    ensures ended { OnOk result (AreEnded (new_readings (F.given files.old) (F.given files.new))) }
     ensures opened { OnOk result
-        (OpensFirst (files_seen F.contents F.left F.is_open F.names F.opens files.old files.new)
+        (OpensFirst (files_seen F.given F.opens files.old files.new)
         (certificate.now ++ names.now) (length (certificate.now ++ names.now))) }
     ensures cause { IfErr result
         (HasReadingCause
-        (files_seen F.contents F.left F.is_open F.names F.opens files.old files.new)
+        (files_seen F.given F.opens files.old files.new)
         certificate.now names.now) }
     ensures unread { certificate.now ++ names.now ≡ [] → files.new ≡ files.old }
-    ensures contents { F.contents files.new ≡ F.contents files.old }
+    ensures grows { OnlyGrow (F.given files.old) (F.given files.new) }
     ensures tallied { F.faults files.new ≡ read_faults result (F.faults files.old) }
 {
     let said = read_claims(alloc, files, certificate)?;

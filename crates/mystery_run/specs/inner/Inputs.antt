@@ -1,5 +1,5 @@
 -- What was read of the files of an input.
-use Rattle.std.specs.Prelude.{ℕ, ◌≡◌, ◌≤◌, ◌++◌, List, [], length, Option, IfSome, Result, Ok, Err, ⊤}
+use Rattle.std.specs.Prelude.{ℕ, ◌≡◌, ◌≤◌, ◌++◌, List, [], length, Result, Ok, Err, ⊤}
 use Rattle.event_lines.specs.declared.line.Line.{Line}
 use Rattle.event_lines.specs.InputLines.{LineFault, lines_said}
 use Rattle.event_lines.specs.LinesTaken.{LinesTaken, said_with}
@@ -51,10 +51,8 @@ IsWithinLimit (Lines lines) =
     (bytes : List ℕ) × (lines_said bytes ≡ Ok lines) × (length bytes ≤ input_limit)
 IsWithinLimit (Bad line reason) = ⊤
 
--- an input was read in this form: its bytes are within the limit, and they are those that are told
-pub record IsReadAs (form : InputForm) (input : Input) (told : Option (List ℕ)) : Type 0 where
-  pub bytes : List ℕ
+-- an input of these bytes was read in this form, within the limit
+pub record IsReadAs (form : InputForm) (input : Input) (bytes : List ℕ) : Type 0 where
   pub is : IsInputOf form input bytes
   pub fits : length bytes ≤ input_limit
   pub within : IsWithinLimit input
-  pub same : IfSome told (λ known. bytes ≡ known)
