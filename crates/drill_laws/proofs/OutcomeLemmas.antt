@@ -1,16 +1,17 @@
 -- How a drill ends.
-use Rattle.std.proofs.Common.{◌≡◌, ℕ, List, [], ◌∷◌, ◌++◌, Option, Some, Ok, map, refl, sym, ap, subst, ◌∙◌, inl, inr, arith, append_assoc, append-nil}
-use Rattle.std.specs.Prelude.{All, IfSome, ◌⊎◌}
+use Rattle.std.proofs.Common.{◌≡◌, ℕ, List, [], ◌∷◌, ◌++◌, Option, Some, Ok, drop, length, map, take, refl, sym, ap, subst, ◌∙◌, inl, inr, arith, append_assoc, append-nil}
+use Rattle.std.specs.Prelude.{All, ◌⊎◌}
 use Rattle.std.specs.Option.{option_map_or}
 use Rattle.drill_input.specs.DrillInput.{drill_input}
 use Rattle.event_lines.specs.InputLines.{lines_said}
 use Rattle.event_lines.specs.declared.command.Command.TheVariants as commands
 use Rattle.event_lines.specs.declared.line.Line.TheVariants as lines
 use Rattle.job_runs.specs.JobTexts.{IsTextToLimit}
+use Rattle.mystery_io.specs.Input.{input_read}
 use Rattle.mystery_io.specs.ReadFaults.{FilesSeen}
 use Rattle.mystery_run.specs.CommandLines.{Call, call_of, certificate_of, certificate_of_action, drill, files_of, files_of_action}
 use Rattle.mystery_run.specs.Endings.{CallEnds, Ends, CallEndsAt, Writes}
-use Rattle.mystery_run.specs.Readings.{FailsAt, told_input}
+use Rattle.mystery_run.specs.Readings.{FailsAt, PassesAt}
 use Rattle.mystery_run.specs.Runs.{Explains, Reads, Seen}
 use Rattle.mystery_run.specs.Texts.{IsTextUpTo}
 use Rattle.mystery_run.specs.Works.{Work, Jobs, work_from, work_said}
@@ -39,13 +40,13 @@ none_left (x ∷ xs) job rest e = cc e
 abbrev jobs_over : List Event → List Job
 jobs_over events = Add events ∷ Summary ∷ []
 
--- a run that reads a certificate and an input of files with these names, and ends so
-abbrev EndsFrom : List (List ℕ) → List (List ℕ) → Outcome → Seen → Type 0
-EndsFrom names files outcome seen =
-    IfSome (told_input seen.files.contents names) (λ certificate. IfSome (told_input seen.files.contents files) (λ input. (text : List ℕ)
-    × Ends seen.words certificate input outcome text × Writes outcome seen.written_before seen.written_now text))
+-- a run whose certificate has files with these names, and that ends so over what it read
+abbrev EndsFrom : List (List ℕ) → Outcome → Seen → Type 0
+EndsFrom names outcome seen =
+    (text : List ℕ) × Ends seen.words (input_read (take (length names) seen.files.readings)) (input_read (drop (length names) seen.files.readings)) outcome text
+    × Writes outcome seen.written_before seen.written_now text
 
--- where such a run ends at a file, that one failed
+-- where such a run ends at a file, that one failed or passed the limit
 abbrev ReadsFrom : List (List ℕ) → List (List ℕ) → Outcome → Seen → Type 0
 ReadsFrom names files (File index) seen = FailsAt seen.files names files index
 ReadsFrom names files Done seen = Unit {0}
@@ -53,7 +54,7 @@ ReadsFrom names files Memory seen = Unit {0}
 ReadsFrom names files Arguments seen = Unit {0}
 ReadsFrom names files (BadLine line why) seen = Unit {0}
 ReadsFrom names files Write seen = Unit {0}
-ReadsFrom names files Size seen = Unit {0}
+ReadsFrom names files Size seen = (index : ℕ) × PassesAt seen.files names files index
 ReadsFrom names files (Over limit) seen = Unit {0}
 
 reads_from : (outcome : Outcome) (seen : Seen) → Reads outcome seen → ReadsFrom (certificate_of seen.words) (files_of seen.words) outcome seen
@@ -63,20 +64,23 @@ reads_from Memory seen h = tt
 reads_from Arguments seen h = tt
 reads_from (BadLine line why) seen h = tt
 reads_from Write seen h = tt
-reads_from Size seen h = tt
+reads_from Size seen h = h.1
 reads_from (Over limit) seen h = tt
 
--- where there is no file, none fails
+-- where there is no file, none fails, and none passes the limit
 no_file : (files : FilesSeen) (index : ℕ) → FailsAt files [] [] index → ⊥
 no_file files index h = elim h [ inl at ↦ omega (arith, at.opened.within) | inr at ↦ omega (arith, at.3.opened.within) ]
+
+no_size : (files : FilesSeen) (index : ℕ) → PassesAt files [] [] index → ⊥
+no_size files index h = elim h [ inl at ↦ omega (arith, at.opened.within) | inr at ↦ omega (arith, at.3.opened.within) ]
 
 -- neither a bad line nor a limit nor a file ends it
 abbrev EndsWell : Outcome → Type 0
 EndsWell outcome = (outcome ≡ Done) ⊎ (outcome ≡ Memory) ⊎ (outcome ≡ Write)
 
 module _ (number traces : ℕ) (events : List Event) (good : All IsDrillEvent events) (said : lines_said (drill_input number traces) ≡ Ok (map lines.Event events)) where
-  work_is : work_said (drill number traces) [] [] ≡ Ok (Jobs (jobs_over events))
-  work_is = ap (work_from (Some Summary)) said ∙ ap (λ jobs. Ok (Jobs (jobs ++ Summary ∷ []))) (one_add [] events)
+  work_is : (input : List ℕ) → work_said (drill number traces) [] input ≡ Ok (Jobs (jobs_over events))
+  work_is input = ap (work_from (Some Summary)) said ∙ ap (λ jobs. Ok (Jobs (jobs ++ Summary ∷ []))) (one_add [] events)
 
   -- no job passes a limit
   no_job : (workers : ℕ) (limit : Limit) (done : List Job) (job : Job) (rest : List Job) (parts : List Part) (last : State) → jobs_over events ≡ done ++ (job ∷ rest) → Leads workers done first_state parts last → Passes job last limit → ⊥
@@ -95,19 +99,19 @@ module _ (number traces : ℕ) (events : List Event) (good : All IsDrillEvent ev
   no_limit workers limit text h = no_job workers limit h.done h.job h.rest h.told.parts h.last h.split h.told.led h.passes
 
   module _ (call : Call) (is : call.action ≡ drill number traces) where
-    call_work : work_said call.action [] [] ≡ Ok (Jobs (jobs_over events))
-    call_work = ap (λ a. work_said a [] []) is ∙ work_is
+    call_work : (input : List ℕ) → work_said call.action [] input ≡ Ok (Jobs (jobs_over events))
+    call_work input = ap (λ a. work_said a [] input) is ∙ work_is input
 
-    ends_well : (outcome : Outcome) (seen : Seen) (text : List ℕ) → ReadsFrom [] [] outcome seen → CallEnds call [] [] outcome text → EndsWell outcome
-    ends_well Done seen text reads h = inl refl
-    ends_well Memory seen text reads h = inr (inl refl)
-    ends_well Arguments seen text reads h = absurd h
-    ends_well (File index) seen text reads h = absurd (no_file seen.files index reads)
-    ends_well Write seen text reads h = inr (inr refl)
-    ends_well (BadLine line why) seen text reads h = let e = sym call_work ∙ h.1 in absurd (cc e)
-    ends_well Size seen text reads h = elim h.0 [ inl more ↦ absurd (omega arith) | inr more ↦ absurd (omega arith) ]
-    ends_well (Over limit) seen text reads h =
-        let e : Ok (Jobs (jobs_over events)) ≡ Ok h.1.0 = sym call_work ∙ h.1.1 in
+    ends_well : (outcome : Outcome) (seen : Seen) (input text : List ℕ) → ReadsFrom [] [] outcome seen → CallEnds call [] input outcome text → EndsWell outcome
+    ends_well Done seen input text reads h = inl refl
+    ends_well Memory seen input text reads h = inr (inl refl)
+    ends_well Arguments seen input text reads h = absurd h
+    ends_well (File index) seen input text reads h = absurd (no_file seen.files index reads)
+    ends_well Write seen input text reads h = inr (inr refl)
+    ends_well (BadLine line why) seen input text reads h = let e = sym (call_work input) ∙ h.1 in absurd (cc e)
+    ends_well Size seen input text reads h = absurd (no_size seen.files reads.0 reads.1)
+    ends_well (Over limit) seen input text reads h =
+        let e : Ok (Jobs (jobs_over events)) ≡ Ok h.1.0 = sym (call_work input) ∙ h.1.1 in
         let same : Jobs (jobs_over events) ≡ h.1.0 = cc in
         absurd (no_limit call.workers limit text (subst (λ (w : Work). IsTextUpTo call.workers w limit text) (sym same) h.1.2))
 
@@ -116,6 +120,7 @@ module _ (number traces : ℕ) (events : List Event) (good : All IsDrillEvent ev
     seen_well outcome seen called h =
         let no_certificate : certificate_of seen.words ≡ [] = ap (λ (o : Option Call). option_map_or (λ (c : Call). certificate_of_action c.action) o []) called ∙ ap certificate_of_action is in
         let no_files : files_of seen.words ≡ [] = ap (λ (o : Option Call). option_map_or (λ (c : Call). files_of_action c.action) o []) called ∙ ap files_of_action is in
-        let ends : EndsFrom [] [] outcome seen = subst (λ files. EndsFrom [] files outcome seen) no_files (subst (λ names. EndsFrom names (files_of seen.words) outcome seen) no_certificate h.ends) in
+        let ends : EndsFrom [] outcome seen = subst (λ names. EndsFrom names outcome seen) no_certificate h.ends in
         let reads : ReadsFrom [] [] outcome seen = subst (λ files. ReadsFrom [] files outcome seen) no_files (subst (λ names. ReadsFrom names (files_of seen.words) outcome seen) no_certificate (reads_from outcome seen h.reads)) in
-        ends_well outcome seen ends.0 reads (subst (λ (o : Option Call). CallEndsAt o [] [] outcome ends.0) called ends.1)
+        let input : List ℕ = input_read (drop 0 seen.files.readings) in
+        ends_well outcome seen input ends.0 reads (subst (λ (o : Option Call). CallEndsAt o [] input outcome ends.0) called ends.1)
