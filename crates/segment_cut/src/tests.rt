@@ -1,3 +1,5 @@
+ghost use Rattle.std.specs.Prelude.{◌≤◌, length};
+
 mod many_texts;
 
 use crate::{CutTrace, TraceFault, cut, element_of};
@@ -29,10 +31,13 @@ type Cut = (
     Option<&'static str>,
 );
 
-/// Makes the table of these lines, numbered from 1.
-fn make_table(alloc: Global, rows: &[Row]) -> Result<EventTable, AllocError> {
-    let mut table = EventTable::new(alloc);
-    let mut hints = TextHints::new(alloc)?;
+/// Appends these lines, numbered from 1.
+fn push_rows(
+    alloc: Global,
+    hints: &mut TextHints,
+    table: &mut EventTable,
+    rows: &[Row],
+) -> Result<(), AllocError> {
     for row in rows {
         let fields = EventFields {
             request: "r1",
@@ -47,9 +52,30 @@ fn make_table(alloc: Global, rows: &[Row]) -> Result<EventTable, AllocError> {
             return Err(AllocError);
         }
         let line = table.len() as u32 + 1;
-        table.push(alloc, &mut hints, line, &fields)?;
+        table.push(alloc, hints, line, &fields)?;
     }
+    Ok(())
+}
+
+/// Makes the table of these lines.
+fn make_table(alloc: Global, rows: &[Row]) -> Result<EventTable, AllocError> {
+    let mut hints = TextHints::new(alloc)?;
+    let mut table = EventTable::new(alloc);
+    push_rows(alloc, &mut hints, &mut table, rows)?;
     Ok(table)
+}
+
+/// Gathers the events of one table.
+fn gather_one<R: Threads + Sync>(
+    rt: &R,
+    alloc: Global,
+    table: EventTable,
+) -> Result<GatheredEvents, AllocError>
+    requires { length table ≤ 5000 }
+{
+    let mut parts = Vec::new(alloc);
+    parts.push(table)?;
+    gather(rt, alloc, parts, 1)
 }
 
 /// Gathers these lines.
@@ -59,9 +85,7 @@ fn gather_rows<R: Abort + AllocGlobal + Threads + Sync>(
 ) -> Result<GatheredEvents, Fail> {
     let table = make_table(rt.alloc(), rows)?;
     assert!(rt; table.len() == rows.len() && table.len() <= 5000);
-    let mut parts = Vec::new(rt.alloc());
-    parts.push(table)?;
-    Ok(gather(rt, rt.alloc(), parts, 1)?)
+    Ok(gather_one(rt, rt.alloc(), table)?)
 }
 
 /// Cuts the only trace of a batch.
@@ -97,13 +121,21 @@ fn copy_answer(
     }
 }
 
+/// Cuts the only trace of a batch, and copies what that gives.
+fn answer_of<R: Abort + AllocGlobal>(
+    rt: &R,
+    gathered: &GatheredEvents,
+) -> Result<Result<Trace, TraceFault>, Fail> {
+    copy_answer(rt, cut_only(rt, gathered)?)
+}
+
 /// Cuts the trace of these lines.
 fn answer<R: Abort + AllocGlobal + Threads + Sync>(
     rt: &R,
     rows: &[Row],
 ) -> Result<Result<Trace, TraceFault>, Fail> {
     let gathered = gather_rows(rt, rows)?;
-    copy_answer(rt, cut_only(rt, &gathered)?)
+    answer_of(rt, &gathered)
 }
 
 /// Compares a text.
@@ -298,19 +330,38 @@ fn rows_of<'a>(alloc: Global, names: &'a [String]) -> Result<Vec<Row<'a>>, Alloc
     Ok(rows)
 }
 
+/// Cuts a trace of these names, and finds its fault.
+fn fault_of_names<R: Abort + AllocGlobal + Threads + Sync>(
+    rt: &R,
+    names: &[String],
+) -> Result<Option<TraceFault>, Fail> {
+    let rows = rows_of(rt.alloc(), names)?;
+    Ok(answer(rt, &rows)?.err())
+}
+
+/// Makes this many names.
+fn numbered_names(alloc: Global, count: u32) -> Result<Vec<String>, AllocError> {
+    let mut names = Vec::new(alloc);
+    for at in 0..count {
+        names.push(format!(in alloc; "e{at}")?)?;
+    }
+    Ok(names)
+}
+
+/// Cuts a trace of so many names, and finds its fault.
+fn fault_of_many<R: Abort + AllocGlobal + Threads + Sync>(
+    rt: &R,
+    count: u32,
+) -> Result<Option<TraceFault>, Fail> {
+    let names = numbered_names(rt.alloc(), count)?;
+    fault_of_names(rt, &names)
+}
+
 #[test]
 fn a_trace_has_at_most_4096_events(rt: HostRuntime) -> Result<(), Fail> {
-    let mut names = Vec::with_capacity(rt.alloc(), 4097)?;
-    for at in 0..4096u32 {
-        names.push(format!(in rt.alloc(); "e{at}")?)?;
-    }
-    assert!(rt; answer(&rt, &rows_of(rt.alloc(), &names)?)?.is_ok());
-    names.push(String::from_str(rt.alloc(), "last")?)?;
+    assert_eq!(rt; fault_of_many(&rt, 4096)?, None);
     let fault = TraceFault::TooManyEvents { count: 4097 };
-    assert_eq!(rt;
-        answer(&rt, &rows_of(rt.alloc(), &names)?)?.err(),
-        Some(fault)
-    );
+    assert_eq!(rt; fault_of_many(&rt, 4097)?, Some(fault));
     Ok(())
 }
 

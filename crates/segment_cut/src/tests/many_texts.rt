@@ -4,6 +4,7 @@ use std::alloc::{AllocError, Global};
 use std::process::Abort;
 use std::test::Fail;
 use std::thread::Threads;
+use trace_types::Segment;
 
 /// Makes this many names.
 fn make_names(alloc: Global, count: u32) -> Result<Vec<String>, AllocError> {
@@ -38,52 +39,60 @@ fn fault_with<R: Abort + AllocGlobal + Threads + Sync>(
     Ok(answer(rt, &rows)?.err())
 }
 
+/// Tells whether the lines of these names are cut into a segment each, of the task of that name.
+fn are_told_apart<R: Abort + AllocGlobal + Threads + Sync>(
+    rt: &R,
+    names: &[String],
+) -> Result<bool, Fail> {
+    let rows = pairs_of(rt.alloc(), names)?;
+    Ok(match answer(rt, &rows)? {
+        Ok(trace) => are_tasks(trace.segments.items(), names),
+        Err(_fault) => false,
+    })
+}
+
+/// Tells whether the segments are each of the task of one of these names, in their order.
+fn are_tasks(segments: &[Segment], names: &[String]) -> bool {
+    segments.len() == names.len()
+        && segments
+            .iter()
+            .zip(names)
+            .all(|(s, name)| is(&s.task, name.as_str()))
+}
+
+/// Asserts that these names are told apart, and that a repeated one is refused after them.
+fn tells_apart<R: Abort + AllocGlobal + Threads + Sync>(
+    rt: &R,
+    names: &[String],
+    line: u32,
+) -> Result<(), Fail> {
+    assert!(rt; are_told_apart(rt, names)?);
+    let event = ("m", "name 0", "sent", 0, None, None);
+    let send = ("n", "name 0", "again", 0, Some("name 14"), None);
+    let receipt = ("n", "name 0", "again", 0, None, Some("name 0"));
+    let other = ("n", "name", "sent", 0, Some("nam"), Some("name 00"));
+    assert_eq!(rt;
+        fault_with(rt, names, event)?,
+        Some(TraceFault::RepeatedEvent { line })
+    );
+    assert_eq!(rt;
+        fault_with(rt, names, send)?,
+        Some(TraceFault::RepeatedSend { line })
+    );
+    assert_eq!(rt;
+        fault_with(rt, names, receipt)?,
+        Some(TraceFault::RepeatedRecv { line })
+    );
+    assert_eq!(rt; fault_with(rt, names, other)?, None);
+    Ok(())
+}
+
 #[test]
 fn few_and_many_texts_are_told_apart_alike(rt: HostRuntime) -> Result<(), Fail> {
     // 30 to 34 events and then 62 to 66, so that there are about 32 events, and then 32 messages
     for count in [15u32, 16, 17, 31, 32, 33, 200] {
         let names = make_names(rt.alloc(), count)?;
-        let found = answer(&rt, &pairs_of(rt.alloc(), &names)?)?;
-        assert!(rt; found.is_ok());
-        if let Ok(trace) = found {
-            let segments = trace.segments.items();
-            assert_eq!(rt; segments.len(), names.len());
-            assert!(rt;
-                segments
-                    .iter()
-                    .zip(&names)
-                    .all(|(s, name)| is(&s.task, name.as_str()))
-            );
-        }
-        let line = 2 * count + 1;
-        assert_eq!(rt;
-            fault_with(&rt, &names, ("m", "name 0", "sent", 0, None, None))?,
-            Some(TraceFault::RepeatedEvent { line })
-        );
-        assert_eq!(rt;
-            fault_with(
-                &rt,
-                &names,
-                ("n", "name 0", "again", 0, Some("name 14"), None)
-            )?,
-            Some(TraceFault::RepeatedSend { line })
-        );
-        assert_eq!(rt;
-            fault_with(
-                &rt,
-                &names,
-                ("n", "name 0", "again", 0, None, Some("name 0"))
-            )?,
-            Some(TraceFault::RepeatedRecv { line })
-        );
-        assert_eq!(rt;
-            fault_with(
-                &rt,
-                &names,
-                ("n", "name", "sent", 0, Some("nam"), Some("name 00"))
-            )?,
-            None
-        );
+        tells_apart(&rt, &names, 2 * count + 1)?;
     }
     Ok(())
 }
