@@ -1,5 +1,7 @@
+ghost use Rattle.std.specs.Prelude.{◌≤◌, length};
+
 use crate::{ClockFault, offsets};
-use event_table::{EventFields, EventTable, TextHints, gather};
+use event_table::{EventFields, EventTable, GatheredEvents, TextHints, gather};
 use std::alloc::{AllocError, Global};
 use std::process::Abort;
 use std::test::Fail;
@@ -44,10 +46,13 @@ fn alone(machine: &'static str, time: u32) -> Row {
     }
 }
 
-/// Makes the table of these lines, numbered from 1.
-fn make_table(alloc: Global, rows: &[Row]) -> Result<EventTable, AllocError> {
-    let mut table = EventTable::new(alloc);
-    let mut hints = TextHints::new(alloc)?;
+/// Appends these lines, numbered from 1.
+fn push_rows(
+    alloc: Global,
+    hints: &mut TextHints,
+    table: &mut EventTable,
+    rows: &[Row],
+) -> Result<(), AllocError> {
     for row in rows {
         let fields = EventFields {
             request: "r1",
@@ -62,9 +67,53 @@ fn make_table(alloc: Global, rows: &[Row]) -> Result<EventTable, AllocError> {
             return Err(AllocError);
         }
         let line = table.len() as u32 + 1;
-        table.push(alloc, &mut hints, line, &fields)?;
+        table.push(alloc, hints, line, &fields)?;
     }
+    Ok(())
+}
+
+/// Makes the table of these lines.
+fn make_table(alloc: Global, rows: &[Row]) -> Result<EventTable, AllocError> {
+    let mut hints = TextHints::new(alloc)?;
+    let mut table = EventTable::new(alloc);
+    push_rows(alloc, &mut hints, &mut table, rows)?;
     Ok(table)
+}
+
+/// Gathers the events of one table.
+fn gather_one<R: Threads + Sync>(
+    rt: &R,
+    alloc: Global,
+    table: EventTable,
+) -> Result<GatheredEvents, AllocError>
+    requires { length table ≤ 5000 }
+{
+    let mut parts = Vec::new(alloc);
+    parts.push(table)?;
+    gather(rt, alloc, parts, 1)
+}
+
+/// Gathers these lines.
+fn gather_rows<R: Abort + AllocGlobal + Threads + Sync>(
+    rt: &R,
+    rows: &[Row],
+) -> Result<GatheredEvents, Fail> {
+    let table = make_table(rt.alloc(), rows)?;
+    assert!(rt; table.len() <= 5000);
+    Ok(gather_one(rt, rt.alloc(), table)?)
+}
+
+/// Finds the offsets of the only trace of a batch, or its fault.
+fn offsets_of<R: Abort + AllocGlobal>(
+    rt: &R,
+    gathered: &GatheredEvents,
+    count: usize,
+) -> Result<Result<Vec<i128>, ClockFault>, Fail> {
+    assert!(rt; gathered.len() == 1);
+    let trace = gathered.trace(0);
+    assert!(rt; trace.len() == count && count < 5000);
+    assert!(rt; trace.is_timely());
+    Ok(offsets(rt.alloc(), &trace))
 }
 
 /// Finds the offsets of the trace of these lines, or its fault.
@@ -72,16 +121,8 @@ fn answer<R: Abort + AllocGlobal + Threads + Sync>(
     rt: &R,
     rows: &[Row],
 ) -> Result<Result<Vec<i128>, ClockFault>, Fail> {
-    assert!(rt; !rows.is_empty() && rows.len() < 5000);
-    let table = make_table(rt.alloc(), rows)?;
-    assert!(rt; table.len() <= 5000);
-    let mut parts = Vec::new(rt.alloc());
-    parts.push(table)?;
-    let gathered = gather(rt, rt.alloc(), parts, 1)?;
-    assert!(rt; gathered.len() == 1);
-    let trace = gathered.trace(0);
-    assert!(rt; trace.len() == rows.len() && trace.is_timely());
-    Ok(offsets(rt.alloc(), &trace))
+    let gathered = gather_rows(rt, rows)?;
+    offsets_of(rt, &gathered, rows.len())
 }
 
 /// Asserts that these lines have these offsets.
