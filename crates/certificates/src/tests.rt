@@ -1,5 +1,5 @@
-use crate::{CertFault, Claim, Matter, read_certificate};
-use std::alloc::Global;
+use crate::{CertFault, Claim, ClaimList, Matter, read_certificate};
+use std::alloc::{AllocError, Global};
 use std::test::Fail;
 use trace_types::{NameText, Text};
 
@@ -74,20 +74,22 @@ fn a_line_outside_the_form_is_bad(rt: HostRuntime) -> Result<(), Fail> {
     Ok(())
 }
 
+/// Counts the claims of a certificate with one line, of a pipeline from this task; or gives its
+/// first bad line.
+fn read_task(alloc: Global, task: &str) -> Result<Result<usize, Option<u32>>, AllocError> {
+    let text = format!(in alloc; "why\ttraces=1\trefuted=1\nrefuted\tpipe\t{task}\tb\t0\t0\tr1")?;
+    Ok(match claims_of(alloc, text.as_bytes()) {
+        Some(claims) => Ok(claims.len()),
+        None => Err(bad_line_of(alloc, text.as_bytes())),
+    })
+}
+
 #[test]
 fn a_text_has_at_most_64_bytes(rt: HostRuntime) -> Result<(), Fail> {
     let full = "abcdefghijklmnopqrstuvwxyz_abcdefghijklmnopqrstuvwxyz_0123456789";
-    let text = format!(in rt.alloc();
-        "why\ttraces=1\trefuted=1\nrefuted\tpipe\t{full}\tb\t0\t0\tr1"
-    )?;
-    assert_eq!(rt;
-        claims_of(rt.alloc(), text.as_bytes()).ok_or("bad")?.len(),
-        1
-    );
-    let text = format!(in rt.alloc();
-        "why\ttraces=1\trefuted=1\nrefuted\tpipe\t{full}0\tb\t0\t0\tr1"
-    )?;
-    assert_eq!(rt; bad_line_of(rt.alloc(), text.as_bytes()), Some(2));
+    let longer = "abcdefghijklmnopqrstuvwxyz_abcdefghijklmnopqrstuvwxyz_01234567890";
+    assert_eq!(rt; read_task(rt.alloc(), full)?, Ok(1));
+    assert_eq!(rt; read_task(rt.alloc(), longer)?, Err(Some(2)));
     let text = b"why\ttraces=1\trefuted=1\nrefuted\tpipe\t\xff\tb\t0\t0\tr1";
     assert_eq!(rt; bad_line_of(rt.alloc(), text), Some(2));
     Ok(())
@@ -103,7 +105,7 @@ fn a_certificate_without_a_line_makes_no_claims(rt: HostRuntime) -> Result<(), F
 }
 
 /// Tells whether a name has these texts.
-fn is_name(name: &NameText, task: &str, start: &str, end: &str) -> bool {
+fn is_name(name: &NameText, [task, start, end]: [&str; 3]) -> bool {
     name.task.as_str() == task && name.start.as_str() == start && name.end.as_str() == end
 }
 
@@ -115,9 +117,41 @@ fn stands_at(claim: &Claim, line: u32, day: u32, index: u32, request: &str) -> b
         && claim.request.as_str() == request
 }
 
-/// Tells whether these are the texts of two tasks.
-fn are_tasks(from: &Text, to: &Text, first: &str, second: &str) -> bool {
-    from.as_str() == first && to.as_str() == second
+/// Tells whether a relation is that the first name happens before the second.
+fn is_before(matter: &Matter, one: [&str; 3], other: [&str; 3]) -> bool {
+    match matter {
+        Matter::Before { first, second } => is_name(first, one) && is_name(second, other),
+        _ => false,
+    }
+}
+
+/// Tells whether a relation is that the two names are mutually exclusive.
+fn is_exclusive(matter: &Matter, one: [&str; 3], other: [&str; 3]) -> bool {
+    match matter {
+        Matter::Exclusive { first, second } => is_name(first, one) && is_name(second, other),
+        _ => false,
+    }
+}
+
+/// Tells whether a relation is the pipeline between these tasks.
+fn is_pipe(matter: &Matter, first: &str, second: &str) -> bool {
+    match matter {
+        Matter::Pipe { from, to } => from.as_str() == first && to.as_str() == second,
+        _ => false,
+    }
+}
+
+/// Tells whether these are the three claims of the certificate below.
+fn are_in_order(claims: &[Claim]) -> bool {
+    let [first, second, third] = claims else {
+        return false;
+    };
+    stands_at(first, 2, 20000, 1, "r2")
+        && is_before(&first.matter, ["a", "b.s", "b.e"], ["c", "s", "e"])
+        && stands_at(second, 4, 20000, 2, "r3")
+        && is_exclusive(&second.matter, ["c", "s", "e"], ["a", "b.s", "b.e"])
+        && stands_at(third, 5, u32::MAX, 0, "\u{e9}")
+        && is_pipe(&third.matter, "a", "c d")
 }
 
 #[test]
@@ -127,21 +161,15 @@ fn claims_are_read_in_order(rt: HostRuntime) -> Result<(), Fail> {
                  refuted\texclusive\tc\ts\te\ta\tb.s\tb.e\t20000\t2\tr3\n\
                  refuted\tpipe\ta\tc d\t4294967295\t0\t\xc3\xa9";
     let claims = claims_of(rt.alloc(), text).ok_or("bad")?;
-    assert_eq!(rt; claims.len(), 3);
-    assert!(rt; stands_at(&claims[0], 2, 20000, 1, "r2"));
-    assert!(rt; stands_at(&claims[1], 4, 20000, 2, "r3"));
-    assert!(rt; stands_at(&claims[2], 5, u32::MAX, 0, "\u{e9}"));
-    let Matter::Before { first, second } = &claims[0].matter else {
-        return Err(Fail::from("not before"));
-    };
-    assert!(rt; is_name(first, "a", "b.s", "b.e") && is_name(second, "c", "s", "e"));
-    let Matter::Exclusive { first, second } = &claims[1].matter else {
-        return Err(Fail::from("not exclusive"));
-    };
-    assert!(rt; is_name(first, "c", "s", "e") && is_name(second, "a", "b.s", "b.e"));
-    let Matter::Pipe { from, to } = &claims[2].matter else {
-        return Err(Fail::from("not a pipe"));
-    };
-    assert!(rt; are_tasks(from, to, "a", "c d"));
+    assert!(rt; are_in_order(&claims));
+    Ok(())
+}
+
+#[test]
+fn a_list_gives_its_claims(rt: HostRuntime) -> Result<(), Fail> {
+    let text = b"why\ttraces=1\trefuted=1\nrefuted\tpipe\ta\tb\t0\t0\tr1";
+    let claims = claims_of(rt.alloc(), text).ok_or("bad")?;
+    let given = ClaimList::of(claims).into_items();
+    assert_eq!(rt; given.len(), 1);
     Ok(())
 }

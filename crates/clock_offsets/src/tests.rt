@@ -178,8 +178,12 @@ fn offsets_along_parents(rt: HostRuntime) -> Result<(), Fail> {
         receives("c", 180, "p1"),
         alone("l", 7),
     ];
-    has(&rt, &chain, &[0, 1000, 1000, -75, -75, 1000, 1000, 0, 0])?;
-    // a and b both have depth 1 and are paired with z: a has the least name
+    has(&rt, &chain, &[0, 1000, 1000, -75, -75, 1000, 1000, 0, 0])
+}
+
+#[test]
+fn the_parent_has_the_least_name(rt: HostRuntime) -> Result<(), Fail> {
+    // a and b both have depth 1 and are paired with z
     let claims = [
         sends("m", 0, "m1"),
         receives("b", 200, "m1"),

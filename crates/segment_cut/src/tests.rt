@@ -100,13 +100,18 @@ fn cut_only<'a, R: Abort + AllocGlobal>(
     Ok(cut(rt.alloc(), &raw))
 }
 
-/// Copies a trace, and compares what it tells of itself with the copy.
-fn copy_cut(rt: &(impl Abort + AllocGlobal), cut: &CutTrace<'_>) -> Result<Trace, Fail> {
-    let trace = cut.copy(rt.alloc())?;
+/// Compares what a trace tells of itself with its copy.
+fn assert_copied(rt: &impl Abort, cut: &CutTrace<'_>, trace: &Trace) {
     assert!(rt; cut.request().as_str() == trace.request.as_str());
     assert_eq!(rt; cut.day(), trace.day);
     assert_eq!(rt; cut.latency(), trace.latency);
     assert_eq!(rt; cut.segments().len(), trace.segments.items().len());
+}
+
+/// Copies a trace, and compares what it tells of itself with the copy.
+fn copy_cut(rt: &(impl Abort + AllocGlobal), cut: &CutTrace<'_>) -> Result<Trace, AllocError> {
+    let trace = cut.copy(rt.alloc())?;
+    assert_copied(rt, cut, &trace);
     Ok(trace)
 }
 
@@ -162,18 +167,8 @@ fn is_cut(segment: &Segment, cut: &Cut) -> bool {
         && is_element(&segment.start_event, &segment.element, cut.5)
 }
 
-/// Asserts that these lines are cut into these segments, with this day and latency.
-fn cuts<R: Abort + AllocGlobal + Threads + Sync>(
-    rt: &R,
-    rows: &[Row],
-    day: u32,
-    latency: u64,
-    expected: &[Cut],
-) -> Result<(), Fail> {
-    let Ok(trace) = answer(rt, rows)? else {
-        assert!(rt; false, "it is refused");
-        return Ok(());
-    };
+/// Asserts that a trace has these segments, with this day and latency.
+fn assert_cut(rt: &impl Abort, trace: &Trace, day: u32, latency: u64, expected: &[Cut]) {
     assert!(rt; is(&trace.request, "r1"));
     assert_eq!(rt; trace.day, day);
     assert_eq!(rt; trace.latency, latency);
@@ -184,6 +179,20 @@ fn cuts<R: Abort + AllocGlobal + Threads + Sync>(
             at < expected.len() && is_cut(&segments[at], &expected[at]),
             "at {at}"
         );
+    }
+}
+
+/// Asserts that these lines are cut into these segments, with this day and latency.
+fn cuts<R: Abort + AllocGlobal + Threads + Sync>(
+    rt: &R,
+    rows: &[Row],
+    day: u32,
+    latency: u64,
+    expected: &[Cut],
+) -> Result<(), Fail> {
+    match answer(rt, rows)? {
+        Ok(trace) => assert_cut(rt, &trace, day, latency, expected),
+        Err(_fault) => assert!(rt; false, "it is refused"),
     }
     Ok(())
 }
@@ -300,6 +309,17 @@ fn far(ahead: bool) -> [Row<'static>; 8] {
     ]
 }
 
+/// Cuts the trace of those lines with one more of p at this time, and finds its fault.
+fn fault_at<R: Abort + AllocGlobal + Threads + Sync>(
+    rt: &R,
+    ahead: bool,
+    time: u64,
+) -> Result<Option<TraceFault>, Fail> {
+    let [a, b, c, d, e, f, g, h] = far(ahead);
+    let ninth = ("p", "d", "1", time, None, None);
+    Ok(answer(rt, &[a, b, c, d, e, f, g, h, ninth])?.err())
+}
+
 #[test]
 fn adjusted_times_have_a_range(rt: HostRuntime) -> Result<(), Fail> {
     // adjusted times at p: 0 - 2N, N - 1 - 2N and N - 2N, and then 1 + 2N and 0 + 2N
@@ -311,12 +331,10 @@ fn adjusted_times_have_a_range(rt: HostRuntime) -> Result<(), Fail> {
         (false, 0, false),
     ];
     for (ahead, time, is_out) in rows {
-        let [a, b, c, d, e, f, g, h] = far(ahead);
-        assert!(rt; answer(&rt, &[a, b, c, d, e, f, g, h])?.is_ok());
-        let ninth = ("p", "d", "1", time, None, None);
-        let found = answer(&rt, &[a, b, c, d, e, f, g, h, ninth])?.err();
+        assert!(rt; answer(&rt, &far(ahead))?.is_ok());
         let fault = TraceFault::ClockRange { line: 9 };
-        assert_eq!(rt; found, if is_out { Some(fault) } else { None });
+        let expected = if is_out { Some(fault) } else { None };
+        assert_eq!(rt; fault_at(&rt, ahead, time)?, expected);
     }
     Ok(())
 }

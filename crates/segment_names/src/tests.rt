@@ -43,44 +43,79 @@ fn two_names(rt: &(impl Abort + AllocGlobal)) -> Catalogue {
     catalogue
 }
 
+/// Tells whether a catalogue of two names has them and their tasks in their order.
+fn are_in_order(catalogue: &Catalogue, second: &NameText) -> bool {
+    catalogue.find(second) == Some(1)
+        && catalogue.find_task(&second.task) == Some(1)
+        && catalogue.names() == 2
+        && catalogue.tasks() == 2
+        && catalogue.text_of(0).task.as_str() == "b"
+        && catalogue.task_text(1).as_str() == "a"
+}
+
+/// Makes the name of the task `a`.
+fn second_name(rt: &(impl Abort + AllocGlobal)) -> NameText {
+    NameText {
+        task: text(rt, "a"),
+        start: text(rt, "s"),
+        end: text(rt, "e"),
+    }
+}
+
 #[test]
 fn names_and_tasks_are_numbered_by_first_sight(rt: HostRuntime) {
     let catalogue = two_names(&rt);
-    let known = NameText {
-        task: text(&rt, "a"),
-        start: text(&rt, "s"),
-        end: text(&rt, "e"),
-    };
-    assert!(rt; catalogue.find(&known) == Some(1));
-    assert!(rt; catalogue.find_task(&known.task) == Some(1));
-    assert!(rt; catalogue.names() == 2 && catalogue.tasks() == 2);
-    assert!(rt; catalogue.text_of(0).task.as_str() == "b");
-    assert!(rt; catalogue.task_text(1).as_str() == "a");
+    let told = are_in_order(&catalogue, &second_name(&rt));
+    assert!(rt; told);
+}
+
+/// Gives the numbers of the name, the task and the element of the only segment.
+fn only_numbers(named: &NamedTrace) -> Option<(u32, u32, Option<u32>)> {
+    let segments = named.segments.items();
+    if segments.len() != 1 {
+        return None;
+    }
+    Some((segments[0].name, segments[0].task, segments[0].element))
+}
+
+/// Names the trace of one segment of a task, and gives its numbers, unless its name is unknown.
+fn numbers_given(
+    rt: &(impl Abort + AllocGlobal),
+    catalogue: &Catalogue,
+    task: &str,
+) -> Option<(u32, u32, Option<u32>)> {
+    match catalogue.name(rt.alloc(), single(rt, task, "s")) {
+        Ok(named) => only_numbers(&named),
+        Err(_fault) => None,
+    }
 }
 
 #[test]
 fn a_trace_is_named(rt: HostRuntime) {
     let catalogue = two_names(&rt);
-    match catalogue.name(rt.alloc(), single(&rt, "a", "s")) {
-        Ok(named) => {
-            assert!(rt; named.segments.items().len() == 1);
-            let segment = named.segments.items()[0];
-            assert!(rt; segment.name == 1 && segment.task == 1 && segment.element == Some(0));
-        }
-        Err(_fault) => assert!(rt; false),
+    let numbers = numbers_given(&rt, &catalogue, "a");
+    assert!(rt; numbers == Some((1, 1, Some(0))));
+}
+
+/// Names the trace of one segment of a task. Gives its first unknown segment and its day, if its
+/// name is unknown.
+fn unknown_given(
+    rt: &(impl Abort + AllocGlobal),
+    catalogue: &Catalogue,
+    task: &str,
+) -> Option<(u32, u32)> {
+    match catalogue.name(rt.alloc(), single(rt, task, "s")) {
+        Err(NameOne::Unknown { trace, segment }) => Some((segment, trace.day)),
+        Err(_fault) => None,
+        Ok(_named) => None,
     }
 }
 
 #[test]
 fn an_unknown_segment_is_told(rt: HostRuntime) {
     let catalogue = two_names(&rt);
-    match catalogue.name(rt.alloc(), single(&rt, "c", "s")) {
-        Err(NameOne::Unknown { trace, segment }) => {
-            assert!(rt; segment == 0 && trace.day == 3);
-        }
-        Err(_fault) => assert!(rt; false),
-        Ok(_named) => assert!(rt; false),
-    }
+    let unknown = unknown_given(&rt, &catalogue, "c");
+    assert!(rt; unknown == Some((0, 3)));
 }
 
 /// Adds one name a turn, of one task or each of its own, and gives the first fault.
@@ -100,16 +135,21 @@ fn first_fault(
     None
 }
 
+/// Gives the first fault, and how many names and tasks there are then.
+fn first_limit(rt: &(impl Abort + AllocGlobal), one_task: bool) -> (Option<NameFault>, u32, u32) {
+    let mut catalogue = Catalogue::new(rt.alloc());
+    let fault = first_fault(rt, &mut catalogue, one_task);
+    (fault, catalogue.names(), catalogue.tasks())
+}
+
 #[test]
 fn limits_are_told_and_nothing_is_added(rt: HostRuntime) {
-    let mut names = Catalogue::new(rt.alloc());
-    let fault = first_fault(&rt, &mut names, true);
+    let (fault, names, tasks) = first_limit(&rt, true);
     assert!(rt; fault == Some(NameFault::TooManyNames { count: 513 }));
-    assert!(rt; names.names() == 512);
-    let mut tasks = Catalogue::new(rt.alloc());
-    let fault = first_fault(&rt, &mut tasks, false);
+    assert!(rt; names == 512 && tasks == 1);
+    let (fault, names, tasks) = first_limit(&rt, false);
     assert!(rt; fault == Some(NameFault::TooManyTasks { count: 65 }));
-    assert!(rt; tasks.tasks() == 64);
+    assert!(rt; names == 64 && tasks == 64);
 }
 
 /// Appends an event by its request, its task, its name and its time.
@@ -256,23 +296,53 @@ fn is_named_twice(
     Ok(once && twice)
 }
 
+/// Makes the catalogue of the names of a trace, unless they are too many.
+fn catalogue_of(alloc: Global, trace: &CutTrace<'_>) -> Result<Option<Catalogue>, AllocError>
+    requires { length trace.now.trace.segments ≤ 4096 }
+{
+    let mut catalogue = Catalogue::new(alloc);
+    if catalogue.add(alloc, &trace.copy(alloc)?).is_err() {
+        return Ok(None);
+    }
+    Ok(Some(catalogue))
+}
+
+/// Tells whether the first trace is named by a catalogue that has its names alone.
+fn is_named_by_own(
+    alloc: Global,
+    texts: &Texts,
+    first: &CutTrace<'_>,
+    second: &CutTrace<'_>,
+) -> Result<bool, AllocError>
+    requires first { first.now.texts ≡ texts.now }
+    requires few { length first.now.trace.segments ≤ 4096 }
+    requires second { second.now.texts ≡ texts.now }
+    requires second_few { length second.now.trace.segments ≤ 4096 }
+{
+    match catalogue_of(alloc, first)? {
+        Some(catalogue) => is_named_twice(alloc, &catalogue, texts, first, second),
+        None => Ok(false),
+    }
+}
+
 /// Tells whether the first trace of a batch is named by a catalogue that has its names alone.
 fn is_named_by_numbers(alloc: Global, gathered: &GatheredEvents) -> Result<bool, AllocError> {
     let first = cut_trace(alloc, gathered, 0)?;
     let second = cut_trace(alloc, gathered, 1)?;
-    let mut catalogue = Catalogue::new(alloc);
-    if catalogue.add(alloc, &first.copy(alloc)?).is_err() {
-        return Ok(false);
-    }
-    is_named_twice(alloc, &catalogue, gathered.texts(), &first, &second)
+    is_named_by_own(alloc, gathered.texts(), &first, &second)
+}
+
+/// Gathers the events of two traces.
+fn two_gathered<R: Abort + AllocGlobal + Threads + Sync>(rt: &R) -> Result<GatheredEvents, Fail> {
+    let table = two_traces(rt.alloc())?;
+    assert!(rt; table.len() <= 1000);
+    Ok(gather_one(rt, rt.alloc(), table)?)
 }
 
 #[test]
 fn a_trace_of_a_batch_is_named_by_its_numbers(rt: HostRuntime) -> Result<(), Fail> {
-    let alloc = rt.alloc();
-    let table = two_traces(alloc)?;
-    assert!(rt; table.len() <= 1000);
-    let gathered = gather_one(&rt, alloc, table)?;
-    assert!(rt; is_named_by_numbers(alloc, &gathered)?);
+    let gathered = two_gathered(&rt)?;
+    let told = is_named_by_numbers(rt.alloc(), &gathered)?;
+    assert!(rt; told);
     Ok(())
 }

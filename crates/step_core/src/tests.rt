@@ -52,13 +52,34 @@ fn tell(alloc: Global, machine: &mut Machine, events: &[StepEvent]) -> Result<St
     Ok(text)
 }
 
-#[test]
-fn two_seats_clear_a_bit_each(rt: HostRuntime) -> Result<(), Fail> {
-    let mut machine = Machine::new(rt.alloc(), 1, 2)?;
-    assert_eq!(rt; (machine.width(), machine.all_shares()), (1, 2));
-    let low = row_of(rt.alloc(), 0, 1)?;
-    let high = row_of(rt.alloc(), 0, 4)?;
-    let events = [
+/// Makes a machine with so many words and shares and the steps one after another, and writes what
+/// they answer.
+fn tell_anew(
+    alloc: Global,
+    width: u32,
+    shares: u32,
+    events: &[StepEvent],
+) -> Result<String, AllocError>
+    requires width { 0 < width }
+    requires shares { 0 < shares }
+    requires few { length events.now < 900 }
+{
+    let mut machine = Machine::new(alloc, width, shares)?;
+    tell(alloc, &mut machine, events)
+}
+
+/// Gives the number of words and of shares of a new machine.
+fn size_of(alloc: Global, width: u32, shares: u32) -> Result<(u32, u32), AllocError>
+    requires width { 0 < width }
+    requires shares { 0 < shares }
+{
+    let machine = Machine::new(alloc, width, shares)?;
+    Ok((machine.width(), machine.all_shares()))
+}
+
+/// The steps of two seats that each clear a bit.
+fn steps_of_two(low: Row, high: Row) -> [StepEvent; 8] {
+    [
         StepEvent::Split { seat: 0, shares: 1 },
         StepEvent::Clear { seat: 0, row: low },
         StepEvent::Clear { seat: 1, row: high },
@@ -67,8 +88,20 @@ fn two_seats_clear_a_bit_each(rt: HostRuntime) -> Result<(), Fail> {
         StepEvent::Join { seat: 0, other: 1 },
         StepEvent::Close { seat: 0 },
         StepEvent::Load { seat: 0, word: 0 },
-    ];
-    let text = tell(rt.alloc(), &mut machine, &events)?;
+    ]
+}
+
+/// Writes what these steps answer.
+fn text_of_two(alloc: Global) -> Result<String, AllocError> {
+    let low = row_of(alloc, 0, 1)?;
+    let high = row_of(alloc, 0, 4)?;
+    tell_anew(alloc, 1, 2, &steps_of_two(low, high))
+}
+
+#[test]
+fn two_seats_clear_a_bit_each(rt: HostRuntime) -> Result<(), Fail> {
+    assert_eq!(rt; size_of(rt.alloc(), 1, 2)?, (1, 2));
+    let text = text_of_two(rt.alloc())?;
     let wanted = "split 1
 cleared ffffffffffffffff
 cleared fffffffffffffffe
@@ -82,14 +115,10 @@ NoSeat { seat: 0 }
     Ok(())
 }
 
-#[test]
-fn a_row_in_progress_holds_its_seat(rt: HostRuntime) -> Result<(), Fail> {
-    let mut machine = Machine::new(rt.alloc(), 2, 1)?;
-    let row = row_of_two(rt.alloc())?;
-    let again = row_of_two(rt.alloc())?;
-    let past = row_of(rt.alloc(), 2, 1)?;
-    let other = row_of(rt.alloc(), 0, 2)?;
-    let events = [
+/// The steps of a row in progress: its own row again is let through.
+fn steps_in_progress(rows: (Row, Row), past: Row, other: Row) -> [StepEvent; 9] {
+    let (row, again) = rows;
+    [
         StepEvent::Clear { seat: 0, row },
         StepEvent::Load { seat: 0, word: 0 },
         StepEvent::Clear {
@@ -105,8 +134,25 @@ fn a_row_in_progress_holds_its_seat(rt: HostRuntime) -> Result<(), Fail> {
             row: other,
         },
         StepEvent::Close { seat: 0 },
-    ];
-    let text = tell(rt.alloc(), &mut machine, &events)?;
+    ]
+}
+
+/// Makes the row of two entries twice.
+fn same_rows(alloc: Global) -> Result<(Row, Row), AllocError> {
+    let row = row_of_two(alloc)?;
+    Ok((row, row_of_two(alloc)?))
+}
+
+/// Writes what these steps answer.
+fn text_in_progress(alloc: Global, rows: (Row, Row)) -> Result<String, AllocError> {
+    let past = row_of(alloc, 2, 1)?;
+    let other = row_of(alloc, 0, 2)?;
+    tell_anew(alloc, 2, 1, &steps_in_progress(rows, past, other))
+}
+
+#[test]
+fn a_row_in_progress_holds_its_seat(rt: HostRuntime) -> Result<(), Fail> {
+    let text = text_in_progress(rt.alloc(), same_rows(rt.alloc())?)?;
     let wanted = "cleared ffffffffffffffff
 RowOpen { seat: 0 }
 cleared ffffffffffffffff
@@ -164,29 +210,50 @@ fn seen_on_table(alloc: Global, low: &Row, high: &Row) -> Option<Seen>
     })
 }
 
-/// Runs the two seats on the plain machine.
-fn seen_on_machine(alloc: Global, low: Row, high: Row) -> Result<Seen, Fail> {
-    let mut machine = Machine::new(alloc, 1, 2)?;
+/// Splits a machine's seat, and clears a row with each of the two.
+fn clear_both(alloc: Global, machine: &mut Machine, low: Row, high: Row) -> Result<(), AllocError>
+    requires { length machine.old.views < 900 }
+    ensures { length machine.new.views ≤ length machine.old.views + 3 }
+{
     let events = [
         StepEvent::Split { seat: 0, shares: 1 },
         StepEvent::Clear { seat: 0, row: low },
         StepEvent::Clear { seat: 1, row: high },
     ];
-    tell(alloc, &mut machine, &events)?;
-    let read = machine.words().first().copied().ok_or("no word")?;
-    let Err(StepFault::SharesOut { have, all }) = machine.step(&StepEvent::Close { seat: 0 }) else {
-        return Err(Fail::from("closed with shares out"));
-    };
-    tell(
-        alloc,
-        &mut machine,
-        &[StepEvent::Join { seat: 0, other: 1 }],
-    )?;
-    let Ok(Reply::Closed { words }) = machine.step(&StepEvent::Close { seat: 0 }) else {
-        return Err(Fail::from("not closed"));
-    };
-    let last = words.words().first().copied().ok_or("no word")?;
-    Ok(Seen {
+    tell(alloc, machine, &events)?;
+    Ok(())
+}
+
+/// Closes a machine that has shares out, and tells how many there are and are wanted.
+fn shares_at_close(machine: &mut Machine) -> Option<(u32, u32)>
+    requires { length machine.old.views < 900 }
+    ensures { length machine.new.views ≤ length machine.old.views + 1 }
+{
+    match machine.step(&StepEvent::Close { seat: 0 }) {
+        Err(StepFault::SharesOut { have, all }) => Some((have, all)),
+        _ => None,
+    }
+}
+
+/// Joins the two seats of a machine, closes it, and gives its first word.
+fn word_at_close(machine: &mut Machine) -> Option<u64>
+    requires { length machine.old.views < 900 }
+{
+    machine.step(&StepEvent::Join { seat: 0, other: 1 }).ok()?;
+    match machine.step(&StepEvent::Close { seat: 0 }) {
+        Ok(Reply::Closed { words }) => words.words().first().copied(),
+        _ => None,
+    }
+}
+
+/// What a machine sees whose two seats have cleared their rows.
+fn seen_after(machine: &mut Machine) -> Option<Seen>
+    requires { length machine.old.views < 800 }
+{
+    let read = machine.words().first().copied()?;
+    let (have, all) = shares_at_close(machine)?;
+    let last = word_at_close(machine)?;
+    Some(Seen {
         read,
         have,
         all,
@@ -194,13 +261,31 @@ fn seen_on_machine(alloc: Global, low: Row, high: Row) -> Result<Seen, Fail> {
     })
 }
 
+/// Runs the two seats on the plain machine.
+fn seen_on_machine(alloc: Global, low: Row, high: Row) -> Result<Option<Seen>, AllocError> {
+    let mut machine = Machine::new(alloc, 1, 2)?;
+    clear_both(alloc, &mut machine, low, high)?;
+    Ok(seen_after(&mut machine))
+}
+
+/// Runs the two seats on the running table and on the plain machine.
+fn seen_on_both(alloc: Global) -> Result<(Option<Seen>, Option<Seen>), AllocError> {
+    let low = row_of(alloc, 0, 1)?;
+    let high = row_of(alloc, 0, 4)?;
+    let on_table = seen_on_table(alloc, &low, &high);
+    Ok((on_table, seen_on_machine(alloc, low, high)?))
+}
+
 #[test]
 fn whole_rows_run_as_on_the_table_of_words(rt: HostRuntime) -> Result<(), Fail> {
-    let low = row_of(rt.alloc(), 0, 1)?;
-    let high = row_of(rt.alloc(), 0, 4)?;
-    let on_table = seen_on_table(rt.alloc(), &low, &high).ok_or("no answer")?;
-    let on_machine = seen_on_machine(rt.alloc(), low, high)?;
-    assert_eq!(rt; on_machine, on_table);
-    assert_eq!(rt; on_machine.read, 0xffff_ffff_ffff_fffa);
+    let (on_table, on_machine) = seen_on_both(rt.alloc())?;
+    let seen = Seen {
+        read: 0xffff_ffff_ffff_fffa,
+        have: 1,
+        all: 2,
+        last: 0xffff_ffff_ffff_fffa,
+    };
+    assert_eq!(rt; on_table, Some(seen));
+    assert_eq!(rt; on_machine, Some(seen));
     Ok(())
 }

@@ -60,6 +60,29 @@ fn are_tasks(segments: &[Segment], names: &[String]) -> bool {
             .all(|(s, name)| is(&s.task, name.as_str()))
 }
 
+/// Gives lines that repeat an event, a message that was sent and one that was received, and one
+/// that repeats nothing, each with its fault at this line.
+fn lines_after(line: u32) -> [(Row<'static>, Option<TraceFault>); 4] {
+    [
+        (
+            ("m", "name 0", "sent", 0, None, None),
+            Some(TraceFault::RepeatedEvent { line }),
+        ),
+        (
+            ("n", "name 0", "again", 0, Some("name 14"), None),
+            Some(TraceFault::RepeatedSend { line }),
+        ),
+        (
+            ("n", "name 0", "again", 0, None, Some("name 0")),
+            Some(TraceFault::RepeatedRecv { line }),
+        ),
+        (
+            ("n", "name", "sent", 0, Some("nam"), Some("name 00")),
+            None,
+        ),
+    ]
+}
+
 /// Asserts that these names are told apart, and that a repeated one is refused after them.
 fn tells_apart<R: Abort + AllocGlobal + Threads + Sync>(
     rt: &R,
@@ -67,23 +90,9 @@ fn tells_apart<R: Abort + AllocGlobal + Threads + Sync>(
     line: u32,
 ) -> Result<(), Fail> {
     assert!(rt; are_told_apart(rt, names)?);
-    let event = ("m", "name 0", "sent", 0, None, None);
-    let send = ("n", "name 0", "again", 0, Some("name 14"), None);
-    let receipt = ("n", "name 0", "again", 0, None, Some("name 0"));
-    let other = ("n", "name", "sent", 0, Some("nam"), Some("name 00"));
-    assert_eq!(rt;
-        fault_with(rt, names, event)?,
-        Some(TraceFault::RepeatedEvent { line })
-    );
-    assert_eq!(rt;
-        fault_with(rt, names, send)?,
-        Some(TraceFault::RepeatedSend { line })
-    );
-    assert_eq!(rt;
-        fault_with(rt, names, receipt)?,
-        Some(TraceFault::RepeatedRecv { line })
-    );
-    assert_eq!(rt; fault_with(rt, names, other)?, None);
+    for (more, fault) in lines_after(line) {
+        assert_eq!(rt; fault_with(rt, names, more)?, fault);
+    }
     Ok(())
 }
 
