@@ -12,7 +12,7 @@
 //! book, in which each turn found what the turn before it left (specs/Histories.antt), and what the
 //! caller is told is the replay of its front.
 //!
-//! Example: a program records the traces of a day, while it rolls others:
+//! Example (src/recorder_tests.rt): a program records the traces of a day, while it rolls others:
 //!
 //! 1. `trace_pass::Recorder::open` with the book's number of names; `Recorder::offer` for each
 //!    trace of the day, by one recording or, after `split`, by one on each thread;
@@ -35,6 +35,8 @@ mod journals;
 pub mod laws;
 mod live_book;
 mod plays;
+#[cfg(test)]
+mod recorder_tests;
 mod rolling;
 mod rule;
 #[cfg(test)]
