@@ -129,31 +129,76 @@ fn widen(book: &mut DayBook, names: u32) -> Result<(), AllocError>
     book.widen(names)
 }
 
-/// Adds the sheets of a trace on each of two days that rise.
+/// The sheet of a busy trace for a day of a book of six names.
+fn dated(alloc: Global, day: u32) -> Result<DatedSheet, AllocError>
+    ensures day { IfOk result (λ d. d.day ≡ day) }
+    ensures sheet { IfOk result (λ d. IsSheetOf 6 day d.sheet) }
+    ensures one { IfOk result (λ d. length d.sheet.traces ≡ 1) }
+{
+    let trace = busy(alloc, day, 6)?;
+    let sheet = sheet_of(alloc, trace, 6)?;
+    Ok(DatedSheet { day, sheet })
+}
+
+/// Adds the sheets of a trace on each of two days that rise. Where they are too many, it answers
+/// how many days there would be and how many sheets came back.
 fn add_both(
     alloc: Global,
     book: &mut DayBook,
     first: u32,
     second: u32,
-) -> Result<Result<(), AddAllFault>, AllocError>
+) -> Result<Option<(u32, usize)>, AllocError>
     requires rising { first < second }
     requires names { book.old.names ≡ 6 }
     requires few { length (all_traces book.old.days) < 1000 }
     ensures names { book.new.names ≡ 6 }
     ensures few { length (all_traces book.new.days) ≤ length (all_traces book.old.days) + 2 }
 {
-    let one = sheet_of(alloc, busy(alloc, first, 6)?, 6)?;
-    let other = sheet_of(alloc, busy(alloc, second, 6)?, 6)?;
-    let low = DatedSheet {
-        day: first,
-        sheet: one,
-    };
-    let high = DatedSheet {
-        day: second,
-        sheet: other,
-    };
+    let low = dated(alloc, first)?;
+    let high = dated(alloc, second)?;
     let sheets = Vec::from_array(alloc, [low, high])?;
-    Ok(book.add_all(sheets))
+    match book.add_all(sheets) {
+        Ok(()) => Ok(None),
+        Err(AddAllFault::TooManyDays { sheets, days }) => Ok(Some((days, sheets.len()))),
+        Err(AddAllFault::Memory { .. }) => Err(AllocError),
+    }
+}
+
+/// Adds a sheet of a quiet trace. Where its day is one too many, it answers how many days there
+/// would be and how many traces came back.
+fn add_quiet(
+    alloc: Global,
+    book: &mut DayBook,
+    day: u32,
+) -> Result<Option<(u32, usize)>, AllocError>
+    requires names { book.old.names ≡ 6 }
+    requires few { length (all_traces book.old.days) < 1000 }
+    ensures names { book.new.names ≡ 6 }
+    ensures few { length (all_traces book.new.days) ≤ length (all_traces book.old.days) + 1 }
+{
+    let trace = quiet(alloc, day)?;
+    let sheet = sheet_of(alloc, trace, 6)?;
+    match book.add(day, sheet) {
+        Ok(()) => Ok(None),
+        Err(BookFault::TooManyDays { sheet, days }) => Ok(Some((days, sheet.traces().len()))),
+        Err(BookFault::Memory { .. }) => Err(AllocError),
+    }
+}
+
+/// Adds a sheet of a quiet trace to each of so many days, from 0 on. Tells whether all were added.
+fn add_quiet_days(alloc: Global, book: &mut DayBook, count: u32) -> Result<bool, AllocError>
+    requires names { book.old.names ≡ 6 }
+    requires empty { book.old.days ≡ [] }
+    requires count { count < 1000 }
+    ensures names { book.new.names ≡ 6 }
+    ensures few { length (all_traces book.new.days) ≤ count }
+{
+    'days: for day in 0..count {
+        if add_quiet(alloc, book, day)?.is_some() {
+            return Ok(false);
+        }
+    }
+    Ok(true)
 }
 
 /// The days of a book, each with the number of its traces.
@@ -305,34 +350,61 @@ fn widen_adds_full_words_and_a_drop_brings_relations_back(rt: HostRuntime) -> Re
     Ok(())
 }
 
+/// Tells whether two days more are refused, and leave the days and the words as they were.
+fn two_days_change_nothing(alloc: Global, book: &mut DayBook) -> Result<bool, AllocError>
+    requires names { book.old.names ≡ 6 }
+    requires few { length (all_traces book.old.days) < 900 }
+    ensures names { book.new.names ≡ 6 }
+    ensures few { length (all_traces book.new.days) < 902 }
+{
+    let before = list_days(alloc, book)?;
+    let refused = add_both(alloc, book, 70, 71)?;
+    let after = list_days(alloc, book)?;
+    Ok(refused == Some((65, 2)) && before == after)
+}
+
 #[test]
 fn a_65th_day_is_told_and_no_day_is_added(rt: HostRuntime) -> Result<(), Fail> {
     let alloc = rt.alloc();
     let mut book = DayBook::new(alloc, 6)?;
-    'days: for day in 0..63u32 {
-        add_sheet(&rt, &mut book, day, sheet_of(alloc, quiet(alloc, day)?, 6)?);
-    }
-    let before = list_days(alloc, &book)?;
-    assert_eq!(rt; before.len(), 63);
-    let Err(AddAllFault::TooManyDays { sheets, days }) = add_both(alloc, &mut book, 70, 71)? else {
-        panic!(rt; "two days more");
-    };
-    assert_eq!(rt; (days, sheets.len()), (65, 2));
-    assert!(rt; list_days(alloc, &book)? == before);
+    assert!(rt; add_quiet_days(alloc, &mut book, 63)?);
+    assert!(rt; two_days_change_nothing(alloc, &mut book)?);
+    assert_eq!(rt; book.days(), 63);
     assert!(rt; has_plain_words(alloc, &book, &[], 6)?);
     assert_eq!(rt; drop_one(&mut book, 0), 1);
-    let Ok(()) = add_both(alloc, &mut book, 70, 71)? else {
-        panic!(rt; "not added");
-    };
+    assert_eq!(rt; add_both(alloc, &mut book, 70, 71)?, None);
     assert_eq!(rt; book.days(), 64);
     assert!(rt; has_plain_words(alloc, &book, &[(70, 1), (71, 1)], 6)?);
-    let Err(BookFault::TooManyDays { sheet, days }) = book.add(
-        80,
-        sheet_of(alloc, quiet(alloc, 80)?, 6)?,
-    ) else {
-        panic!(rt; "a day more");
-    };
-    assert_eq!(rt; (days, sheet.traces().len()), (65, 1));
+    assert_eq!(rt; add_quiet(alloc, &mut book, 80)?, Some((65, 1)));
+    Ok(())
+}
+
+/// Adds the sheet of a busy trace to each of 64 days of a book of 512 names.
+fn fill_book(rt: &impl Abort, alloc: Global, book: &mut DayBook) -> Result<(), AllocError>
+    requires names { book.old.names ≡ 512 }
+    requires empty { book.old.days ≡ [] }
+{
+    'days: for day in 0..64u32 {
+        let trace = busy(alloc, day, 512)?;
+        add_sheet(rt, book, day, sheet_of(alloc, trace, 512)?);
+    }
+    Ok(())
+}
+
+/// Tells whether the words of a book of 512 names are those of a busy trace on each of eight days:
+/// as many days later the traces have the same names again.
+fn has_words_of_eight_days(alloc: Global, book: &DayBook) -> Result<bool, AllocError> {
+    let days = [0u32, 1, 2, 3, 4, 5, 6, 7].map(|day| (day, 1u64));
+    has_plain_words(alloc, book, &days, 512)
+}
+
+#[test]
+fn the_greatest_book_has_512_names_on_64_days(rt: HostRuntime) -> Result<(), Fail> {
+    let alloc = rt.alloc();
+    let mut book = DayBook::new(alloc, 512)?;
+    fill_book(&rt, alloc, &mut book)?;
+    assert_eq!(rt; (book.days(), book.words().len()), (64, 8302));
+    assert!(rt; has_words_of_eight_days(alloc, &book)?);
     Ok(())
 }
 
