@@ -1,6 +1,6 @@
 //! The program `mystery`: it learns from logged events how the segments of requests depend on each
-//! other. `mystery_run::run_real` is the whole program over the real files and streams; `main` gives it the
-//! arguments and ends with its status.
+//! other. `mystery_run::run_real` is the whole program over the real files and streams; `main` gives
+//! it the arguments and ends with its status.
 #![tactic(auto)]
 
 use mystery_io::{RealSink, send_text};
@@ -27,7 +27,8 @@ fn collect_arguments(rt: &HostRuntime, alloc: Global) -> Result<Vec<Text>, Alloc
     Ok(words)
 }
 
-/// Runs the program over the real files, standard output and standard error, and ends with its status.
+/// Runs the program over the real files, standard output and standard error, and ends with its
+/// status.
 fn main(rt: HostRuntime) -> ExitCode {
     let alloc = rt.alloc();
     let Ok(words) = collect_arguments(&rt, alloc) else {
