@@ -76,10 +76,7 @@ fn lines_after(line: u32) -> [(Row<'static>, Option<TraceFault>); 4] {
             ("n", "name 0", "again", 0, None, Some("name 0")),
             Some(TraceFault::RepeatedRecv { line }),
         ),
-        (
-            ("n", "name", "sent", 0, Some("nam"), Some("name 00")),
-            None,
-        ),
+        (("n", "name", "sent", 0, Some("nam"), Some("name 00")), None),
     ]
 }
 
