@@ -1,3 +1,4 @@
 pub mod CutLemmas
 pub mod NumberLemmas
+pub mod PrintLemmas
 pub mod RowLemmas

@@ -1,10 +1,10 @@
 -- The rows of a text, and what is printed of each.
-use Rattle.std.specs.Prelude.{ℕ, ◌≡◌, ◌++◌, ◌∷◌, [], List, Option, IsPermutation}
+use Rattle.std.specs.Prelude.{ℕ, ◌≡◌, ◌++◌, ◌∷◌, [], List, Option, IsPermutation, ◌⊎◌}
 use Rattle.std.specs.List.Sorted.{IsSortedByKey}
 use Rattle.std.specs.Str.Lines.{lines}
 use Rattle.std.specs.Io.KnownBytes.{append_known}
 use Rattle.text_rows.specs.Rows.{row_of}
-use Rattle.text_rows.specs.TextsOfParts.{AreTexts}
+use Rattle.text_rows.specs.TextsOfParts.{AreTexts, PrintsPrefix}
 use Rattle.pretty_cli.specs.declared.context.Context.{Context}
 use Rattle.pretty_cli.specs.declared.context.Kind.{Kind}
 use Rattle.pretty_cli.specs.declared.context.Kind.TheVariants as kinds
@@ -72,14 +72,12 @@ IsPrintedRow limit row bytes = (text : List ℕ) × IsRowText limit row text × 
 abbrev pub AreInOrder : List Row → Type 0
 AreInOrder rows = IsSortedByKey (λ row. row.place) place_cmp rows
 
--- what a text is printed as: each row of its lines once, in the order of their places
-pub record IsPretty (limit : ℕ) (text bytes : List ℕ) : Type 0 where
+-- the rows of a text, each once, in the order of their places
+pub record AreArranged (text : List ℕ) (printed : List Row) : Type 0 where
   pub rows : List Row
   pub are_rows : AreRowsOf (lines text) rows
-  pub printed : List Row
   pub once : IsPermutation rows printed
   pub in_order : AreInOrder printed
-  pub told : AreTexts (IsPrintedRow limit) printed bytes
 
 -- these rows were printed
 pub record PrintsRows (limit : ℕ) (rows : List Row) (before now : Option (List ℕ)) : Type 0 where
@@ -87,8 +85,14 @@ pub record PrintsRows (limit : ℕ) (rows : List Row) (before now : Option (List
   pub told : AreTexts (IsPrintedRow limit) rows bytes
   pub written : now ≡ append_known before bytes
 
--- a text was printed whole
+-- a text was printed whole: each row of its lines once, in the order of their places
 pub record PrintsPretty (limit : ℕ) (text : List ℕ) (before now : Option (List ℕ)) : Type 0 where
-  pub bytes : List ℕ
-  pub pretty : IsPretty limit text bytes
-  pub written : now ≡ append_known before bytes
+  pub printed : List Row
+  pub arranged : AreArranged text printed
+  pub rows : PrintsRows limit printed before now
+
+-- nothing was printed of a text, or whole rows of it and then a prefix of one
+abbrev pub PrintsPrettyPrefix : ℕ → List ℕ → Option (List ℕ) → Option (List ℕ) → Type 0
+PrintsPrettyPrefix limit text before now = (now ≡ before)
+    ⊎ ((printed : List Row) × AreArranged text printed
+    × PrintsPrefix (IsPrintedRow limit) printed before now [])

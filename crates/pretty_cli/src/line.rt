@@ -10,7 +10,7 @@ use unicode_width::UnicodeWidthStr;
 /// How wide a column is, without the two spaces behind it.
 const COLUMN: usize = 8;
 
-/// So many columns of the terminal have one of the line, so that half of it is left for the label.
+/// A line has one column for each twenty of the terminal's, so that half of it is left for the label.
 const LINE_OF_COLUMN: usize = 20;
 
 /// Appends so many spaces.

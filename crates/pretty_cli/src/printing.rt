@@ -1,5 +1,8 @@
-ghost use Rattle.std.specs.Prelude.{◌≡◌, IsPermutation, OnOk};
-ghost use Rattle.pretty_cli.specs.Texts.{AreInOrder, IsPrintedRow, PrintsPretty, PrintsRows};
+ghost use Rattle.std.specs.Prelude.{◌≡◌, [], IsPermutation, OnErr, OnOk};
+ghost use Rattle.text_rows.specs.Printing.{print_faults};
+ghost use Rattle.text_rows.specs.TextsOfParts.{PrintsPrefix};
+ghost use Rattle.pretty_cli.specs.Texts.{AreInOrder, IsPrintedRow, PrintsPretty, PrintsPrettyPrefix};
+ghost use Rattle.pretty_cli.specs.Texts.{PrintsRows};
 
 use crate::fields::lines_of;
 use crate::place::Place;
@@ -51,14 +54,18 @@ fn order_rows(rows: &mut Vec<Row<'_>>) -> Result<(), AllocError>
     Ok(())
 }
 
-/// Prints the text of each row, and flushes the buffer.
+/// Prints the text of each row, and flushes the buffer. An error leaves whole rows and a prefix of
+/// one.
 fn print_rows<S: Sink>(
     alloc: Global,
     sink: &mut S,
     rows: &[Row<'_>],
     limit: usize,
 ) -> Result<(), PrintFault>
-    ensures { OnOk result (PrintsRows limit rows.now (S.written sink.old) (S.written sink.new)) }
+    ensures all { OnOk result (PrintsRows limit rows.now (S.written sink.old) (S.written sink.new)) }
+    ensures prefix { OnErr result (PrintsPrefix (IsPrintedRow limit) rows.now
+        (S.written sink.old) (S.written sink.new) []) }
+    ensures counted { S.faults sink.new ≡ print_faults result (S.faults sink.old) }
 {
     flush_ends_a_text();
     let mut buffer = RowBuffer::new(alloc);
@@ -71,17 +78,22 @@ fn print_rows<S: Sink>(
     Ok(())
 }
 
-/// Prints the rows of a text, in the order of their places, as lines of at most so many columns.
+/// Prints the rows of a text, in the order of their places, as lines of at most so many columns. An
+/// error leaves whole rows and a prefix of one.
 pub(crate) fn print_text<S: Sink>(
     alloc: Global,
     sink: &mut S,
     text: &str,
     limit: usize,
 ) -> Result<(), PrintFault>
-    ensures { OnOk result (PrintsPretty limit text.now (S.written sink.old) (S.written sink.new)) }
+    ensures all { OnOk result (PrintsPretty limit text.now (S.written sink.old) (S.written sink.new)) }
+    ensures prefix { OnErr result
+        (PrintsPrettyPrefix limit text.now (S.written sink.old) (S.written sink.new)) }
+    ensures counted { S.faults sink.new ≡ print_faults result (S.faults sink.old) }
 {
     let lines = lines_of(alloc, text)?;
     let mut rows = rows_of(alloc, &lines)?;
     order_rows(&mut rows)?;
-    print_rows(alloc, sink, &rows, limit)
+    print_rows(alloc, sink, &rows, limit)?;
+    Ok(())
 }
