@@ -128,19 +128,19 @@ HaveOneEnding = (words : List (List ℕ)) (cert input : List ℕ) (o p : Outcome
 
 -- a run ends as its arguments, its certificate and its input decide, or memory, a file or the sink failed
 module _ (one : HaveOneEnding) where
-  decided_as : (words : List (List ℕ)) (cert input : List ℕ) (o p : Outcome) (n : ℕ) (t u : List ℕ) → n ≡ status_of o → IsDecided p → Ends words cert input o t → Ends words cert input p u → (n ≡ status_of p) ⊎ (n ≡ 1) ⊎ (n ≡ 4) ⊎ (n ≡ 5)
-  decided_as words cert input Done p n t u s d h k = inl (s ∙ ap status_of (one words cert input Done p t u tt d h k))
-  decided_as words cert input (Over l) p n t u s d h k = inl (s ∙ ap status_of (one words cert input (Over l) p t u tt d h k))
-  decided_as words cert input Arguments p n t u s d h k = inl (s ∙ ap status_of (one words cert input Arguments p t u tt d h k))
-  decided_as words cert input (BadLine l w) p n t u s d h k = inl (s ∙ ap status_of (one words cert input (BadLine l w) p t u tt d h k))
-  decided_as words cert input Size p n t u s d h k = inl (s ∙ ap status_of (one words cert input Size p t u tt d h k))
-  decided_as words cert input Memory p n t u s d h k = inr (inl s)
-  decided_as words cert input (File i) p n t u s d h k = inr (inr (inl s))
-  decided_as words cert input Write p n t u s d h k = inr (inr (inr s))
+  decided_as : (words : List (List ℕ)) (cert input : List ℕ) (o p : Outcome) (t u : List ℕ) → IsDecided p → Ends words cert input o t → Ends words cert input p u → (o ≡ p) ⊎ (status_of o ≡ 1) ⊎ (status_of o ≡ 4) ⊎ (status_of o ≡ 5)
+  decided_as words cert input Done p t u d h k = inl (one words cert input Done p t u tt d h k)
+  decided_as words cert input (Over l) p t u d h k = inl (one words cert input (Over l) p t u tt d h k)
+  decided_as words cert input Arguments p t u d h k = inl (one words cert input Arguments p t u tt d h k)
+  decided_as words cert input (BadLine l w) p t u d h k = inl (one words cert input (BadLine l w) p t u tt d h k)
+  decided_as words cert input Size p t u d h k = inl (one words cert input Size p t u tt d h k)
+  decided_as words cert input Memory p t u d h k = inr (inl refl)
+  decided_as words cert input (File i) p t u d h k = inr (inr (inl refl))
+  decided_as words cert input Write p t u d h k = inr (inr (inr refl))
 
-  pub decided_by : (seen : FilesSeen) (words : List (List ℕ)) (old new : Option (List ℕ)) (o : Outcome) (n : ℕ) → n ≡ status_of o → OfInputs seen words (λ cert input. (text : List ℕ) × Ends words cert input o text × Writes o old new text)
-      → OfInputs seen words (λ cert input. (p : Outcome) (u : List ℕ) → IsDecided p → Ends words cert input p u → (n ≡ status_of p) ⊎ (n ≡ 1) ⊎ (n ≡ 4) ⊎ (n ≡ 5))
-  decided_by seen words old new o n s h = λ p u d k. decided_as words _ _ o p n h.0 u s d h.1 k
+  pub decided_by : (seen : FilesSeen) (words : List (List ℕ)) (old new : Option (List ℕ)) (o : Outcome) → OfInputs seen words (λ cert input. (text : List ℕ) × Ends words cert input o text × Writes o old new text)
+      → OfInputs seen words (λ cert input. (p : Outcome) (u : List ℕ) → IsDecided p → Ends words cert input p u → (o ≡ p) ⊎ (status_of o ≡ 1) ⊎ (status_of o ≡ 4) ⊎ (status_of o ≡ 5))
+  decided_by seen words old new o h = λ p u d k. decided_as words _ _ o p h.0 u d h.1 k
 
 -- two texts of one ending are one, or alike
 module _ (whole : WholeTextsAreAlike) (limited : TextsToLimitAreAlike) where

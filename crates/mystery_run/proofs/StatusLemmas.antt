@@ -1,13 +1,18 @@
 -- What an outcome is, by its status.
-use Rattle.std.proofs.Common.{◌≡◌, ◌⊎◌, ℕ, arith, inl, inr, refl, sym, ◌∙◌}
-use Rattle.std.specs.Prelude.{◌==◌, not}
+use Rattle.std.proofs.Common.{◌≡◌, ◌≤◌, ◌⊎◌, ℕ, List, [], false, Option, Some, None, arith, inl, inr, refl, sym, ◌∙◌}
+use Rattle.std.specs.Option.{option_map_or}
+use Rattle.std.specs.Prelude.{◌==◌, is_some, not}
 use Rattle.session_rules.specs.declared.limit.Limit.{Limit}
 use Rattle.mystery_run.specs.declared.outcome.Outcome.{Outcome}
 use Rattle.mystery_run.specs.declared.outcome.Outcome.TheVariants.{Done, Memory, Arguments, BadLine, File, Write, Size, Over}
 use Rattle.mystery_run.specs.declared.reason.Reason.{Reason}
-use Rattle.mystery_run.specs.CommandLines.{is_in_grammar}
+use Rattle.mystery_run.specs.CommandLines.{Call, call_of, files_of, files_of_action, is_in_grammar}
+use Rattle.mystery_run.specs.Endings.{CallEndsAt}
 use Rattle.mystery_run.specs.Messages.{status_of}
-use Rattle.mystery_run.specs.Runs.{Seen, Reads, ReadsAll}
+use Rattle.mystery_run.specs.Readings.{FitsSize, PassesSize}
+use Rattle.mystery_run.specs.Runs.{EndsAs, OfInputs, Seen, Reads, ReadsAll}
+use Rattle.mystery_run.specs.inner.Leaving.{LeavesSink}
+use Rattle.mystery_run.proofs.ReadingLemmas.{size_apart}
 
 module _ (P : Outcome → Type 0) where
   -- with 0 it is done
@@ -102,3 +107,56 @@ reads_of (File index) s n e h k = neither n 4 e (λ q. omega (arith, q)) (λ q. 
 reads_of Write s n e h k = h
 reads_of Size s n e h k = neither n 6 e (λ q. omega (arith, q)) (λ q. omega (arith, q)) (λ q. omega (arith, q)) k
 reads_of (Over limit) s n e h k = neither n 6 e (λ q. omega (arith, q)) (λ q. omega (arith, q)) (λ q. omega (arith, q)) k
+
+-- no status is greater than 6
+pub at_most_6 : (o : Outcome) → status_of o ≤ 6
+at_most_6 Done = omega (arith)
+at_most_6 Memory = omega (arith)
+at_most_6 Arguments = omega (arith)
+at_most_6 (BadLine line why) = omega (arith)
+at_most_6 (File index) = omega (arith)
+at_most_6 Write = omega (arith)
+at_most_6 Size = omega (arith)
+at_most_6 (Over limit) = omega (arith)
+
+-- arguments outside the grammar name no file
+no_files_of : (call : Option Call) → is_some call ≡ false → option_map_or (λ (c : Call). files_of_action c.action) call [] ≡ []
+no_files_of None h = refl
+no_files_of (Some call) h = cc
+
+pub no_files : (words : List (List ℕ)) → is_in_grammar words ≡ false → files_of words ≡ []
+no_files words h = no_files_of (call_of words) h
+
+-- a run whose jobs pass a limit read no more than the limit of size
+over_fits : (c : Option Call) (cert input : List ℕ) (limit : Limit) (text : List ℕ) → CallEndsAt c cert input (Over limit) text → FitsSize cert input
+over_fits None cert input limit text h =
+    let e : Over limit ≡ Arguments = h.0 in
+    cc
+over_fits (Some call) cert input limit text h = h.0
+
+-- where it ends with 2, 3 or 4, or what it read is too big, it leaves the sink
+module _ {S : Type 0} (old new : S) (s : Seen) where
+  abbrev pub AreLeft : ℕ → Type 0
+  AreLeft n = (n ≡ 2) ⊎ (n ≡ 3) ⊎ (n ≡ 4) ⊎ ((n ≡ 6) × OfInputs s.files s.words PassesSize)
+
+  not_left : (n m : ℕ) → n ≡ m → (m ≡ 2 → ⊥) → (m ≡ 3 → ⊥) → (m ≡ 4 → ⊥) → (m ≡ 6 → ⊥) → AreLeft n → new ≡ old
+  not_left n m e f g h i (inl k) = absurd (f (sym e ∙ k))
+  not_left n m e f g h i (inr (inl k)) = absurd (g (sym e ∙ k))
+  not_left n m e f g h i (inr (inr (inl k))) = absurd (h (sym e ∙ k))
+  not_left n m e f g h i (inr (inr (inr k))) = absurd (i (sym e ∙ k.0))
+
+  over_left : (n : ℕ) (limit : Limit) → n ≡ 6 → EndsAs (Over limit) s → AreLeft n → new ≡ old
+  over_left n limit e h (inl k) = absurd (omega (arith, e, k))
+  over_left n limit e h (inr (inl k)) = absurd (omega (arith, e, k))
+  over_left n limit e h (inr (inr (inl k))) = absurd (omega (arith, e, k))
+  over_left n limit e h (inr (inr (inr k))) = absurd (size_apart _ _ (over_fits (call_of s.words) _ _ limit h.0 h.1) k.1)
+
+  pub leaves_sink : (o : Outcome) (n : ℕ) → n ≡ status_of o → LeavesSink o old new → EndsAs o s → AreLeft n → new ≡ old
+  leaves_sink Done n e l h k = not_left n 0 e (λ q. omega (arith, q)) (λ q. omega (arith, q)) (λ q. omega (arith, q)) (λ q. omega (arith, q)) k
+  leaves_sink Memory n e l h k = not_left n 1 e (λ q. omega (arith, q)) (λ q. omega (arith, q)) (λ q. omega (arith, q)) (λ q. omega (arith, q)) k
+  leaves_sink Arguments n e l h k = l
+  leaves_sink (BadLine line why) n e l h k = l
+  leaves_sink (File index) n e l h k = l
+  leaves_sink Write n e l h k = not_left n 5 e (λ q. omega (arith, q)) (λ q. omega (arith, q)) (λ q. omega (arith, q)) (λ q. omega (arith, q)) k
+  leaves_sink Size n e l h k = l
+  leaves_sink (Over limit) n e l h k = over_left n limit e h k

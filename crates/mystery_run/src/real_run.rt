@@ -4,7 +4,8 @@ ghost use Rattle.mystery_io.specs.RealObjects.{sink_taken};
 ghost use Rattle.mystery_run.specs.CommandLines.{files_of};
 ghost use Rattle.mystery_run.specs.Messages.{message_of, status_of};
 ghost use Rattle.mystery_run.specs.RealRuns.{IsSent, real_run_seen};
-ghost use Rattle.mystery_run.specs.Runs.{Explains};
+ghost use Rattle.mystery_run.specs.Readings.{PassesSize};
+ghost use Rattle.mystery_run.specs.Runs.{Explains, OfInputs};
 ghost use Rattle.mystery_run.specs.declared.outcome.Outcome.{Outcome};
 
 use crate::run;
@@ -37,7 +38,10 @@ pub fn run_real<'r, R: Threads + Sync + Files>(
     // What is left alone.
     ensures unread { files_of words.now ≡ []
         → (files_given result.1 ≡ []) × (open_calls result.1 ≡ 0) }
-    ensures nothing { (result.0 ≡ 2) ⊎ (result.0 ≡ 3) ⊎ (result.0 ≡ 4) → sink_taken result.2 ≡ [] }
+    ensures nothing { (result.0 ≡ 2) ⊎ (result.0 ≡ 3) ⊎ (result.0 ≡ 4)
+        ⊎ ((result.0 ≡ 6)
+        × OfInputs (real_run_seen words.now result.1 result.2).files words.now PassesSize)
+        → sink_taken result.2 ≡ [] }
     ensures silent { result.0 ≡ 0 → sink_taken result.3 ≡ [] }
 {
     let mut files = RealFiles::new(rt);
