@@ -13,7 +13,7 @@ use Rattle.session_rules.specs.declared.job.Job.{Job}
 use Rattle.mystery_run.specs.declared.outcome.Outcome.{Outcome}
 use Rattle.mystery_run.specs.declared.outcome.Outcome.TheVariants.{Done, Memory, Arguments, BadLine, File, Write, Size, Over}
 use Rattle.mystery_run.specs.CommandLines.{Call, all_files_of, call_of, certificate_of, certificate_of_action, files_of, files_of_action, is_in_grammar}
-use Rattle.mystery_run.specs.Endings.{CallEnds, Ends, CallEndsAt, Writes}
+use Rattle.mystery_run.specs.Endings.{CallEnds, Ends, CallEndsAt}
 use Rattle.mystery_run.specs.Readings.{FailsAt, FitsSize, PassesAt, PassesSize}
 use Rattle.mystery_run.specs.ReplayTexts.{replay_text}
 use Rattle.mystery_run.specs.Runs.{Seen, OfInputs, ReadsAll, EndsAs, Reads, Explains}

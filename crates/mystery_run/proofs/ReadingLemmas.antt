@@ -1,11 +1,11 @@
 -- Two readings, one after another: which files were opened, which one failed, and what was read.
-use Rattle.std.proofs.Common.{◌≡◌, ◌⊎◌, ℕ, ◌+◌, ◌∷◌, ◌++◌, ◌<◌, ◌≤◌, List, [], length, take, drop, map, true, false, ap, arith, refl, sym, ◌∙◌, subst, inl, inr, append_assoc, append-nil}
+use Rattle.std.proofs.Common.{◌≡◌, ℕ, ◌+◌, ◌∷◌, ◌++◌, ◌<◌, ◌≤◌, List, [], length, take, drop, map, true, false, ap, arith, refl, sym, ◌∙◌, subst, inl, inr, append_assoc, append-nil}
 use Rattle.std.specs.Prelude.{◌==◌}
 use Rattle.std.proofs.Math.Seq.{take-append-add, take-length}
 use Rattle.std.proofs.lemmas.Bool.{eqb-true}
 use Rattle.std.proofs.lemmas.List.{drop_at, length-append, length-map, length-take, map-append, nil_from_length, take_all, take_at, take-append-drop, take-append-le}
 use Rattle.std.proofs.lemmas.List.Elements.{All-append, All-head, All-nil, All-tail}
-use Rattle.mystery_io.specs.Input.{bytes_read, input_limit, input_read}
+use Rattle.mystery_io.specs.Input.{input_limit, input_read}
 use Rattle.mystery_io.specs.ReadFaults.{FilesSeen, OpensFirst, FailedAt, HasReadCause, PassedAt}
 use Rattle.mystery_io.specs.Readings.{AreEnded, AreEndedBeforeLast, OnlyGrow, Reading, new_readings}
 use Rattle.mystery_io.specs.declared.reading.ReadFault.{ReadFault}

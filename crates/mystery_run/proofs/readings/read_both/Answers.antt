@@ -1,6 +1,5 @@
-use Rattle.std.proofs.Common.{◌≡◌, ◌+◌, ◌++◌, List, length, refl}
+use Rattle.std.proofs.Common.{◌≡◌, ◌+◌, ◌++◌, length, refl}
 use Rattle.mystery_io.specs.ReadFaults.{FilesSeen, files_seen}
-use Rattle.mystery_io.specs.Readings.{Reading, new_readings}
 use Rattle.mystery_run.proofs.ReadingLemmas.{fails_later, new_twice, opens_all, opens_both, passes_later}
 use Rattle.mystery_run.proofs.readings.read_both.Goals as goal
 

@@ -1,4 +1,3 @@
-use Rattle.std.proofs.Common.{◌≡◌}
 use Rattle.mystery_run.proofs.readings.read_claims.Goals as goal
 
 pub returns-in-Ok-clause-said : goal.returns-in-Ok-clause-said
