@@ -111,7 +111,7 @@ module _ {X : Type 0} (known : Known) (laws : AreLaws known) (b : BookState) (ta
     found f e = subst (λ (r : Relation). findings.IsFirstRefuter b.days r f) (sym (relation (text m) (text n) m n)) (refuter_found known b table has kind m n below_m below_n f e)
 
     first : (f : Finding) (e : refuter_between table kind m n ≡ Some f) → IsShownFirst known kept (matter_of (text m) (text n)) (found f e).trace f.index
-    first f e = first_shown known laws b kept has.book shown (matter_of (text m) (text n)) m n (text_numbers m n lm ln) (refuter_differs table kind m n f e) f (found f e)
+    first f e = first_shown known laws b kept has.kept.book shown (matter_of (text m) (text n)) m n (text_numbers m n lm ln) (refuter_differs table kind m n f e) f (found f e)
 
     -- a pair that has a refuter is refuted
     pub refuted_told : is_some (refuter_between table kind m n) ≡ true → IsRefuted (RefutesMatter (matter_of (text m) (text n))) kept

@@ -40,9 +40,9 @@ module _ (known : Known) (b : BookState) (table : FindingTable) (has : HasRefute
   -- the table tells the first refuter of two different numbers
   pub refuter_told : m ≢ n → IsRefuterOf b.days (relation_of_kind kind m n) (refuter_between table kind m n)
   refuter_told differ =
-      let fits = relation_fits known has.fits kind m n differ lm ln in
+      let fits = relation_fits known has.kept.known kind m n differ lm ln in
       rw (refuter_apart table kind m n differ)
-      (has.first (relation_of_kind kind m n) fits.0 (subst (λ (names : ℕ). NamesBelow names (relation_of_kind kind m n)) (sym has.names) fits.1))
+      (has.first (relation_of_kind kind m n) fits.0 (subst (λ (names : ℕ). NamesBelow names (relation_of_kind kind m n)) (sym has.kept.names) fits.1))
 
   pub refuter_found : (f : Finding) → refuter_between table kind m n ≡ Some f → IsFirstRefuter b.days (relation_of_kind kind m n) f
   refuter_found f found = subst (λ o. IfSome o (IsFirstRefuter b.days (relation_of_kind kind m n))) found (refuter_told (refuter_differs table kind m n f found)).first

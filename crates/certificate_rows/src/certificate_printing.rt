@@ -1,8 +1,8 @@
 ghost use Rattle.std.specs.Prelude.{◌≡◌, ◌<◌, ◌≤◌, All, List, length};
 ghost use Rattle.certificate_rows.specs.inner.Sources.{IsSource};
 ghost use Rattle.certificate_rows.specs.inner.Wholes.{certificate_text};
-ghost use Rattle.day_partitions.specs.Books.{all_traces};
 ghost use Rattle.kept_books.specs.Shown.{AreShown};
+ghost use Rattle.named_books.specs.KeptBooks.{traces_in};
 ghost use Rattle.session_rules.specs.CertificateTexts.{why_row};
 ghost use Rattle.session_rules.specs.KeptTraces.{Kept};
 ghost use Rattle.session_rules.specs.Parts.{IsPart};
@@ -18,9 +18,8 @@ use crate::numbers::{names_in_order, tasks_in_order};
 use crate::row_walks::print_kind;
 use crate::source::Source;
 use counterexamples::find_all;
-use day_partitions::DayBook;
 use mystery_io::Sink;
-use segment_names::Catalogue;
+use named_books::KeptBook;
 use session_rules::SessionPart;
 use std::alloc::Global;
 use text_rows::laws::{calls_follow, parts_follow};
@@ -57,12 +56,12 @@ fn print_all<S: Sink>(
     tasks: &[u32],
 ) -> Result<(), PrintFault>
     requires source { IsSource source.now }
-    requires names { All (λ n. n < length source.now.catalogue.now.names) names.now }
-    requires tasks { All (λ n. n < length source.now.catalogue.now.tasks) tasks.now }
+    requires names { All (λ n. n < length source.now.book.now.known.names) names.now }
+    requires tasks { All (λ n. n < length source.now.book.now.known.tasks) tasks.now }
     requires few_names { length names.now ≤ 512 }
     requires few_tasks { length tasks.now ≤ 512 }
     ensures { PrintsText S.written S.faults result sink.old sink.new buffer.old buffer.new
-        (certificate_text source.now.catalogue.now source.now.book.now.days source.now.refuters.now
+        (certificate_text source.now.book.now.known source.now.book.now.book.days source.now.refuters.now
         names.now tasks.now) }
 {
     calls_follow::<S>();
@@ -85,13 +84,11 @@ fn print_all<S: Sink>(
 /// printed, and nothing is said of the buffer.
 pub fn print_certificate<S: Sink>(
     alloc: Global,
-    book: &DayBook,
-    catalogue: &Catalogue,
+    book: &KeptBook,
     sink: &mut S,
     buffer: &mut RowBuffer,
 ) -> Result<(), PrintFault>
-    requires names { book.now.names ≡ length catalogue.now.names }
-    ensures printed { (kept : List Kept) → AreShown catalogue.now (all_traces book.now.days) kept
+    ensures printed { (kept : List Kept) → AreShown book.now.known (traces_in book.now) kept
         → (refuted : Refutations) → AreRefutations kept refuted
         → PrintsTexts S.written S.faults result sink.old sink.new IsPart
         (why_parts kept refuted) buffer.old buffer.new }
@@ -99,14 +96,12 @@ pub fn print_certificate<S: Sink>(
 {
     parts_follow::<SessionPart>();
     certificate_is_shown();
-    let _names = catalogue.names();
-    let _days = book.days();
-    let refuters = find_all(alloc, book)?;
+    let catalogue = book.catalogue();
+    let refuters = find_all(alloc, book.day_book())?;
     let names = names_in_order(alloc, catalogue)?;
     let tasks = tasks_in_order(alloc, catalogue)?;
     let source = Source {
         book,
-        catalogue,
         refuters: &refuters,
     };
     print_all(sink, buffer, &source, &names, &tasks)

@@ -9,8 +9,8 @@ use crate::source::Source;
 /// Counts the refuted relations of a kind between a number and others.
 fn count_from(source: &Source<'_>, kind: Kind, one: u32, others: &[u32]) -> u64
     requires source { IsSource source.now }
-    requires one { one < count_of source.now.catalogue.now kind }
-    requires others { All (λ n. n < count_of source.now.catalogue.now kind) others.now }
+    requires one { one < count_of source.now.book.now.known kind }
+    requires others { All (λ n. n < count_of source.now.book.now.known kind) others.now }
     requires few { length others.now ≤ 512 }
     ensures counted { result ≡ length (refuted_pairs source.now.refuters.now kind
         (pairs_with one others.now)) }
@@ -28,7 +28,7 @@ fn count_from(source: &Source<'_>, kind: Kind, one: u32, others: &[u32]) -> u64
 /// Counts the refuted relations of a kind between numbers.
 pub(crate) fn count_refuted(source: &Source<'_>, kind: Kind, numbers: &[u32]) -> u64
     requires source { IsSource source.now }
-    requires numbers { All (λ n. n < count_of source.now.catalogue.now kind) numbers.now }
+    requires numbers { All (λ n. n < count_of source.now.book.now.known kind) numbers.now }
     requires few { length numbers.now ≤ 512 }
     ensures counted { result ≡ kind_count source.now.refuters.now kind numbers.now }
     ensures few { result ≤ 262144 }

@@ -22,10 +22,10 @@ fn print_pair<S: Sink>(
     other: u32,
 ) -> Result<(), PrintFault>
     requires source { IsSource source.now }
-    requires one { one < count_of source.now.catalogue.now kind }
-    requires other { other < count_of source.now.catalogue.now kind }
+    requires one { one < count_of source.now.book.now.known kind }
+    requires other { other < count_of source.now.book.now.known kind }
     ensures { PrintsText S.written S.faults result sink.old sink.new buffer.old buffer.new
-        (row_of_pair source.now.catalogue.now source.now.book.now.days source.now.refuters.now kind
+        (row_of_pair source.now.book.now.known source.now.book.now.book.days source.now.refuters.now kind
         (one, other)) }
 {
     texts_follow();
@@ -36,7 +36,8 @@ fn print_pair<S: Sink>(
     let pair = (one, other);
     let place = (trace.day, finding.index);
     let request = &trace.request;
-    print_refuted(sink, buffer, source.catalogue, kind, pair, place, request)
+    let catalogue = source.book.catalogue();
+    print_refuted(sink, buffer, catalogue, kind, pair, place, request)
 }
 
 /// Prints the rows of the refuted relations of a kind between a number and others, in their order.
@@ -49,10 +50,10 @@ fn print_from<S: Sink>(
     others: &[u32],
 ) -> Result<(), PrintFault>
     requires source { IsSource source.now }
-    requires one { one < count_of source.now.catalogue.now kind }
-    requires others { All (λ n. n < count_of source.now.catalogue.now kind) others.now }
+    requires one { one < count_of source.now.book.now.known kind }
+    requires others { All (λ n. n < count_of source.now.book.now.known kind) others.now }
     ensures { PrintsText S.written S.faults result sink.old sink.new buffer.old buffer.new
-        (flat_map (row_of_pair source.now.catalogue.now source.now.book.now.days
+        (flat_map (row_of_pair source.now.book.now.known source.now.book.now.book.days
         source.now.refuters.now kind) (pairs_with one others.now)) }
 {
     texts_follow();
@@ -73,9 +74,9 @@ pub(crate) fn print_kind<S: Sink>(
     numbers: &[u32],
 ) -> Result<(), PrintFault>
     requires source { IsSource source.now }
-    requires numbers { All (λ n. n < count_of source.now.catalogue.now kind) numbers.now }
+    requires numbers { All (λ n. n < count_of source.now.book.now.known kind) numbers.now }
     ensures { PrintsText S.written S.faults result sink.old sink.new buffer.old buffer.new
-        (kind_rows source.now.catalogue.now source.now.book.now.days source.now.refuters.now kind
+        (kind_rows source.now.book.now.known source.now.book.now.book.days source.now.refuters.now kind
         numbers.now) }
 {
     texts_follow();

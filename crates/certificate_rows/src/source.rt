@@ -5,17 +5,14 @@ ghost use Rattle.certificate_rows.specs.inner.Sources.{IsKeptThere, IsSource, co
 
 use crate::kind::Kind;
 use counterexamples::{Finding, FirstRefuters};
-use day_partitions::DayBook;
-use segment_names::Catalogue;
+use named_books::KeptBook;
 use trace_types::NamedTrace;
 
 /// What a certificate is printed of.
 #[derive(Drop)]
 pub(crate) struct Source<'a> {
-    /// The kept traces.
-    pub(crate) book: &'a DayBook,
-    /// The texts of their names and tasks.
-    pub(crate) catalogue: &'a Catalogue,
+    /// The kept traces, with the texts of their names and tasks.
+    pub(crate) book: &'a KeptBook,
     /// The first refuter of each relation of the book.
     pub(crate) refuters: &'a FirstRefuters,
 }
@@ -25,8 +22,8 @@ impl Source<'_> {
     /// and itself.
     pub(crate) fn refuter(&self, kind: Kind, one: u32, other: u32) -> Option<Finding>
         requires source { IsSource self.now }
-        requires one { one < count_of self.now.catalogue.now kind }
-        requires other { other < count_of self.now.catalogue.now kind }
+        requires one { one < count_of self.now.book.now.known kind }
+        requires other { other < count_of self.now.book.now.known kind }
         ensures { result ≡ refuter_between self.now.refuters.now kind one other }
     {
         if one == other {
@@ -37,8 +34,8 @@ impl Source<'_> {
 
     /// Lends the trace that is kept there.
     pub(crate) fn trace(&self, finding: Finding) -> &NamedTrace
-        requires { IsKeptThere self.now.book.now.days finding }
-        ensures { trace_at self.now.book.now.days finding ≡ Some result.now }
+        requires { IsKeptThere self.now.book.now.book.days finding }
+        ensures { trace_at self.now.book.now.book.days finding ≡ Some result.now }
     {
         &self.book.traces(finding.place)[finding.index as usize]
     }

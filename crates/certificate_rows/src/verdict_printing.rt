@@ -1,7 +1,7 @@
 ghost use Rattle.std.specs.Prelude.{◌≡◌, ◌^◌, ◌<◌, Bool, List, codes, length};
 ghost use Rattle.std.specs.List.{AllZip};
-ghost use Rattle.day_partitions.specs.Books.{all_traces};
 ghost use Rattle.kept_books.specs.Shown.{AreShown};
+ghost use Rattle.named_books.specs.KeptBooks.{traces_in};
 ghost use Rattle.session_rules.specs.CertificateTexts.{verdict_row};
 ghost use Rattle.session_rules.specs.KeptTraces.{Kept};
 ghost use Rattle.session_rules.specs.Parts.{IsPart, count_row};
@@ -13,9 +13,8 @@ ghost use Rattle.text_rows.specs.TextsOfParts.{PrintsTexts};
 use crate::laws::claims_are_shown;
 use certificates::Claim;
 use counterexamples::shown;
-use day_partitions::DayBook;
 use mystery_io::Sink;
-use segment_names::Catalogue;
+use named_books::KeptBook;
 use session_rules::SessionPart;
 use text_rows::laws::{part_calls_follow, parts_follow};
 use text_rows::{Field, PrintFault, RowBuffer, print_row};
@@ -65,15 +64,13 @@ fn print_verified<S: Sink>(
 ///
 /// After an error a prefix of the text was printed, and nothing is said of the buffer.
 pub fn print_verdicts<S: Sink>(
-    book: &DayBook,
-    catalogue: &Catalogue,
+    book: &KeptBook,
     claims: &[Claim],
     sink: &mut S,
     buffer: &mut RowBuffer,
 ) -> Result<(), PrintFault>
-    requires names { book.now.names ≡ length catalogue.now.names }
     requires few { length claims.now < 2 ^ 32 }
-    ensures printed { (kept : List Kept) → AreShown catalogue.now (all_traces book.now.days) kept
+    ensures printed { (kept : List Kept) → AreShown book.now.known (traces_in book.now) kept
         → (verdicts : List Bool) → AllZip (IsVerdict kept) claims.now verdicts
         → PrintsTexts S.written S.faults result sink.old sink.new IsPart
         (verify_parts claims.now verdicts) buffer.old buffer.new }
@@ -82,11 +79,11 @@ pub fn print_verdicts<S: Sink>(
     parts_follow::<SessionPart>();
     part_calls_follow::<S, SessionPart>();
     claims_are_shown();
-    let _names = catalogue.names();
-    let _days = book.days();
+    let days = book.day_book();
+    let catalogue = book.catalogue();
     let mut count = 0;
     'claims: for claim in claims {
-        let is_shown = shown(book, catalogue, claim);
+        let is_shown = shown(days, catalogue, claim);
         print_verdict(sink, buffer, is_shown, claim.line)?;
         if is_shown {
             count += 1;

@@ -1,11 +1,11 @@
 ghost use Rattle.std.specs.Prelude.{◌≡◌, ◌^◌, ◌<◌, ◌≤◌, List, length, map, sum_by};
 ghost use Rattle.std.specs.Borrow.{Bor};
 ghost use Rattle.std.specs.List.{All};
-ghost use Rattle.day_partitions.specs.Books.{all_traces};
 ghost use Rattle.forecast_rows.specs.inner.ForecastRows.{forecast_row, forecast_rows};
 ghost use Rattle.forecast_rows.specs.inner.ForecastRows.{forecast_text, head_row};
 ghost use Rattle.forecast_rows.specs.inner.NumberedForecasts.{IsShort};
 ghost use Rattle.kept_books.specs.Shown.{AreShown};
+ghost use Rattle.named_books.specs.KeptBooks.{traces_in};
 ghost use Rattle.session_rules.specs.KeptTraces.{Kept};
 ghost use Rattle.session_rules.specs.Parts.{IsPart};
 ghost use Rattle.session_rules.specs.Sessions.{forecast_parts};
@@ -16,10 +16,9 @@ ghost use Rattle.what_if.specs.declared.forecast.Forecast.{Forecast};
 
 use crate::forecasting::forecast_change;
 use crate::laws::forecast_is_shown;
-use day_partitions::DayBook;
 use model_meet::Model;
 use mystery_io::Sink;
-use segment_names::Catalogue;
+use named_books::KeptBook;
 use session_rules::{NamedChange, SessionPart};
 use std::alloc::Global;
 use std::thread::Threads;
@@ -139,24 +138,23 @@ fn print_all<S: Sink>(
 pub fn print_forecasts<R: Threads + Sync, S: Sink>(
     rt: &R,
     alloc: Global,
-    book: &DayBook,
-    catalogue: &Catalogue,
+    book: &KeptBook,
     change: &NamedChange,
     sink: &mut S,
     buffer: &mut RowBuffer,
 ) -> Result<(), PrintFault>
-    requires names { book.now.names ≡ length catalogue.now.names }
     requires some { 0 < change.now.den }
     requires less { change.now.num ≤ change.now.den }
-    ensures printed { (kept : List Kept) → AreShown catalogue.now (all_traces book.now.days) kept
+    ensures printed { (kept : List Kept) → AreShown book.now.known (traces_in book.now) kept
         → PrintsTexts S.written S.faults result sink.old sink.new IsPart
         (forecast_parts change.now kept) buffer.old buffer.new }
     ensures counted { S.faults sink.new ≡ print_faults result (S.faults sink.old) }
 {
     forecast_is_shown();
     parts_follow::<SessionPart>();
-    let model = Model::new(book.words(), catalogue.names());
-    let traces = kept_traces(alloc, book)?;
+    let catalogue = book.catalogue();
+    let model = Model::new(book.words(), book.names());
+    let traces = kept_traces(alloc, book.day_book())?;
     let forecasts = forecast_change(rt, alloc, &traces, &model, catalogue, change)?;
     print_all(sink, buffer, &traces, &forecasts)
 }

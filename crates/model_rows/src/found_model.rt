@@ -1,5 +1,6 @@
-ghost use Rattle.std.specs.Prelude.{◌≡◌, length, IfOk};
+ghost use Rattle.std.specs.Prelude.{IfOk};
 ghost use Rattle.model_rows.specs.inner.Found.{IsFound};
+ghost use Rattle.named_books.specs.KeptBooks.{IsKeptBook};
 
 use crate::listing::{list_names, list_tasks};
 use crate::marking::{count_traces, mark_book};
@@ -7,9 +8,8 @@ use crate::name_pair::NamePair;
 use crate::name_pairs::name_pairs;
 use crate::task_pair::TaskPair;
 use crate::task_pairs::task_pairs;
-use day_partitions::DayBook;
 use model_meet::Model;
-use segment_names::Catalogue;
+use named_books::KeptBook;
 use std::alloc::{AllocError, Global};
 
 /// The model of kept traces, before it is printed: its figures, and its pairs in the order in which
@@ -32,21 +32,21 @@ pub(crate) struct FoundModel<'a> {
     pub pipe: Vec<TaskPair<'a>>,
 }
 
-/// Finds the model of a book's traces, of which a catalogue has the names. It asks the book's words
-/// for each ordered pair of names and of tasks once; its memory is that of the pairs, two references
-/// each, and of the marks and the listed names and tasks. The only error is out of memory.
+/// Finds the model of a book's traces. It asks the book's words for each ordered pair of names and of
+/// tasks once; its memory is that of the pairs, two references each, and of the marks and the listed
+/// names and tasks. The only error is out of memory.
 pub(crate) fn find_model<'a>(
     alloc: Global,
-    book: &DayBook,
-    catalogue: &'a Catalogue,
+    book: &'a KeptBook,
 ) -> Result<FoundModel<'a>, AllocError>
-    requires { book.now.names ≡ length catalogue.now.names }
-    ensures { IfOk result (IsFound catalogue.now book.now.days) }
+    ensures found { IfOk result (IsFound book.now.known book.now.book.days) }
+    ensures kept { IsKeptBook book.now }
 {
+    let catalogue = book.catalogue();
     let marks = mark_book(alloc, book)?;
     let names = list_names(alloc, catalogue, &marks.names)?;
     let tasks = list_tasks(alloc, catalogue, &marks.tasks)?;
-    let model = Model::new(book.words(), catalogue.names());
+    let model = Model::new(book.words(), book.names());
     let pairs = name_pairs(alloc, &model, &names)?;
     let pipe = task_pairs(alloc, &model, &tasks)?;
     Ok(FoundModel {

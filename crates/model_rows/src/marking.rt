@@ -1,11 +1,11 @@
 ghost use Rattle.std.specs.Prelude.{◌≡◌, ◌∷◌, [], length, map, IfOk};
-ghost use Rattle.day_partitions.specs.Books.{all_traces};
 ghost use Rattle.model_rows.specs.inner.Marking.{AreMarksOf, HaveRoom, MarksMore};
+ghost use Rattle.named_books.specs.KeptBooks.{traces_in};
 ghost use Rattle.trace_types.specs.NamedSegments.{number_of_name, number_of_task};
 ghost use Rattle.trace_types.specs.Parts.{by_number, segments_of};
 
 use crate::marks::Marks;
-use day_partitions::DayBook;
+use named_books::KeptBook;
 use std::alloc::{AllocError, Global};
 use trace_types::{NamedSegment, NamedTrace};
 
@@ -51,12 +51,12 @@ fn no_marks(alloc: Global) -> Result<Marks, AllocError>
 }
 
 /// Marks the names and the tasks of a book's traces. The only error is out of memory.
-pub(crate) fn mark_book(alloc: Global, book: &DayBook) -> Result<Marks, AllocError>
+pub(crate) fn mark_book(alloc: Global, book: &KeptBook) -> Result<Marks, AllocError>
     ensures names { IfOk result (λ marks. AreMarksOf
-        (map number_of_name (segments_of by_number (all_traces book.now.days)))
+        (map number_of_name (segments_of by_number (traces_in book.now)))
         marks.names.items) }
     ensures tasks { IfOk result (λ marks. AreMarksOf
-        (map number_of_task (segments_of by_number (all_traces book.now.days)))
+        (map number_of_task (segments_of by_number (traces_in book.now)))
         marks.tasks.items) }
     ensures room { IfOk result HaveRoom }
 {
@@ -69,8 +69,8 @@ pub(crate) fn mark_book(alloc: Global, book: &DayBook) -> Result<Marks, AllocErr
 }
 
 /// Counts the traces of a book.
-pub(crate) fn count_traces(book: &DayBook) -> u32
-    ensures { result ≡ length (all_traces book.now.days) }
+pub(crate) fn count_traces(book: &KeptBook) -> u32
+    ensures { result ≡ length (traces_in book.now) }
 {
     let days = book.days();
     let mut count = 0;

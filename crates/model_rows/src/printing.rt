@@ -1,8 +1,8 @@
-ghost use Rattle.std.specs.Prelude.{◌≡◌, ◌∷◌, List, length, codes};
+ghost use Rattle.std.specs.Prelude.{◌≡◌, ◌∷◌, List, codes};
 ghost use Rattle.std.specs.List.{flat_map};
-ghost use Rattle.day_partitions.specs.Books.{all_traces};
 ghost use Rattle.kept_books.specs.Shown.{AreShown};
 ghost use Rattle.model_rows.specs.inner.Found.{figures_in};
+ghost use Rattle.named_books.specs.KeptBooks.{traces_in};
 ghost use Rattle.session_rules.specs.KeptTraces.{Kept};
 ghost use Rattle.session_rules.specs.ModelTexts.{IsModelHead, IsModelText, header_row, model_text};
 ghost use Rattle.session_rules.specs.ModelTexts.{pair_row, pipe_row};
@@ -13,9 +13,8 @@ use crate::found_model::{FoundModel, find_model};
 use crate::laws::found_is_shown;
 use crate::name_pair::NamePair;
 use crate::task_pair::TaskPair;
-use day_partitions::DayBook;
 use mystery_io::Sink;
-use segment_names::Catalogue;
+use named_books::KeptBook;
 use std::alloc::Global;
 use text_rows::laws::calls_follow;
 use text_rows::{Field, PrintFault, RowBuffer, Rows, print_row, print_rows};
@@ -177,49 +176,41 @@ fn print_found<S: Sink>(
     print_pipes(sink, buffer, model)
 }
 
-/// Prints the model of the kept traces that a book of days has under the numbers of a catalogue: a
-/// header with the figures, the ordered pairs of names, the mutually exclusive pairs and the
-/// pipelines, each kind in rising order. All pairs are found before the header is printed. After an
-/// error a prefix of the text was printed, or nothing of it.
+/// Prints the model of the kept traces of a book: a header with the figures, the ordered pairs of
+/// names, the mutually exclusive pairs and the pipelines, each kind in rising order. All pairs are
+/// found before the header is printed. After an error a prefix of the text was printed, or nothing
+/// of it.
 pub fn print_model<S: Sink>(
     alloc: Global,
-    book: &DayBook,
-    catalogue: &Catalogue,
+    book: &KeptBook,
     sink: &mut S,
     buffer: &mut RowBuffer,
 ) -> Result<(), PrintFault>
-    requires names { book.now.names ≡ length catalogue.now.names }
     ensures printed { (kept : List Kept)
-        → AreShown catalogue.now (all_traces book.now.days) kept
+        → AreShown book.now.known (traces_in book.now) kept
         → PrintsPart S.written S.faults result sink.old sink.new (IsModelText kept)
         buffer.old buffer.new }
     ensures counted { S.faults sink.new ≡ print_faults result (S.faults sink.old) }
 {
     found_is_shown();
-    let _names = catalogue.names();
-    let _days = book.days();
-    let model = find_model(alloc, book, catalogue)?;
+    let model = find_model(alloc, book)?;
     print_found(sink, buffer, &model)
 }
 
 /// Prints the header alone of what `print_model` prints.
 pub fn print_model_head<S: Sink>(
     alloc: Global,
-    book: &DayBook,
-    catalogue: &Catalogue,
+    book: &KeptBook,
     sink: &mut S,
     buffer: &mut RowBuffer,
 ) -> Result<(), PrintFault>
-    requires names { book.now.names ≡ length catalogue.now.names }
     ensures printed { (kept : List Kept)
-        → AreShown catalogue.now (all_traces book.now.days) kept
+        → AreShown book.now.known (traces_in book.now) kept
         → PrintsPart S.written S.faults result sink.old sink.new (IsModelHead kept)
         buffer.old buffer.new }
     ensures counted { S.faults sink.new ≡ print_faults result (S.faults sink.old) }
 {
     found_is_shown();
-    let _names = catalogue.names();
-    let _days = book.days();
-    let model = find_model(alloc, book, catalogue)?;
+    let model = find_model(alloc, book)?;
     print_header(sink, buffer, &model)
 }

@@ -1,6 +1,6 @@
-ghost use Rattle.std.specs.Prelude.{◌≡◌, [], ◌∷◌, List, length};
-ghost use Rattle.day_partitions.specs.Books.{all_traces};
+ghost use Rattle.std.specs.Prelude.{◌≡◌, [], ◌∷◌, List};
 ghost use Rattle.kept_books.specs.Shown.{AreShown};
+ghost use Rattle.named_books.specs.KeptBooks.{traces_in};
 ghost use Rattle.report_rows.specs.inner.NumberedTexts.{latency_row, report_head};
 ghost use Rattle.session_rules.specs.KeptTraces.{Kept};
 ghost use Rattle.session_rules.specs.Parts.{IsPart, LatenciesOf, ReportHead};
@@ -13,10 +13,9 @@ ghost use Rattle.trace_types.specs.Segments.{SegmentName};
 use crate::laws::{names_are_below, report_is_shown};
 use crate::named_rows::print_each;
 use crate::report_texts::{SegmentRows, print_latency, print_report_head};
-use day_partitions::DayBook;
 use latency_report::{FullReport, report};
 use mystery_io::Sink;
-use segment_names::Catalogue;
+use named_books::KeptBook;
 use session_rules::SessionPart;
 use std::alloc::Global;
 use std::thread::Threads;
@@ -40,22 +39,20 @@ pub(crate) fn print_first_rows<S: Sink>(
     print_latency(sink, buffer, &report.latency)
 }
 
-/// Prints the report on the traces of a book whose names are those of the catalogue: a header with
-/// the number of traces and how long their critical paths are together, a row of the figures of
-/// their latencies, and a row for each name, in name order. Times are in nanoseconds.
+/// Prints the report on the traces of a book: a header with the number of traces and how long their
+/// critical paths are together, a row of the figures of their latencies, and a row for each name, in
+/// name order. Times are in nanoseconds.
 ///
 /// All figures are found before the header is printed. After an error a prefix of the text was
 /// printed, and nothing is said of the buffer.
 pub fn print_report<R: Threads + Sync, S: Sink>(
     rt: &R,
     alloc: Global,
-    book: &DayBook,
-    catalogue: &Catalogue,
+    book: &KeptBook,
     sink: &mut S,
     buffer: &mut RowBuffer,
 ) -> Result<(), PrintFault>
-    requires names { book.now.names ≡ length catalogue.now.names }
-    ensures printed { (kept : List Kept) → AreShown catalogue.now (all_traces book.now.days) kept
+    ensures printed { (kept : List Kept) → AreShown book.now.known (traces_in book.now) kept
         → (names : List SegmentName) → AreKeptNames kept names
         → PrintsTexts S.written S.faults result sink.old sink.new IsPart
         (report_parts kept names) buffer.old buffer.new }
@@ -65,9 +62,8 @@ pub fn print_report<R: Threads + Sync, S: Sink>(
     part_calls_follow::<S, SessionPart>();
     names_are_below();
     report_is_shown();
-    let _names = catalogue.names();
-    let _days = book.days();
-    let found = report(rt, alloc, book, catalogue)?;
+    let catalogue = book.catalogue();
+    let found = report(rt, alloc, book)?;
     print_first_rows(sink, buffer, &found)?;
     print_each(sink, buffer, &SegmentRows { catalogue }, found.rows.items())
 }

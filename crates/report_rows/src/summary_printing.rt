@@ -1,6 +1,6 @@
-ghost use Rattle.std.specs.Prelude.{◌≡◌, List, length};
-ghost use Rattle.day_partitions.specs.Books.{all_traces};
+ghost use Rattle.std.specs.Prelude.{◌≡◌, List};
 ghost use Rattle.kept_books.specs.Shown.{AreShown};
+ghost use Rattle.named_books.specs.KeptBooks.{traces_in};
 ghost use Rattle.session_rules.specs.KeptTraces.{Kept};
 ghost use Rattle.session_rules.specs.Parts.{IsPart};
 ghost use Rattle.session_rules.specs.Sessions.{summary_parts};
@@ -9,11 +9,10 @@ ghost use Rattle.text_rows.specs.TextsOfParts.{PrintsTexts};
 
 use crate::laws::report_is_shown;
 use crate::report_printing::print_first_rows;
-use day_partitions::DayBook;
 use latency_report::report;
 use model_rows::print_model_head;
 use mystery_io::Sink;
-use segment_names::Catalogue;
+use named_books::KeptBook;
 use session_rules::SessionPart;
 use std::alloc::Global;
 use std::thread::Threads;
@@ -25,13 +24,11 @@ use text_rows::{PrintFault, RowBuffer};
 pub fn print_summary<R: Threads + Sync, S: Sink>(
     rt: &R,
     alloc: Global,
-    book: &DayBook,
-    catalogue: &Catalogue,
+    book: &KeptBook,
     sink: &mut S,
     buffer: &mut RowBuffer,
 ) -> Result<(), PrintFault>
-    requires names { book.now.names ≡ length catalogue.now.names }
-    ensures printed { (kept : List Kept) → AreShown catalogue.now (all_traces book.now.days) kept
+    ensures printed { (kept : List Kept) → AreShown book.now.known (traces_in book.now) kept
         → PrintsTexts S.written S.faults result sink.old sink.new IsPart
         (summary_parts kept) buffer.old buffer.new }
     ensures counted { S.faults sink.new ≡ print_faults result (S.faults sink.old) }
@@ -39,9 +36,7 @@ pub fn print_summary<R: Threads + Sync, S: Sink>(
     parts_follow::<SessionPart>();
     part_calls_follow::<S, SessionPart>();
     report_is_shown();
-    let _names = catalogue.names();
-    let _days = book.days();
-    let found = report(rt, alloc, book, catalogue)?;
-    print_model_head(alloc, book, catalogue, sink, buffer)?;
+    let found = report(rt, alloc, book)?;
+    print_model_head(alloc, book, sink, buffer)?;
     print_first_rows(sink, buffer, &found)
 }

@@ -1,6 +1,6 @@
-ghost use Rattle.std.specs.Prelude.{◌≡◌, List, length};
-ghost use Rattle.day_partitions.specs.Books.{all_traces};
+ghost use Rattle.std.specs.Prelude.{◌≡◌, List};
 ghost use Rattle.kept_books.specs.Shown.{AreShown};
+ghost use Rattle.named_books.specs.KeptBooks.{traces_in};
 ghost use Rattle.session_rules.specs.KeptTraces.{Kept};
 ghost use Rattle.session_rules.specs.Parts.{IsPart};
 ghost use Rattle.session_rules.specs.ReportTexts.{AreKeptNames};
@@ -12,9 +12,8 @@ ghost use Rattle.trace_types.specs.Segments.{SegmentName};
 use crate::laws::{names_are_below, tail_is_shown};
 use crate::named_rows::print_each;
 use crate::tail_texts::{TailRows, print_tail_head};
-use day_partitions::DayBook;
 use mystery_io::Sink;
-use segment_names::Catalogue;
+use named_books::KeptBook;
 use session_rules::SessionPart;
 use slow_tail::tail;
 use std::alloc::Global;
@@ -27,13 +26,11 @@ use text_rows::{PrintFault, RowBuffer};
 pub fn print_tail<R: Threads + Sync, S: Sink>(
     rt: &R,
     alloc: Global,
-    book: &DayBook,
-    catalogue: &Catalogue,
+    book: &KeptBook,
     sink: &mut S,
     buffer: &mut RowBuffer,
 ) -> Result<(), PrintFault>
-    requires names { book.now.names ≡ length catalogue.now.names }
-    ensures printed { (kept : List Kept) → AreShown catalogue.now (all_traces book.now.days) kept
+    ensures printed { (kept : List Kept) → AreShown book.now.known (traces_in book.now) kept
         → (names : List SegmentName) → AreKeptNames kept names
         → PrintsTexts S.written S.faults result sink.old sink.new IsPart
         (tail_parts kept names) buffer.old buffer.new }
@@ -43,9 +40,8 @@ pub fn print_tail<R: Threads + Sync, S: Sink>(
     part_calls_follow::<S, SessionPart>();
     names_are_below();
     tail_is_shown();
-    let _names = catalogue.names();
-    let _days = book.days();
-    let found = tail(rt, alloc, book, catalogue)?;
+    let catalogue = book.catalogue();
+    let found = tail(rt, alloc, book)?;
     print_tail_head(sink, buffer, &found)?;
     print_each(sink, buffer, &TailRows { catalogue }, found.rows.items())
 }

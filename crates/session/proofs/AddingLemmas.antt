@@ -3,11 +3,12 @@ use Rattle.std.proofs.Common.{◌≡◌, ℕ, ◌*◌, List, ◌∷◌, length, 
 use Rattle.std.specs.List.{AllZip}
 use Rattle.batch_sheets.specs.declared.recording.DayLines.{DayLines}
 use Rattle.day_partitions.specs.Batches.{IsBatchFault, with_all}
-use Rattle.day_partitions.specs.Books.{BookState, IsBook, with_names}
+use Rattle.day_partitions.specs.Books.{BookState, IsBook}
 use Rattle.day_partitions.specs.declared.add_all_fault.AddAllFault.{AddAllFault}
 use Rattle.day_partitions.specs.declared.add_all_fault.AddAllFault.TheVariants as sheeting
 use Rattle.day_partitions.specs.declared.dated_sheet.DatedSheet.{DatedSheet}
 use Rattle.kept_books.specs.Shown.{AreShown}
+use Rattle.named_books.specs.KeptBooks.{KeptState, under_catalogue}
 use Rattle.segment_names.specs.Known.{Known, with_traces}
 use Rattle.segment_names.specs.Limits.{HasCause, IsKept, PassesLimit}
 use Rattle.segment_names.specs.declared.name_fault.NameFault.{NameFault}
@@ -58,12 +59,12 @@ room_cause (Over (Days days)) old valid named shown h = record { named = named; 
 abbrev pub session_of : ℕ → Known → BookState → ℕ → ℕ → SessionState
 session_of workers known book watch grace = record { workers = workers; known = known; book = book; watch = watch; grace = grace }
 
-pub are_named : (old : SessionState) (valid : List Trace) (workers : ℕ) (known after : Known) (book wide : BookState) (watch grace count : ℕ) → session_of workers known book watch grace ≡ old → IsKept known → ((fault : NameFault) → PassesLimit known valid fault → ⊥)
-    → after ≡ with_traces known valid → count ≡ length after.names → wide ≡ with_names book count → AreNamed old valid (session_of workers after wide watch grace)
-are_named old valid workers known after book wide watch grace count view kept none added long widened = subst (λ (s : SessionState). AreNamed s valid (session_of workers after wide watch grace)) view (record {
+pub are_named : (old : SessionState) (valid : List Trace) (workers : ℕ) (book after : KeptState) (watch grace : ℕ) → session_of workers book.known book.book watch grace ≡ old → IsKept book.known → ((fault : NameFault) → PassesLimit book.known valid fault → ⊥)
+    → after ≡ under_catalogue (with_traces book.known valid) book.book → AreNamed old valid (session_of workers after.known after.book watch grace)
+are_named old valid workers book after watch grace view kept none added = subst (λ (s : SessionState). AreNamed s valid (session_of workers after.known after.book watch grace)) view (record {
   kept = kept;
   none = none;
-  is = ap (λ k. session_of workers k wide watch grace) added ∙ ap (λ b. session_of workers (with_traces known valid) b watch grace) (widened ∙ ap (with_names book) (long ∙ ap (λ (k : Known). length k.names) added));
+  is = ap (λ (k : KeptState). session_of workers k.known k.book watch grace) added;
 })
 
 -- an add whose names are not added

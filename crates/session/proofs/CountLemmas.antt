@@ -60,10 +60,6 @@ long_all : (b : BookState) (sheets : List DatedSheet) → length (all_traces (wi
 long_all b [] = omega arith
 long_all b (s ∷ ss) = along _ _ _ _ _ _ (long_all (with_added b s.day s.sheet.traces) ss) (long_with s.day s.sheet.traces b.days) (sum_by-cons sheet_long s ss)
 
-pub same_names : (b : BookState) (sheets : List DatedSheet) → (with_all b sheets).names ≡ b.names
-same_names b [] = refl
-same_names b (s ∷ ss) = same_names (with_added b s.day s.sheet.traces) ss
-
 -- ---- the sheets of a batch
 module _ (few : NoMoreAreSheeted) (known : Known) (workers every grace : ℕ) (valid : List Trace) (sheets : List DatedSheet) (watched : List DayLines) (r : AreSheets known workers every (graced_by grace valid) sheets watched) where
   sheeted : trace_count sheets ≤ length valid

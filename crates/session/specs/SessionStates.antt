@@ -1,5 +1,5 @@
 -- What a contract sees of a session, and which state of the definition it shows.
-use Rattle.std.specs.Prelude.{◌≡◌, ℕ, ◌<◌, ◌≤◌, length}
+use Rattle.std.specs.Prelude.{◌≡◌, ℕ, ◌<◌, ◌≤◌}
 use Rattle.day_partitions.specs.Books.{BookState, all_traces}
 use Rattle.kept_books.specs.Shown.{AreShown}
 use Rattle.segment_names.specs.Known.{Known}
@@ -18,11 +18,10 @@ pub record SessionState : Type 0 where
 abbrev pub most_micros : ℕ
 most_micros = 1000000
 
--- what every session keeps
+-- what every session keeps, besides what its catalogue and its book keep together
 pub record IsSession (s : SessionState) : Type 0 where
   pub some : 0 < s.workers
   pub few : s.workers ≤ 64
-  pub names : s.book.names ≡ length s.known.names
   pub within : s.grace ≤ most_micros
 
 -- the session has the state: the same names, watch number and grace, and in its book the kept

@@ -1,12 +1,12 @@
 ghost use Rattle.std.specs.Prelude.{◌≡◌, ◌^◌, ◌+◌, ◌<◌, ◌≤◌, All, List, length, map};
 ghost use Rattle.std.specs.Prelude.{IfErr, IfOk, OnOk};
 ghost use Rattle.batch_sheets.specs.Named.{HasFewSegments, cut_trace};
-ghost use Rattle.day_partitions.specs.Books.{with_names};
 ghost use Rattle.kept_books.specs.Shown.{AreShown};
+ghost use Rattle.named_books.specs.KeptBooks.{IsKeptBook, under_catalogue};
 ghost use Rattle.refute_tests.specs.Clearing.{HaveNamesBelow};
 ghost use Rattle.segment_cut.specs.NumberedCuts.{NumberedCut};
 ghost use Rattle.segment_names.specs.Known.{with_traces};
-ghost use Rattle.segment_names.specs.Limits.{IsKept, PassesLimit};
+ghost use Rattle.segment_names.specs.Limits.{PassesLimit};
 ghost use Rattle.segment_names.specs.declared.name_fault.NameFault.{NameFault};
 ghost use Rattle.session_rules.specs.KeptTraces.{kept_with};
 ghost use Rattle.session_rules.specs.Sessions.{State};
@@ -28,13 +28,12 @@ use crate::laws::{
     add_is_told, add_leads_on, add_passes_days, names_grow, no_more_are_sheeted, no_more_are_valid,
 };
 use batch_sheets::{DayLines, judge_batch, name_batch};
-use day_partitions::DayBook;
 use event_lines::EventParts;
 use event_table::laws::traces_keep_facts;
 use event_table::{GatheredEvents, Texts, gather};
 use mystery_io::Gate;
+use named_books::KeptBook;
 use segment_cut::CutTrace;
-use segment_names::Catalogue;
 use session_rules::Refused;
 use std::alloc::Global;
 use std::thread::Threads;
@@ -58,43 +57,44 @@ struct NamedBatch {
     named: Vec<NamedTrace>,
 }
 
-/// Adds the names and tasks of traces to a catalogue, widens a book to the names, and names the
-/// traces with this grace, in nanoseconds, by up to so many workers. The texts are those that the
-/// numbers of the traces stand for. After an error nothing is said of the catalogue or the book.
+/// A book that knows the names of a batch, and the traces of the batch by number.
+#[derive(Drop)]
+struct NamedBook {
+    book: KeptBook,
+    named: Vec<NamedTrace>,
+}
+
+/// Adds the names and tasks of traces to the catalogue of a book, widens the book to the names, and
+/// names the traces with this grace, in nanoseconds, by up to so many workers. The texts are those
+/// that the numbers of the traces stand for. After an error the book is gone.
 fn name_and_widen<R: Threads + Sync>(
     rt: &R,
     alloc: Global,
-    catalogue: &mut Catalogue,
-    book: &mut DayBook,
+    book: KeptBook,
     texts: &Texts,
     traces: Vec<CutTrace<'_>>,
     grace: u64,
     workers: u32,
-) -> Result<Vec<NamedTrace>, AddFault>
+) -> Result<NamedBook, AddFault>
     requires few { All HasFewSegments (map cut_trace traces.items) }
     requires texts { All (λ (c : NumberedCut). c.texts ≡ texts.now) traces.items }
     requires grace { grace ≤ most_grace }
-    requires names { book.old.names ≡ length catalogue.old.names }
-    ensures kept { IsKept catalogue.old }
+    ensures kept { IsKeptBook book }
     ensures none { OnOk result ((fault : NameFault)
-        → PassesLimit catalogue.old (map cut_trace traces.entry.items) fault → ⊥) }
-    ensures added { OnOk result
-        (catalogue.new ≡ with_traces catalogue.old (map cut_trace traces.entry.items)) }
-    ensures widened { OnOk result
-        (book.new ≡ with_names book.old (length catalogue.new.names)) }
-    ensures shown { IfOk result (λ named. AreShown catalogue.new named.items
+        → PassesLimit book.known (map cut_trace traces.entry.items) fault → ⊥) }
+    ensures added { IfOk result (λ b. b.book
+        ≡ under_catalogue (with_traces book.known (map cut_trace traces.entry.items)) book.book) }
+    ensures shown { IfOk result (λ b. AreShown b.book.known b.named.items
         (map (kept_with grace) (map cut_trace traces.entry.items))) }
     ensures below { IfOk result
-        (λ named. All (HaveNamesBelow (length catalogue.new.names)) named.items) }
-    ensures cause { IfErr result
-        (HasNamesCause catalogue.old (map cut_trace traces.entry.items)) }
+        (λ b. All (HaveNamesBelow (length b.book.known.names)) b.named.items) }
+    ensures cause { IfErr result (HasNamesCause book.known (map cut_trace traces.entry.items)) }
 {
     names_grow();
-    // Its contract tells that the catalogue is within its limits.
-    let _names = catalogue.names();
-    let named = name_batch(rt, alloc, catalogue, texts, traces, grace, workers)?;
-    book.widen(catalogue.names())?;
-    Ok(named)
+    let (mut catalogue, days) = book.into_parts();
+    let named = name_batch(rt, alloc, &mut catalogue, texts, traces, grace, workers)?;
+    let book = KeptBook::of(catalogue, days)?;
+    Ok(NamedBook { book, named })
 }
 
 impl Session {
@@ -120,27 +120,18 @@ impl Session {
         let Session {
             alloc,
             workers,
-            mut catalogue,
-            mut book,
+            book,
             watch,
             grace,
         } = self;
         let nanos = 1000 * u64::from(grace);
-        let named = name_and_widen(
-            rt,
-            alloc,
-            &mut catalogue,
-            &mut book,
-            texts,
-            valid,
-            nanos,
-            workers,
+        let NamedBook { book, named } = name_and_widen(
+            rt, alloc, book, texts, valid, nanos, workers,
         )?;
         Ok(NamedBatch {
             session: Session {
                 alloc,
                 workers,
-                catalogue,
                 book,
                 watch,
                 grace,
@@ -170,12 +161,11 @@ impl Session {
             named.items (graced_by self.old.grace valid) → HasDaysCause self.old valid fault) }
     {
         no_more_are_sheeted();
-        let _days = self.book.days();
         let days = list_days_within(self.alloc, &self.book, &named)?;
         let recorded = record_batch(
             rt,
             self.alloc,
-            &self.catalogue,
+            &self.book,
             named,
             &days,
             self.workers,

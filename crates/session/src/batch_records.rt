@@ -2,8 +2,8 @@ ghost use Rattle.std.specs.Prelude.{◌^◌, ◌+◌, ◌<◌, All, Contains, Li
 ghost use Rattle.std.specs.Prelude.{IfErr, IfOk};
 ghost use Rattle.std.specs.Ordering.{nat_cmp};
 ghost use Rattle.batch_sheets.specs.Splitting.{named_day};
-ghost use Rattle.day_partitions.specs.Books.{all_traces};
 ghost use Rattle.kept_books.specs.Shown.{AreShown};
+ghost use Rattle.named_books.specs.KeptBooks.{IsKeptBook, traces_in};
 ghost use Rattle.refute_tests.specs.Clearing.{HaveNamesBelow};
 ghost use Rattle.session.specs.Sheets.{AreSheets};
 ghost use Rattle.session.specs.inner.AddSteps.{HasRoomCause};
@@ -12,9 +12,8 @@ ghost use Rattle.trace_types.specs.Listing.{ListsExactly};
 
 use crate::add_fault::AddFault;
 use batch_sheets::{RecordedDays, days_with, list_days, record_days, split_by_day};
-use day_partitions::DayBook;
 use mystery_io::Gate;
-use segment_names::Catalogue;
+use named_books::KeptBook;
 use session_rules::Limit;
 use std::alloc::{AllocError, Global};
 use std::thread::Threads;
@@ -27,18 +26,18 @@ const MOST_DAYS: u32 = 64;
 /// Lists the different days of named traces, rising, where the book has room for them too.
 pub(crate) fn list_days_within(
     alloc: Global,
-    book: &DayBook,
+    book: &KeptBook,
     named: &[NamedTrace],
 ) -> Result<Vec<u32>, AddFault>
-    requires { length (all_traces book.now.days) + length named.now < 2 ^ 32 }
+    requires { length (traces_in book.now) + length named.now < 2 ^ 32 }
     ensures days { IfOk result
         (λ days. ListsExactly nat_cmp (Contains (map named_day named.now)) days.items) }
-    ensures cause { IfErr result (HasRoomCause book.now named.now) }
+    ensures cause { IfErr result (HasRoomCause book.now.book named.now) }
+    ensures kept { IsKeptBook book.now }
 {
-    // Its contract tells what every book keeps.
-    let _kept = book.days();
+    let kept = book.day_book();
     let days = list_days(alloc, named)?;
-    let count = days_with(book, &days);
+    let count = days_with(kept, &days);
     if count > MOST_DAYS {
         return Err(AddFault::Over {
             limit: Limit::Days { count },
@@ -53,7 +52,7 @@ pub(crate) fn list_days_within(
 pub(crate) fn record_batch<R: Threads + Sync, G: Gate + Sync>(
     rt: &R,
     alloc: Global,
-    catalogue: &Catalogue,
+    book: &KeptBook,
     named: Vec<NamedTrace>,
     days: &[u32],
     workers: u32,
@@ -61,13 +60,13 @@ pub(crate) fn record_batch<R: Threads + Sync, G: Gate + Sync>(
     gate: &G,
 ) -> Result<RecordedDays, AllocError>
     requires workers { 0 < workers }
-    requires below { All (HaveNamesBelow (length catalogue.now.names)) named.items }
+    requires below { All (HaveNamesBelow (length book.now.known.names)) named.items }
     requires many { length named.items < 2 ^ 32 }
     requires days { ListsExactly nat_cmp (Contains (map named_day named.items)) days.now }
-    ensures { IfOk result (λ r. (kept : List Kept) → AreShown catalogue.now named.items kept
-        → AreSheets catalogue.now workers watch kept r.sheets.items r.watched.items) }
+    ensures { IfOk result (λ r. (kept : List Kept) → AreShown book.now.known named.items kept
+        → AreSheets book.now.known workers watch kept r.sheets.items r.watched.items) }
 {
     watch_lines_are_told_by_text();
     let split = split_by_day(alloc, named, days)?;
-    record_days(rt, alloc, catalogue.names(), workers, watch, split, gate)
+    record_days(rt, alloc, book.names(), workers, watch, split, gate)
 }

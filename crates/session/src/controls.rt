@@ -48,7 +48,6 @@ impl Session {
         ensures count { result ≡ length (traces_kept_on self.old.book.days day) }
         ensures book { IsBook self.old.book }
     {
-        let _days = self.book.days();
         self.book.drop_day(day)
     }
 
@@ -59,7 +58,6 @@ impl Session {
         ensures count { result + kept_count self.new ≡ kept_count self.old }
         ensures book { IsBook self.old.book }
     {
-        let _days = self.book.days();
         self.book.keep_newest(days)
     }
 

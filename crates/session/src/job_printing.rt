@@ -50,19 +50,11 @@ impl Session {
                 self.set_grace(micros);
                 Ok(())
             }
-            Command::Model => print_model(self.alloc, &self.book, &self.catalogue, sink, buffer),
-            Command::Paths => {
-                print_paths(rt, self.alloc, &self.book, &self.catalogue, sink, buffer)
-            }
-            Command::Slack => {
-                print_slacks(rt, self.alloc, &self.book, &self.catalogue, sink, buffer)
-            }
-            Command::Report => {
-                print_report(rt, self.alloc, &self.book, &self.catalogue, sink, buffer)
-            }
-            Command::Graph => {
-                print_graphs(rt, self.alloc, &self.book, &self.catalogue, sink, buffer)
-            }
+            Command::Model => print_model(self.alloc, &self.book, sink, buffer),
+            Command::Paths => print_paths(rt, self.alloc, &self.book, sink, buffer),
+            Command::Slack => print_slacks(rt, self.alloc, &self.book, sink, buffer),
+            Command::Report => print_report(rt, self.alloc, &self.book, sink, buffer),
+            Command::Graph => print_graphs(rt, self.alloc, &self.book, sink, buffer),
         }
     }
 
@@ -88,23 +80,13 @@ impl Session {
         match job {
             Job::Add { .. } => unreachable!(),
             Job::Control { command } => self.print_command(rt, command, sink, buffer),
-            Job::Summary => {
-                print_summary(rt, self.alloc, &self.book, &self.catalogue, sink, buffer)
-            }
+            Job::Summary => print_summary(rt, self.alloc, &self.book, sink, buffer),
             Job::WhatIf { change } => print_forecasts(
-                rt,
-                self.alloc,
-                &self.book,
-                &self.catalogue,
-                &change,
-                sink,
-                buffer,
+                rt, self.alloc, &self.book, &change, sink, buffer,
             ),
-            Job::Tail => print_tail(rt, self.alloc, &self.book, &self.catalogue, sink, buffer),
-            Job::Why => print_certificate(self.alloc, &self.book, &self.catalogue, sink, buffer),
-            Job::Verify { claims } => {
-                print_verdicts(&self.book, &self.catalogue, claims.items(), sink, buffer)
-            }
+            Job::Tail => print_tail(rt, self.alloc, &self.book, sink, buffer),
+            Job::Why => print_certificate(self.alloc, &self.book, sink, buffer),
+            Job::Verify { claims } => print_verdicts(&self.book, claims.items(), sink, buffer),
         }
     }
 }

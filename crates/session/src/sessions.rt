@@ -3,19 +3,17 @@ ghost use Rattle.session_rules.specs.Sessions.{first_state};
 ghost use Rattle.session.specs.Carrying.{kept_count};
 ghost use Rattle.session.specs.SessionStates.{Shows};
 
-use day_partitions::DayBook;
-use segment_names::Catalogue;
+use named_books::KeptBook;
 use std::alloc::{AllocError, Global};
 use std::marker::Model;
 
-/// A session: a catalogue that grows with each add, a book of days, the watch number and the grace
-/// of later adds, and how many workers share the traces of a day.
+/// A session: the kept traces with a catalogue that grows with each add, the watch number and the
+/// grace of later adds, and how many workers share the traces of a day.
 #[derive(Drop)]
 pub struct Session {
     pub(crate) alloc: Global,
     pub(crate) workers: u32,
-    pub(crate) catalogue: Catalogue,
-    pub(crate) book: DayBook,
+    pub(crate) book: KeptBook,
     pub(crate) watch: u32,
     pub(crate) grace: u32,
 }
@@ -27,16 +25,16 @@ impl Model for Session {
 
     ghost view = { λ s. record {
       workers = s.workers;
-      known = s.catalogue;
-      book = s.book;
+      known = s.book.known;
+      book = s.book.book;
       watch = s.watch;
       grace = s.grace;
     } };
 
     ghost invariant = { λ s. IsSession (record {
       workers = s.workers;
-      known = s.catalogue;
-      book = s.book;
+      known = s.book.known;
+      book = s.book.book;
       watch = s.watch;
       grace = s.grace;
     }) };
@@ -53,8 +51,7 @@ impl Session {
         Ok(Session {
             alloc,
             workers,
-            catalogue: Catalogue::new(alloc),
-            book: DayBook::new(alloc, 0)?,
+            book: KeptBook::new(alloc)?,
             watch: 0,
             grace: 0,
         })

@@ -7,6 +7,7 @@ use certificate_rows::{print_certificate, print_verdicts};
 use certificates::{Claim, Matter};
 use day_partitions::DayBook;
 use mystery_io::MemSink;
+use named_books::KeptBook;
 use pipeline_tests::DaySheet;
 use segment_names::Catalogue;
 use std::alloc::{AllocError, Global};
@@ -125,6 +126,14 @@ fn two_names(rt: &impl Abort, alloc: Global) -> Result<Catalogue, AllocError> {
     Ok(catalogue)
 }
 
+/// The three traces under the two names.
+fn kept_book(rt: &impl Abort, alloc: Global) -> Result<KeptBook, AllocError> {
+    let days = three_traces(rt, alloc)?;
+    let catalogue = two_names(rt, alloc)?;
+    assert!(rt; days.names() == catalogue.names());
+    KeptBook::of(catalogue, days)
+}
+
 /// Each relation with the first trace that refutes it.
 const CERTIFICATE: &[u8] = b"why\ttraces=3\trefuted=5\n\
     refuted\tbefore\ta\ts\te\tb\ts\te\t5\t0\tr1\n\
@@ -136,12 +145,10 @@ const CERTIFICATE: &[u8] = b"why\ttraces=3\trefuted=5\n\
 #[test]
 fn the_first_trace_that_refutes_is_printed_for_each_relation(rt: HostRuntime) -> Result<(), Fail> {
     let alloc = rt.alloc();
-    let book = three_traces(&rt, alloc)?;
-    let catalogue = two_names(&rt, alloc)?;
-    assert!(rt; book.names() == catalogue.names());
+    let book = kept_book(&rt, alloc)?;
     let mut sink = MemSink::new(alloc, 64, Vec::new(alloc), 64)?;
     let mut buffer = RowBuffer::new(alloc);
-    let printed = print_certificate(alloc, &book, &catalogue, &mut sink, &mut buffer);
+    let printed = print_certificate(alloc, &book, &mut sink, &mut buffer);
     assert!(rt; printed.is_ok());
     assert_eq!(rt; buffer.bytes(), CERTIFICATE);
     Ok(())
@@ -174,15 +181,12 @@ fn claim_by(alloc: Global, index: u32, request: &str) -> Result<Claim, AllocErro
 fn print_check(
     rt: &impl Abort,
     alloc: Global,
-    book: &DayBook,
-    catalogue: &Catalogue,
+    book: &KeptBook,
     claim: Claim,
-) -> Result<RowBuffer, AllocError>
-    requires { book.now.names ≡ length catalogue.now.names }
-{
+) -> Result<RowBuffer, AllocError> {
     let mut sink = MemSink::new(alloc, 64, Vec::new(alloc), 64)?;
     let mut buffer = RowBuffer::new(alloc);
-    let printed = print_verdicts(book, catalogue, &[claim], &mut sink, &mut buffer);
+    let printed = print_verdicts(book, &[claim], &mut sink, &mut buffer);
     assert!(rt; printed.is_ok());
     Ok(buffer)
 }
@@ -195,9 +199,7 @@ const NOT_SHOWN: &[u8] = b"not shown\t7\nverified\t0\t1\n";
 #[test]
 fn a_claim_is_shown_by_any_trace_that_refutes(rt: HostRuntime) -> Result<(), Fail> {
     let alloc = rt.alloc();
-    let book = three_traces(&rt, alloc)?;
-    let catalogue = two_names(&rt, alloc)?;
-    assert!(rt; book.names() == catalogue.names());
+    let book = kept_book(&rt, alloc)?;
     let table = [
         (0, "r1", NOT_SHOWN),
         (1, "r2", SHOWN),
@@ -206,7 +208,7 @@ fn a_claim_is_shown_by_any_trace_that_refutes(rt: HostRuntime) -> Result<(), Fai
     ];
     for (index, request, expected) in table {
         let claim = claim_by(alloc, index, request)?;
-        let buffer = print_check(&rt, alloc, &book, &catalogue, claim)?;
+        let buffer = print_check(&rt, alloc, &book, claim)?;
         assert_eq!(rt; buffer.bytes(), expected);
     }
     Ok(())

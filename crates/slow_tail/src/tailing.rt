@@ -1,5 +1,5 @@
-ghost use Rattle.std.specs.Prelude.{◌≡◌, IfOk, length};
-ghost use Rattle.day_partitions.specs.Books.{all_traces};
+ghost use Rattle.std.specs.Prelude.{IfOk};
+ghost use Rattle.named_books.specs.KeptBooks.{traces_in};
 ghost use Rattle.slow_tail.specs.SlowReports.{IsSlowReport};
 
 use crate::marking::{find_slow, list_latencies};
@@ -7,35 +7,31 @@ use crate::names::mark_names;
 use crate::path_tables::tabulate_paths;
 use crate::rows::make_rows;
 use crate::{SlowReport, TailRowList};
-use day_partitions::DayBook;
 use model_meet::Model;
-use segment_names::Catalogue;
+use named_books::KeptBook;
 use std::alloc::{AllocError, Global};
 use std::thread::Threads;
 use trace_paths::{critical_paths, kept_traces};
 
-/// Reports on the slowest of the kept traces of a book, under the names of a catalogue, which has
-/// as many as the book. The critical paths are found by all processors; the rest takes one pass
-/// over the traces, and linear time on average to tell the slow ones. The only error is that memory
-/// ran out.
+/// Reports on the slowest of the kept traces of a book. The critical paths are found by all
+/// processors; the rest takes one pass over the traces, and linear time on average to tell the slow
+/// ones. The only error is that memory ran out.
 pub fn tail<R: Threads + Sync>(
     rt: &R,
     alloc: Global,
-    book: &DayBook,
-    catalogue: &Catalogue,
+    book: &KeptBook,
 ) -> Result<SlowReport, AllocError>
-    requires { length catalogue.now.names ≡ book.now.names }
-    ensures { IfOk result (IsSlowReport catalogue.now.names (all_traces book.now.days)) }
+    ensures { IfOk result (IsSlowReport book.now.known.names (traces_in book.now)) }
 {
-    let names = catalogue.names();
+    let names = book.names();
     let model = Model::new(book.words(), names);
-    let traces = kept_traces(alloc, book)?;
+    let traces = kept_traces(alloc, book.day_book())?;
     let paths = critical_paths(rt, alloc, &traces, &model)?;
     let latencies = list_latencies(alloc, &traces)?;
     let slow = find_slow(alloc, &latencies)?;
     let tables = tabulate_paths(alloc, names, &paths, &slow.marks)?;
     let marked = mark_names(alloc, names, &traces)?;
-    let rows = make_rows(alloc, catalogue, &marked, &tables)?;
+    let rows = make_rows(alloc, book.catalogue(), &marked, &tables)?;
     Ok(SlowReport {
         traces: traces.len() as u32,
         slow: slow.count,

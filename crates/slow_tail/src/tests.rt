@@ -1,4 +1,4 @@
-ghost use Rattle.std.specs.Prelude.{◌≡◌, ◌↔◌, ◌<◌, All, IfSome, IsTrue, length};
+ghost use Rattle.std.specs.Prelude.{◌≡◌, ◌↔◌, ◌<◌, ◌≤◌, All, IfSome, IsTrue, length};
 ghost use Rattle.day_partitions.specs.Books.{AreOfDay};
 ghost use Rattle.refute_tests.specs.Clearing.{HaveNamesBelow};
 ghost use Rattle.trace_types.specs.declared.named_segment.NamedSegment.{NamedSegment};
@@ -6,6 +6,7 @@ ghost use Rattle.trace_types.specs.declared.named_segment.NamedSegment.{NamedSeg
 use crate::marking::find_slow;
 use crate::{TailRow, TailRowList, tail};
 use day_partitions::DayBook;
+use named_books::KeptBook;
 use pipeline_tests::DaySheet;
 use segment_names::Catalogue;
 use std::alloc::Global;
@@ -116,9 +117,9 @@ fn are_below(traces: &[NamedTrace], names: u32) -> bool
     true
 }
 
-/// Makes a book of traces of day 3, under the names of a catalogue; none where it cannot.
-fn book_of(alloc: Global, catalogue: &Catalogue, traces: Vec<NamedTrace>) -> Option<DayBook>
-    ensures { IfSome result (λ b. length catalogue.now.names ≡ b.names) }
+/// Makes a book of traces of day 3, for the names of a catalogue; none where it cannot.
+fn days_of(alloc: Global, catalogue: &Catalogue, traces: Vec<NamedTrace>) -> Option<DayBook>
+    ensures { IfSome result (λ b. b.names ≤ length catalogue.now.names) }
 {
     let names = catalogue.names();
     let mut book = DayBook::new(alloc, names).ok()?;
@@ -135,6 +136,12 @@ fn book_of(alloc: Global, catalogue: &Catalogue, traces: Vec<NamedTrace>) -> Opt
     Some(book)
 }
 
+/// Makes a book of traces of day 3, under a catalogue; none where it cannot.
+fn book_of(alloc: Global, catalogue: Catalogue, traces: Vec<NamedTrace>) -> Option<KeptBook> {
+    let days = days_of(alloc, &catalogue, traces)?;
+    KeptBook::of(catalogue, days).ok()
+}
+
 #[test]
 fn the_slowest_are_told_from_the_rest(rt: HostRuntime) -> Result<(), Fail> {
     let alloc = rt.alloc();
@@ -144,8 +151,8 @@ fn the_slowest_are_told_from_the_rest(rt: HostRuntime) -> Result<(), Fail> {
     for (task, time) in [("b", 4), ("a", 4), ("a", 2)] {
         traces.push(name_trace(alloc, &mut catalogue, task, time).expect(&rt, "trace"))?;
     }
-    let book = book_of(alloc, &catalogue, traces).expect(&rt, "book");
-    let report = tail(&rt, alloc, &book, &catalogue)?;
+    let book = book_of(alloc, catalogue, traces).expect(&rt, "book");
+    let report = tail(&rt, alloc, &book)?;
     assert!(rt; report.traces == 3 && report.slow == 1 && report.floor == 4);
     let expected = [
         TailRow {
@@ -171,8 +178,8 @@ fn the_slowest_are_told_from_the_rest(rt: HostRuntime) -> Result<(), Fail> {
 fn no_traces_have_a_report_of_zeros(rt: HostRuntime) -> Result<(), Fail> {
     let alloc = rt.alloc();
     let catalogue = Catalogue::new(alloc);
-    let book = book_of(alloc, &catalogue, Vec::new(alloc)).expect(&rt, "book");
-    let report = tail(&rt, alloc, &book, &catalogue)?;
+    let book = book_of(alloc, catalogue, Vec::new(alloc)).expect(&rt, "book");
+    let report = tail(&rt, alloc, &book)?;
     assert!(rt; report.traces == 0 && report.slow == 0 && report.floor == 0);
     assert!(rt; report.rows.items().is_empty());
     Ok(())

@@ -21,7 +21,8 @@ use Rattle.text_rows.specs.declared.print_fault.PrintFault.{PrintFault}
 use Rattle.trace_types.specs.declared.named_trace.NamedTrace.{NamedTrace}
 use Rattle.trace_rows.specs.declared.chunks.Piece.{Piece}
 use Rattle.trace_rows.specs.inner.Pieces.{traces_of_pieces}
-use Rattle.trace_rows.specs.inner.ShownTraces.{IsShownText, NumberedBook, PrintsShown}
+use Rattle.named_books.specs.KeptBooks.{KeptState}
+use Rattle.trace_rows.specs.inner.ShownTraces.{IsShownText, PrintsShown}
 use Rattle.trace_rows.proofs.ChunkLemmas.{collected, lent}
 use Rattle.trace_rows.proofs.PrintLemmas.{done, zip_split}
 
@@ -45,7 +46,7 @@ pieces_more ps p ts i n so_far next =
     flat_map-append (λ (q : Piece). q.traces.now) ps (p ∷ []) ∙ ap (λ l. traces_of_pieces ps ++ l) (append-nil p.traces.now)
     ∙ (ap (λ l. l ++ p.traces.now) so_far ∙ ap (λ l. take i ts ++ l) (next ∙ ap (λ m. take m (drop i ts)) many)) ∙ sym (take-add i n ts)
 
-module _ (b : NumberedBook) (part : List Kept → Kept → Part) where
+module _ (b : KeptState) (part : List Kept → Kept → Part) where
   -- a text of some traces and then one of others
   shown_both : (xs ys : List NamedTrace) (s t : List ℕ) → AreTextsOfBoth IsPart → IsShownText b part xs s → IsShownText b part ys t → IsShownText b part (xs ++ ys) (s ++ t)
   shown_both xs ys s t both p q kept shown some h =
@@ -111,10 +112,10 @@ module _ (b : NumberedBook) (part : List Kept → Kept → Part) where
       (subst (λ (vs : List (Vec ℕ A)). IsShownText b part (lent (traces_of_pieces cut)) (all_bytes vs)) (sym of_made) is)) p
 
 -- the texts that were made of all pieces, for a book and a kind of texts that a closure holds
-pub made_all : {A Z E K : Type 0} (part_of : K → List Kept → Kept → Part) (b held_b : NumberedBook) (k held_k : K) (pieces : List Piece) (results : List (Result (Vec ℕ A) E)) (r : Result (Vec (Vec ℕ A) Z) E)
+pub made_all : {A Z E K : Type 0} (part_of : K → List Kept → Kept → Part) (b held_b : KeptState) (k held_k : K) (pieces : List Piece) (results : List (Result (Vec ℕ A) E)) (r : Result (Vec (Vec ℕ A) Z) E)
     → held_b ≡ b → held_k ≡ k → AreTextsOfBoth IsPart → AllZip (λ (p : Piece) y. IfOk y (λ v. IsShownText held_b (part_of held_k) (lent p.traces.now) v.items)) pieces results
     → MatchResult r (λ v. (ys : List (Vec ℕ A)) × (results ≡ map Ok ys) × (v.items ≡ ys)) (λ e. Contains results (Err e)) → IfOk r (λ v. IsShownText b (part_of k) (lent (traces_of_pieces pieces)) (all_bytes v.items))
 made_all {A} {Z} {E} {K} part_of b held_b k held_k pieces results r is_b is_k both all found =
     made_shown b (part_of k) pieces results r both
-    (subst (λ (x : NumberedBook). AllZip (λ (p : Piece) (y : Result (Vec ℕ A) E). IfOk y (λ v. IsShownText x (part_of k) (lent p.traces.now) v.items)) pieces results) is_b
+    (subst (λ (x : KeptState). AllZip (λ (p : Piece) (y : Result (Vec ℕ A) E). IfOk y (λ v. IsShownText x (part_of k) (lent p.traces.now) v.items)) pieces results) is_b
     (subst (λ (x : K). AllZip (λ (p : Piece) (y : Result (Vec ℕ A) E). IfOk y (λ v. IsShownText held_b (part_of x) (lent p.traces.now) v.items)) pieces results) is_k all)) found

@@ -15,7 +15,8 @@ use Rattle.text_rows.specs.TextsFollow.{CallGoesOn, CallsFollow, NothingIsPrinte
 use Rattle.text_rows.specs.declared.print_fault.PrintFault.{PrintFault}
 use Rattle.text_rows.specs.declared.print_fault.PrintFault.TheVariants.{Memory}
 use Rattle.trace_types.specs.declared.named_trace.NamedTrace.{NamedTrace}
-use Rattle.trace_rows.specs.inner.ShownTraces.{NumberedBook, PrintsShown, PrintsWhole, traces_in}
+use Rattle.named_books.specs.KeptBooks.{KeptState, traces_in}
+use Rattle.trace_rows.specs.inner.ShownTraces.{PrintsShown, PrintsWhole}
 
 -- nothing went wrong
 abbrev pub done : Result (Unit {0}) PrintFault
@@ -56,7 +57,7 @@ zip_split R (x ∷ xs) ys (z ∷ zs) h =
     let s = zip_split R xs ys zs h.1 in
     (z ∷ s.0, s.1, ap (λ l. z ∷ l) s.2, (h.0, s.3), s.4)
 
-module _ {S : Type 0} (written : S → Option (List ℕ)) (faults : S → ℕ) (b : NumberedBook) (part : List Kept → Kept → Part) where
+module _ {S : Type 0} (written : S → Option (List ℕ)) (faults : S → ℕ) (b : KeptState) (part : List Kept → Kept → Part) where
   pub shown_none : (old : S) (held : List ℕ) → NoPartIsPrinted IsPart → PrintsShown written faults done old old b part [] held held
   shown_none old held none kept shown [] h = record { all = none (written old) held; prefix = tt; counted = refl }
   shown_none old held none kept shown (k ∷ ks) h = absurd h

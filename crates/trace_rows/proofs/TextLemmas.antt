@@ -13,7 +13,8 @@ use Rattle.trace_types.specs.Parts.{by_number}
 use Rattle.trace_types.specs.declared.named_trace.NamedTrace.{NamedTrace}
 use Rattle.kept_books.specs.GraphLaws.{GraphIsShown}
 use Rattle.trace_rows.specs.inner.NumberedTraces.{IsNumbered, NumberedTrace, edge_row, edge_rows, graph_rows, name_row, row_of_trace, path_rows, vertex_slack_row, slack_rows, vertex_step_row, vertex_row}
-use Rattle.trace_rows.specs.inner.ShownTraces.{NamesAreShown, NumberedBook, traces_in}
+use Rattle.named_books.specs.KeptBooks.{KeptState, traces_in}
+use Rattle.trace_rows.specs.inner.ShownTraces.{NamesAreShown}
 use Rattle.trace_rows.proofs.EdgeLemmas.{edge_rows_are}
 use Rattle.weighted_dag.specs.Chains.{IsChain, IsLongestLength, NoLongestIsBefore, NoneIsLonger, chain_length}
 use Rattle.weighted_dag.specs.Graphs.{Graph, IsEdge, IsGraph, order_of, weight_of}
@@ -53,7 +54,7 @@ same_row word t k more request day latency =
     ap (λ r. row_of (word ∷ r ∷ decimal t.day ∷ decimal t.latency ∷ more)) request
     ∙ (ap (λ d. row_of (word ∷ k.trace.request ∷ decimal d ∷ decimal t.latency ∷ more)) day ∙ ap (λ l. row_of (word ∷ k.trace.request ∷ decimal k.trace.day ∷ decimal l ∷ more)) latency)
 
-module _ (b : NumberedBook) (t : NamedTrace) (order : List ℕ) (g : Graph) (graphs : GraphIsShown) (names : NamesAreShown) (fits : IsKept b.known) (form : IsGraph g)
+module _ (b : KeptState) (t : NamedTrace) (order : List ℕ) (g : Graph) (graphs : GraphIsShown) (names : NamesAreShown) (fits : IsKept b.known) (form : IsGraph g)
     (graph : IsTraceGraph by_number (traces_in b) t order g) (numbered : IsNumbered (record { names = b.known.names; trace = t; order = order; weights = g.weights })) where
   -- a path
   path_same : (k : Kept) (long : ℕ) (chain : List ℕ) → IsShown b.known t k → IsChain g chain → long ≡ chain_length g chain → path_rows (record { names = b.known.names; trace = t; order = order; weights = g.weights }) long chain ≡ path_text k order g chain

@@ -1,21 +1,19 @@
 ghost use Rattle.std.specs.Prelude.{◌≡◌, ◌∷◌, List, length, map, codes};
-ghost use Rattle.day_partitions.specs.Books.{all_traces};
 ghost use Rattle.kept_books.specs.Shown.{AreShown};
+ghost use Rattle.named_books.specs.KeptBooks.{traces_in};
 ghost use Rattle.session_rules.specs.KeptTraces.{Kept};
 ghost use Rattle.session_rules.specs.Parts.{GraphOf, Header, IsPart, PathOf, SlacksOf};
 ghost use Rattle.session_rules.specs.Parts.{traces_row};
 ghost use Rattle.text_rows.specs.Printing.{PrintsText, print_faults};
 ghost use Rattle.text_rows.specs.TextsOfParts.{PrintsTexts};
-ghost use Rattle.trace_rows.specs.inner.ShownTraces.{PrintsWhole, traces_in};
+ghost use Rattle.trace_rows.specs.inner.ShownTraces.{PrintsWhole};
 
 use crate::graph_texts::GraphTexts;
-use crate::numbered_book::NumberedBook;
 use crate::path_texts::PathTexts;
 use crate::slack_texts::SlackTexts;
 use crate::trace_texts::{TraceTexts, print_days};
-use day_partitions::DayBook;
 use mystery_io::Sink;
-use segment_names::Catalogue;
+use named_books::KeptBook;
 use session_rules::SessionPart;
 use std::alloc::Global;
 use std::thread::Threads;
@@ -23,7 +21,7 @@ use text_rows::laws::part_calls_follow;
 use text_rows::{Field, PrintFault, RowBuffer, print_row};
 
 /// Counts the traces of a book.
-fn count_traces(book: &NumberedBook<'_>) -> u64
+fn count_traces(book: &KeptBook) -> u64
     ensures { result ≡ length (traces_in book.now) }
 {
     let mut count = 0;
@@ -38,7 +36,7 @@ fn print_header<S: Sink>(
     sink: &mut S,
     buffer: &mut RowBuffer,
     word: &str,
-    book: &NumberedBook<'_>,
+    book: &KeptBook,
 ) -> Result<(), PrintFault>
     ensures { PrintsText S.written S.faults result sink.old sink.new buffer.old buffer.new
         (traces_row word.now (length (traces_in book.now))) }
@@ -55,7 +53,7 @@ fn print_header<S: Sink>(
 fn print_whole<R: Threads + Sync, S: Sink, K: TraceTexts>(
     rt: &R,
     alloc: Global,
-    book: &NumberedBook<'_>,
+    book: &KeptBook,
     word: &str,
     texts: &K,
     sink: &mut S,
@@ -70,9 +68,9 @@ fn print_whole<R: Threads + Sync, S: Sink, K: TraceTexts>(
     print_days(rt, alloc, book, texts, sink, buffer)
 }
 
-/// Prints the critical path of each trace of a book whose names are those of the catalogue: a
-/// header with the number of traces, then the paths, by day and within a day in the order in which
-/// the traces were taken. Times are in nanoseconds.
+/// Prints the critical path of each trace of a book: a header with the number of traces, then the
+/// paths, by day and within a day in the order in which the traces were taken. Times are in
+/// nanoseconds.
 ///
 /// Texts are made by all processors, a chunk of traces at a time, and those of a chunk are printed
 /// before the next are made. After an error a prefix of the text was printed, and nothing is said
@@ -80,19 +78,16 @@ fn print_whole<R: Threads + Sync, S: Sink, K: TraceTexts>(
 pub fn print_paths<R: Threads + Sync, S: Sink>(
     rt: &R,
     alloc: Global,
-    book: &DayBook,
-    catalogue: &Catalogue,
+    book: &KeptBook,
     sink: &mut S,
     buffer: &mut RowBuffer,
 ) -> Result<(), PrintFault>
-    requires names { book.now.names ≡ length catalogue.now.names }
-    ensures printed { (kept : List Kept) → AreShown catalogue.now (all_traces book.now.days) kept
+    ensures printed { (kept : List Kept) → AreShown book.now.known (traces_in book.now) kept
         → PrintsTexts S.written S.faults result sink.old sink.new IsPart
         (Header (codes "paths") (length kept) ∷ map (PathOf kept) kept) buffer.old buffer.new }
     ensures counted { S.faults sink.new ≡ print_faults result (S.faults sink.old) }
 {
-    let book = NumberedBook::new(book, catalogue);
-    print_whole(rt, alloc, &book, "paths", &PathTexts, sink, buffer)
+    print_whole(rt, alloc, book, "paths", &PathTexts, sink, buffer)
 }
 
 /// Prints the longest length of each trace of a book and the slacks of its segments, as
@@ -100,19 +95,16 @@ pub fn print_paths<R: Threads + Sync, S: Sink>(
 pub fn print_slacks<R: Threads + Sync, S: Sink>(
     rt: &R,
     alloc: Global,
-    book: &DayBook,
-    catalogue: &Catalogue,
+    book: &KeptBook,
     sink: &mut S,
     buffer: &mut RowBuffer,
 ) -> Result<(), PrintFault>
-    requires names { book.now.names ≡ length catalogue.now.names }
-    ensures printed { (kept : List Kept) → AreShown catalogue.now (all_traces book.now.days) kept
+    ensures printed { (kept : List Kept) → AreShown book.now.known (traces_in book.now) kept
         → PrintsTexts S.written S.faults result sink.old sink.new IsPart
         (Header (codes "slack") (length kept) ∷ map (SlacksOf kept) kept) buffer.old buffer.new }
     ensures counted { S.faults sink.new ≡ print_faults result (S.faults sink.old) }
 {
-    let book = NumberedBook::new(book, catalogue);
-    print_whole(rt, alloc, &book, "slack", &SlackTexts, sink, buffer)
+    print_whole(rt, alloc, book, "slack", &SlackTexts, sink, buffer)
 }
 
 /// Prints the transitive reduction of the graph of each trace of a book, as `print_paths` prints
@@ -120,17 +112,14 @@ pub fn print_slacks<R: Threads + Sync, S: Sink>(
 pub fn print_graphs<R: Threads + Sync, S: Sink>(
     rt: &R,
     alloc: Global,
-    book: &DayBook,
-    catalogue: &Catalogue,
+    book: &KeptBook,
     sink: &mut S,
     buffer: &mut RowBuffer,
 ) -> Result<(), PrintFault>
-    requires names { book.now.names ≡ length catalogue.now.names }
-    ensures printed { (kept : List Kept) → AreShown catalogue.now (all_traces book.now.days) kept
+    ensures printed { (kept : List Kept) → AreShown book.now.known (traces_in book.now) kept
         → PrintsTexts S.written S.faults result sink.old sink.new IsPart
         (Header (codes "graph") (length kept) ∷ map (GraphOf kept) kept) buffer.old buffer.new }
     ensures counted { S.faults sink.new ≡ print_faults result (S.faults sink.old) }
 {
-    let book = NumberedBook::new(book, catalogue);
-    print_whole(rt, alloc, &book, "graph", &GraphTexts, sink, buffer)
+    print_whole(rt, alloc, book, "graph", &GraphTexts, sink, buffer)
 }

@@ -2,11 +2,11 @@
 //! numbers of a catalogue.
 #![tactic(auto)]
 
+mod book_lists;
 mod chunks;
 mod commands;
 mod graph_texts;
 mod laws;
-mod numbered_book;
 mod numbered_trace;
 mod path_texts;
 mod prepared_book;

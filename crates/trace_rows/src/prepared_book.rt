@@ -1,23 +1,24 @@
-use crate::numbered_book::NumberedBook;
+use crate::book_lists::list_exclusions;
 use model_meet::Exclusions;
+use named_books::KeptBook;
 use segment_names::Catalogue;
 use std::alloc::{AllocError, Global};
 use trace_graph::{OrderedGraph, graph_by};
 use trace_types::NamedTrace;
 
-/// A book by numbers with the mutual exclusions that its traces leave, from which the graphs of all
-/// of its traces are made. It is seen as the book.
+/// A book with the mutual exclusions that its traces leave, from which the graphs of all of its
+/// traces are made. It is seen as the book.
 #[derive(Drop)]
 pub(crate) struct PreparedBook<'a> {
-    book: &'a NumberedBook<'a>,
+    book: &'a KeptBook,
     exclusions: Exclusions<'a>,
 }
 
 impl<'a> std::marker::Model for PreparedBook<'a> {
-    ghost use Rattle.trace_rows.specs.inner.ShownTraces as shown;
+    ghost use Rattle.named_books.specs.KeptBooks.{KeptState};
     ghost use Rattle.trace_rows.specs.inner.PreparedBooks.{AreExclusionsOf};
 
-    ghost Value = { shown.NumberedBook };
+    ghost Value = { KeptState };
 
     ghost view = { λ p. p.book.now };
 
@@ -26,23 +27,20 @@ impl<'a> std::marker::Model for PreparedBook<'a> {
 
 impl<'a> PreparedBook<'a> {
     ghost use Rattle.std.specs.Prelude.{◌≡◌, IfOk, length};
+    ghost use Rattle.named_books.specs.KeptBooks.{traces_in};
     ghost use Rattle.refute_tests.specs.Clearing.{HaveNamesBelow};
     ghost use Rattle.segment_names.specs.Limits.{IsKept};
     ghost use Rattle.trace_graph.specs.TraceGraphs.{IsTraceGraph};
     ghost use Rattle.trace_rows.specs.inner.NumberedTraces.{IsNumbered};
-    ghost use Rattle.trace_rows.specs.inner.ShownTraces.{traces_in};
     ghost use Rattle.trace_types.specs.Parts.{by_number};
     ghost use Rattle.weighted_dag.specs.Graphs.{IsGraph};
 
     /// Lists the mutual exclusions that the traces of a book leave. The only error is that memory
     /// ran out.
-    pub(crate) fn of(
-        alloc: Global,
-        book: &'a NumberedBook<'a>,
-    ) -> Result<PreparedBook<'a>, AllocError>
+    pub(crate) fn of(alloc: Global, book: &'a KeptBook) -> Result<PreparedBook<'a>, AllocError>
         ensures { IfOk result (λ p. p ≡ book.now) }
     {
-        let exclusions = book.exclusions(alloc)?;
+        let exclusions = list_exclusions(alloc, book)?;
         Ok(PreparedBook { book, exclusions })
     }
 

@@ -1,20 +1,21 @@
 ghost use Rattle.std.specs.Prelude.{◌≡◌, ◌∷◌, [], List, IfOk, length, map};
 ghost use Rattle.std.specs.Borrow.{Bor};
 ghost use Rattle.std.specs.List.{All};
+ghost use Rattle.named_books.specs.KeptBooks.{KeptState, traces_in};
 ghost use Rattle.refute_tests.specs.Clearing.{HaveNamesBelow};
 ghost use Rattle.session_rules.specs.KeptTraces.{Kept};
 ghost use Rattle.session_rules.specs.Parts.{Part};
 ghost use Rattle.text_rows.specs.Printing.{print_faults};
 ghost use Rattle.text_rows.specs.TextSinks.{all_bytes};
 ghost use Rattle.trace_rows.specs.inner.Pieces.{traces_of_pieces};
-ghost use Rattle.trace_rows.specs.inner.ShownTraces.{IsShownText, NumberedBook as Book};
-ghost use Rattle.trace_rows.specs.inner.ShownTraces.{PrintsShown, traces_in};
+ghost use Rattle.trace_rows.specs.inner.ShownTraces.{IsShownText, PrintsShown};
 ghost use Rattle.trace_types.specs.declared.named_trace.NamedTrace.{NamedTrace};
 
+use crate::book_lists::list_traces;
 use crate::chunks::{Piece, chunk_length, cut_pieces};
-use crate::numbered_book::NumberedBook;
 use crate::prepared_book::PreparedBook;
 use mystery_io::Sink;
+use named_books::KeptBook;
 use rayon::prelude::*;
 use session_rules::SessionPart;
 use std::alloc::{AllocError, Global};
@@ -33,7 +34,7 @@ pub(crate) trait TraceTexts: Sync {
     ghost part: { Self → List Kept → Kept → Part };
 
     /// What is computed of this trace of the book.
-    ghost computes: { Self → Book → NamedTrace → Self.Computed → Type 0 };
+    ghost computes: { Self → KeptState → NamedTrace → Self.Computed → Type 0 };
 
     /// Computes what the part of a trace tells. The only error is that memory ran out.
     fn compute(
@@ -205,7 +206,7 @@ pub(crate) fn print_each<R: Threads + Sync, S: Sink, K: TraceTexts>(
 pub(crate) fn print_days<R: Threads + Sync, S: Sink, K: TraceTexts>(
     rt: &R,
     alloc: Global,
-    book: &NumberedBook<'_>,
+    book: &KeptBook,
     texts: &K,
     sink: &mut S,
     buffer: &mut RowBuffer,
@@ -215,7 +216,7 @@ pub(crate) fn print_days<R: Threads + Sync, S: Sink, K: TraceTexts>(
     ensures counted { S.faults sink.new ≡ print_faults result (S.faults sink.old) }
 {
     parts_follow::<SessionPart>();
-    let traces = book.all_traces(alloc)?;
+    let traces = list_traces(alloc, book)?;
     let prepared = PreparedBook::of(alloc, book)?;
     print_each(rt, alloc, &prepared, texts, &traces, sink, buffer)
 }

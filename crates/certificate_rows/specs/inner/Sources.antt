@@ -1,11 +1,11 @@
 -- What a certificate is printed of, and which numbers and findings it may be asked for.
-use Rattle.std.specs.Prelude.{◌≡◌, ℕ, List, length}
+use Rattle.std.specs.Prelude.{ℕ, List, length}
 use Rattle.counterexamples.specs.Findings.{StandsAt}
 use Rattle.counterexamples.specs.FirstRefuters.{AreFirstRefuters, FindingTable}
 use Rattle.counterexamples.specs.declared.finding.Finding.{Finding}
-use Rattle.day_partitions.specs.Books.{BookState, IsBook, KeptDay}
+use Rattle.day_partitions.specs.Books.{BookState, KeptDay}
+use Rattle.named_books.specs.KeptBooks.{IsKeptBook}
 use Rattle.segment_names.specs.Known.{Known}
-use Rattle.segment_names.specs.Limits.{IsKept}
 use Rattle.trace_types.specs.declared.named_trace.NamedTrace.{NamedTrace}
 use Rattle.certificate_rows.specs.declared.kind.Kind.{Kind}
 use Rattle.certificate_rows.specs.declared.kind.Kind.TheVariants.{Before, Exclusive, Pipe}
@@ -17,16 +17,15 @@ count_of known Before = length known.names
 count_of known Exclusive = length known.names
 count_of known Pipe = length known.tasks
 
--- the catalogue has the names of the book, and the table has the first refuters of its traces
+-- the book has what every book keeps under its catalogue, and the table has the first refuters of
+-- its traces
 pub record HasRefuters (known : Known) (b : BookState) (table : FindingTable) : Type 0 where
-  pub fits : IsKept known
-  pub book : IsBook b
-  pub names : b.names ≡ length known.names
+  pub kept : IsKeptBook (record { known = known; book = b })
   pub first : AreFirstRefuters b.names b.days table
 
 -- so it is with what a certificate is printed of
 abbrev pub IsSource : Source → Type 0
-IsSource s = HasRefuters s.catalogue.now s.book.now s.refuters.now
+IsSource s = HasRefuters s.book.now.known s.book.now.book s.refuters.now
 
 -- a trace is kept there
 abbrev pub IsKeptThere : List KeptDay → Finding → Type 0

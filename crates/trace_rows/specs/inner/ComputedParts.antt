@@ -3,7 +3,7 @@ use Rattle.std.specs.Prelude.{◌≡◌, ℕ, ◌↔◌, List, length, slice_ind
 use Rattle.std.specs.List.{EachIndex}
 use Rattle.trace_graph.specs.TraceGraphs.{IsTraceGraph}
 use Rattle.trace_rows.specs.inner.NumberedTraces.{IsNumbered}
-use Rattle.trace_rows.specs.inner.ShownTraces.{NumberedBook, traces_in}
+use Rattle.named_books.specs.KeptBooks.{KeptState, traces_in}
 use Rattle.trace_types.specs.Parts.{by_number}
 use Rattle.trace_types.specs.declared.named_trace.NamedTrace.{NamedTrace}
 use Rattle.weighted_dag.specs.Chains.{IsChain, IsLongestLength, NoLongestIsBefore, NoneIsLonger}
@@ -14,7 +14,7 @@ use Rattle.weighted_dag.specs.Slacks.{IsSlack}
 
 -- the graph of a trace under what the traces of a book leave; entry v of the order is the index of
 -- vertex v's segment
-pub record IsGraphUnderBook (b : NumberedBook) (t : NamedTrace) (order : List ℕ) (g : Graph)
+pub record IsGraphUnderBook (b : KeptState) (t : NamedTrace) (order : List ℕ) (g : Graph)
     : Type 0 where
   pub form : IsGraph g
   pub graph : IsTraceGraph by_number (traces_in b) t order g
@@ -26,7 +26,7 @@ pub record IsGraphUnderBook (b : NumberedBook) (t : NamedTrace) (order : List �
   })
 
 -- the first longest chain of a trace's graph, whose vertices have this order, and its length
-pub record IsPathUnderBook (b : NumberedBook) (t : NamedTrace) (order : List ℕ) (graph : Graph)
+pub record IsPathUnderBook (b : KeptState) (t : NamedTrace) (order : List ℕ) (graph : Graph)
     (total : ℕ) (chain : List ℕ) : Type 0 where
   pub of_trace : IsGraphUnderBook b t order graph
   pub chained : IsChain graph chain
@@ -36,7 +36,7 @@ pub record IsPathUnderBook (b : NumberedBook) (t : NamedTrace) (order : List ℕ
 
 -- the longest length of a trace's graph, whose vertices have this order, and the slack of each
 -- vertex
-pub record AreSlacksUnderBook (b : NumberedBook) (t : NamedTrace) (order : List ℕ) (graph : Graph)
+pub record AreSlacksUnderBook (b : KeptState) (t : NamedTrace) (order : List ℕ) (graph : Graph)
     (longest : ℕ) (slacks : List ℕ) : Type 0 where
   pub of_trace : IsGraphUnderBook b t order graph
   pub is_longest : IsLongestLength graph longest
@@ -44,7 +44,7 @@ pub record AreSlacksUnderBook (b : NumberedBook) (t : NamedTrace) (order : List 
   pub each : EachIndex graph.weights (λ v. IsSlack graph v (slice_index slacks v))
 
 -- the transitive reduction of the graph of a trace
-pub record IsReducedUnderBook (b : NumberedBook) (t : NamedTrace) (order : List ℕ)
+pub record IsReducedUnderBook (b : KeptState) (t : NamedTrace) (order : List ℕ)
     (reduced : Graph) : Type 0 where
   pub whole : Graph
   pub of_trace : IsGraphUnderBook b t order whole

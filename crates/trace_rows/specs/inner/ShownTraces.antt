@@ -1,8 +1,7 @@
 -- What is printed of the kept traces that a book and a catalogue show.
 use Rattle.std.specs.Prelude.{◌≡◌, ℕ, ◌<◌, List, ◌∷◌, length, map, Option, Result}
-use Rattle.day_partitions.specs.Books.{BookState, IsBook, all_traces}
+use Rattle.named_books.specs.KeptBooks.{KeptState, traces_in}
 use Rattle.segment_names.specs.Known.{Known}
-use Rattle.segment_names.specs.Limits.{IsKept}
 use Rattle.session_rules.specs.KeptTraces.{Kept}
 use Rattle.session_rules.specs.Parts.{Header, IsPart, Part}
 use Rattle.session_rules.specs.TraceTexts.{name_of_vertex}
@@ -11,21 +10,6 @@ use Rattle.text_rows.specs.TextsOfParts.{AreTexts, PrintsTexts}
 use Rattle.text_rows.specs.declared.print_fault.PrintFault.{PrintFault}
 use Rattle.trace_types.specs.declared.named_trace.NamedTrace.{NamedTrace}
 use Rattle.trace_rows.specs.inner.NumberedTraces.{IsNumbered, NumberedTrace, vertex_name}
-
--- a book of days and the catalogue of its names
-pub record NumberedBook : Type 0 where
-  pub book : BookState
-  pub known : Known
-
--- the book has as many names as the catalogue, and both keep what they should
-pub record IsNumberedBook (b : NumberedBook) : Type 0 where
-  pub names : b.book.names ≡ length b.known.names
-  pub book : IsBook b.book
-  pub known : IsKept b.known
-
--- the traces of the book
-abbrev pub traces_in : NumberedBook → List NamedTrace
-traces_in b = all_traces b.book.days
 
 -- the names of the vertices of a trace's graph are those of the kept trace
 abbrev pub NamesAreShown : Type 0
@@ -36,14 +20,14 @@ NamesAreShown = (known : Known) (k : Kept) (n : NumberedTrace) (v : ℕ) → n.n
 -- a call printed the parts of these traces of the book, or a fault stopped it at a prefix, whatever
 -- kept traces are shown
 abbrev pub PrintsShown : {S T : Type 0} → (S → Option (List ℕ)) → (S → ℕ) → Result T PrintFault
-    → S → S → NumberedBook → (List Kept → Kept → Part) → List NamedTrace → List ℕ → List ℕ
+    → S → S → KeptState → (List Kept → Kept → Part) → List NamedTrace → List ℕ → List ℕ
     → Type 0
 PrintsShown written faults result old new b part traces held holds = (kept : List Kept)
     → AreShown b.known (traces_in b) kept → (some : List Kept) → AreShown b.known traces some
     → PrintsTexts written faults result old new IsPart (map (part kept) some) held holds
 
 -- the bytes are a text of the parts of these traces of the book, whatever kept traces are shown
-abbrev pub IsShownText : NumberedBook → (List Kept → Kept → Part) → List NamedTrace → List ℕ
+abbrev pub IsShownText : KeptState → (List Kept → Kept → Part) → List NamedTrace → List ℕ
     → Type 0
 IsShownText b part traces text = (kept : List Kept) → AreShown b.known (traces_in b) kept
     → (some : List Kept) → AreShown b.known traces some
@@ -51,7 +35,7 @@ IsShownText b part traces text = (kept : List Kept) → AreShown b.known (traces
 
 -- a call printed a header of this word and the parts of all traces of the book, likewise
 abbrev pub PrintsWhole : {S T : Type 0} → (S → Option (List ℕ)) → (S → ℕ) → Result T PrintFault
-    → S → S → NumberedBook → List ℕ → (List Kept → Kept → Part) → List ℕ → List ℕ → Type 0
+    → S → S → KeptState → List ℕ → (List Kept → Kept → Part) → List ℕ → List ℕ → Type 0
 PrintsWhole written faults result old new b word part held holds = (kept : List Kept)
     → AreShown b.known (traces_in b) kept → PrintsTexts written faults result old new IsPart
     (Header word (length kept) ∷ map (part kept) kept) held holds

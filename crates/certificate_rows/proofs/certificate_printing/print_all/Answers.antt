@@ -18,8 +18,8 @@ same_head days table names tasks traces before exclusive pipe et eb ee ep =
 
 pub returns-in_err-print_header : goal.returns-in_err-print_header
 returns-in_err-print_header g c =
-    let known = c.args.source.now.catalogue.now in
-    let days = c.args.source.now.book.now.days in
+    let known = c.args.source.now.book.now.known in
+    let days = c.args.source.now.book.now.book.days in
     let table = c.args.source.now.refuters.now in
     let names = c.args.names.now in
     let tasks = c.args.tasks.now in
@@ -29,8 +29,8 @@ returns-in_err-print_header g c =
 
 pub returns-in_err-print_kind : goal.returns-in_err-print_kind
 returns-in_err-print_kind g c =
-    let known = c.args.source.now.catalogue.now in
-    let days = c.args.source.now.book.now.days in
+    let known = c.args.source.now.book.now.known in
+    let days = c.args.source.now.book.now.book.days in
     let table = c.args.source.now.refuters.now in
     let names = c.args.names.now in
     let tasks = c.args.tasks.now in
@@ -41,8 +41,8 @@ returns-in_err-print_kind g c =
 
 pub returns-in_err-print_kind-2 : goal.returns-in_err-print_kind-2
 returns-in_err-print_kind-2 g c =
-    let known = c.args.source.now.catalogue.now in
-    let days = c.args.source.now.book.now.days in
+    let known = c.args.source.now.book.now.known in
+    let days = c.args.source.now.book.now.book.days in
     let table = c.args.source.now.refuters.now in
     let names = c.args.names.now in
     let tasks = c.args.tasks.now in
@@ -54,8 +54,8 @@ returns-in_err-print_kind-2 g c =
 
 pub returns : goal.returns
 returns g c =
-    let known = c.args.source.now.catalogue.now in
-    let days = c.args.source.now.book.now.days in
+    let known = c.args.source.now.book.now.known in
+    let days = c.args.source.now.book.now.book.days in
     let table = c.args.source.now.refuters.now in
     let names = c.args.names.now in
     let tasks = c.args.tasks.now in

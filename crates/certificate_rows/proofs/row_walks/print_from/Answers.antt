@@ -10,7 +10,7 @@ others-init g c = printed_none g.S.Sink.written g.S.Sink.faults _ c.args.sink.no
 pub returns-in_err-print_pair : goal.returns-in_err-print_pair
 returns-in_err-print_pair g c =
     let s = c.args.source.now in
-    let row = row_of_pair s.catalogue.now s.book.now.days s.refuters.now c.args.kind in
+    let row = row_of_pair s.book.now.known s.book.now.book.days s.refuters.now c.args.kind in
     let others = c.args.others.now in
     let p = err_from_is_err_and c.from_residual.result c.from_residual.ensures.1 in
     rw (p.1, p.2) (printed_cut g.S.Sink.written g.S.Sink.faults _ _ _ _ _ _ _ _ _ _ _ c.calls_follow.ensures.follow c.calls_follow.ensures.goes_on
@@ -19,7 +19,7 @@ returns-in_err-print_pair g c =
 pub others-preserved : goal.others-preserved
 others-preserved g c =
     let s = c.args.source.now in
-    let row = row_of_pair s.catalogue.now s.book.now.days s.refuters.now c.args.kind in
+    let row = row_of_pair s.book.now.known s.book.now.book.days s.refuters.now c.args.kind in
     let others = c.args.others.now in
     printed_more g.S.Sink.written g.S.Sink.faults _ _ _ _ _ _ _ _ _ _ c.calls_follow.ensures.follow
     (row_next row c.args.one others c.others.other-index c.others-test.true) c.others.invariant c.in_ok-print_pair.ensures

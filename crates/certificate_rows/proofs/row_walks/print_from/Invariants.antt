@@ -8,5 +8,5 @@ use Rattle.certificate_rows.proofs.row_walks.print_from.Given as goal
 -- all but the rows of the others from here on
 abbrev pub invariant-others : goal.invariant-others
 invariant-others g l =
-    let row = row_of_pair l.source.catalogue.now l.source.book.now.days l.source.refuters.now l.kind in
+    let row = row_of_pair l.source.book.now.known l.source.book.now.book.days l.source.refuters.now l.kind in
     PrintsAllBut g.S.Sink.written g.S.Sink.faults (flat_map row (pairs_with l.one (drop l.other-index l.others))) (flat_map row (pairs_with l.one l.others)) l.fn.sink l.sink l.fn.buffer l.buffer

@@ -23,7 +23,7 @@ pub claims-preserved : goal.claims-preserved
 claims-preserved g c =
     let claim = c.claim-item.result in
     let b = c.shown-is_shown.result in
-    let tells = c.shown-is_shown.ensures in
+    let tells = rw (c.catalogue-catalogue.ensures.catalogue, c.day_book-days.ensures.book) at c.shown-is_shown.ensures in
     let claims = c.args.claims.now in
     let i = c.claims.claim-index in
     let more : c.if-is_shown.count ≡ (if b then c.claims.count + 1 else c.claims.count) = elim c.if-is_shown.branch [
@@ -33,11 +33,11 @@ claims-preserved g c =
     let few : c.if-is_shown.count ≤ i + 1 = (let so_far = c.claims.invariant.few in elim c.if-is_shown.branch [ then-is_shown w ↦ omega arith | else-is_shown w ↦ omega arith ]) in
     record {
       printed = λ kept shown verdicts are.
-          let law = c.claims_are_shown.ensures c.args.catalogue.now c.args.book.now kept claim c.names-names.ensures.kept c.days-days.ensures.kept shown in
+          let law = c.claims_are_shown.ensures c.args.book.now.known c.args.book.now.book kept claim c.catalogue-catalogue.ensures.kept.known c.catalogue-catalogue.ensures.kept.book shown in
           parts_more g.S.Sink.written g.S.Sink.faults (Verdict b claim.line) (verdict_row b claim.line) (parts_from claims verdicts (i + 1)) (parts_from claims verdicts i) (verify_parts claims verdicts) _ _ _ _ _ _ c.part_calls_follow.ensures.follow c.part_calls_follow.ensures.one
           (parts_next kept claims verdicts are i claim c.claims-test.true c.claim-item.is b ((λ e. law.0 (tells.0 e)), (λ s. tells.1 (law.1 s)))) refl (c.claims.invariant.printed kept shown verdicts are) c.in_ok-print_verdict.ensures;
       count = λ kept shown verdicts are.
-          let law = c.claims_are_shown.ensures c.args.catalogue.now c.args.book.now kept claim c.names-names.ensures.kept c.days-days.ensures.kept shown in
+          let law = c.claims_are_shown.ensures c.args.book.now.known c.args.book.now.book kept claim c.catalogue-catalogue.ensures.kept.known c.catalogue-catalogue.ensures.kept.book shown in
           shown_next kept claims verdicts are i claim c.claims-test.true c.claim-item.is b ((λ e. law.0 (tells.0 e)), (λ s. tells.1 (law.1 s))) c.claims.count c.if-is_shown.count (c.claims.invariant.count kept shown verdicts are) more;
       few = few;
       counted = c.in_ok-print_verdict.ensures.counted ∙ c.claims.invariant.counted;
@@ -47,10 +47,10 @@ pub returns-in_err-print_verdict-clause-printed : goal.returns-in_err-print_verd
 returns-in_err-print_verdict-clause-printed g c = λ kept shown verdicts are.
     let claim = c.claim-item.result in
     let b = c.shown-is_shown.result in
-    let tells = c.shown-is_shown.ensures in
+    let tells = rw (c.catalogue-catalogue.ensures.catalogue, c.day_book-days.ensures.book) at c.shown-is_shown.ensures in
     let claims = c.args.claims.now in
     let i = c.claims.claim-index in
-    let law = c.claims_are_shown.ensures c.args.catalogue.now c.args.book.now kept claim c.names-names.ensures.kept c.days-days.ensures.kept shown in
+    let law = c.claims_are_shown.ensures c.args.book.now.known c.args.book.now.book kept claim c.catalogue-catalogue.ensures.kept.known c.catalogue-catalogue.ensures.kept.book shown in
     let p = err_from_is_err_and c.from_residual.result c.from_residual.ensures.1 in
     rw (p.1, p.2) (parts_cut g.S.Sink.written g.S.Sink.faults (Verdict b claim.line) (verdict_row b claim.line) (parts_from claims verdicts (i + 1)) (parts_from claims verdicts i) (verify_parts claims verdicts) _ _ _ _ _ _ c.part_calls_follow.ensures.follow c.part_calls_follow.ensures.one
     (parts_next kept claims verdicts are i claim c.claims-test.true c.claim-item.is b ((λ e. law.0 (tells.0 e)), (λ s. tells.1 (law.1 s)))) refl (c.claims.invariant.printed kept shown verdicts are) _ c.part_calls_follow.ensures.goes_on c.in_err-print_verdict.ensures)

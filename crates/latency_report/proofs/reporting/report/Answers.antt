@@ -4,10 +4,11 @@ use Rattle.std.specs.Prelude.{nat_eq, sum_by}
 use Rattle.std.specs.List.{AllZip}
 use Rattle.std.proofs.lemmas.List.{length-map}
 use Rattle.std.proofs.lemmas.Slice.Zip.{AllZip-long}
-use Rattle.day_partitions.specs.Books.{all_traces}
+use Rattle.day_partitions.specs.Books.{BookState, all_traces}
 use Rattle.model_meet.specs.ModelStates.{ModelState}
 use Rattle.refute_tests.specs.Clearing.{HaveNamesBelow}
 use Rattle.refute_tests.specs.Survivors.{AreSurvivors}
+use Rattle.segment_names.specs.Known.{Known}
 use Rattle.trace_types.specs.declared.named_segment.NamedSegment.{NamedSegment}
 use Rattle.trace_types.specs.declared.named_trace.NamedTrace.{NamedTrace}
 use Rattle.trace_types.specs.Listing.{ListsExactly}
@@ -65,28 +66,30 @@ add_lengths-requires-clause-short g c =
     (paths_named c.new-model.result c.deref.result.now c.in_ok-paths.paths.items c.in_ok-paths.ensures) in
     subst (All (λ (path : List NamedSegment). length path ≤ 512)) (sym c.deref-5.ensures.value) (λ k d lt. (named k d lt).few)
 
-pub returns : goal.returns
-returns g c =
+pub returns-clause-reported : goal.returns-clause-reported
+returns-clause-reported g c =
     let named : All (IsNamedPath c.names-names.result) c.in_ok-paths.paths.items =
     subst (λ (k : ℕ). All (IsNamedPath k) c.in_ok-paths.paths.items) (ap (λ (m : ModelState). m.names) c.new-model.ensures)
     (paths_named c.new-model.result c.deref.result.now c.in_ok-paths.paths.items c.in_ok-paths.ensures) in
-    let known = c.args.catalogue.now.names in
-    let traces = all_traces c.args.book.now.days in
+    let known = c.args.book.now.known.names in
+    let traces = all_traces c.args.book.now.book.days in
     let ts = c.in_ok-traces.traces.items in
     let paths = c.in_ok-paths.paths.items in
     let model = c.new-model.result in
-    let are : traces_at ts ≡ traces = c.in_ok-traces.ensures.traces in
+    let are : traces_at ts ≡ traces = c.in_ok-traces.ensures.traces ∙ ap (λ (b : BookState). all_traces b.days) c.day_book.ensures.book in
     let tells : AreSurvivors traces model.words = subst (AreSurvivors traces) (sym (ap (λ (m : ModelState). m.words) c.new-model.ensures)) c.words.ensures.survivors in
     let zipped : AllZip (λ (t : Bor NamedTrace) (path : List NamedSegment). IsPathUnder model t.now path) ts paths =
     subst (λ (l : List (Bor NamedTrace)). AllZip (λ (t : Bor NamedTrace) (path : List NamedSegment). IsPathUnder model t.now path) l paths) c.deref.ensures.value c.in_ok-paths.ensures in
     let segments = segments_at c.deref-2.result.now in
     let same : segments ≡ segments_of by_number traces = segments_shown c.deref-2.result.now ∙ ap (λ (l : List (Bor NamedTrace)). segments_of by_number (traces_at l)) c.deref-2.ensures.value ∙ ap (segments_of by_number) are in
-    let count : c.names-names.result ≡ c.args.book.now.names = c.names-names.ensures.count ∙ c.requires in
+    let count : c.names-names.result ≡ c.day_book.result.now.names = c.names-names.ensures.count ∙ (sym c.names-names.ensures.names.names ∙ ap (λ (b : BookState). b.names) (sym c.day_book.ensures.book)) in
     let below : All (λ (t : Bor NamedTrace). HaveNamesBelow c.names-names.result t.now) c.deref-2.result.now =
     subst (All (λ (t : Bor NamedTrace). HaveNamesBelow c.names-names.result t.now)) (sym c.deref-2.ensures.value)
     (subst (λ (k : ℕ). All (λ (t : Bor NamedTrace). HaveNamesBelow k t.now) ts) (sym count) c.in_ok-traces.ensures.below) in
     let steps = c.in_ok-on_paths.ensures in
     let rows = c.in_ok-rows.ensures in
+    let listed : ListsExactly (number_cmp known) (λ n. 0 < length (list_at c.in_ok-durations.durations n)) (map (λ (r : SegmentRow). r.name) c.in_ok-rows.rows.items) =
+    subst (λ (k : Known). ListsExactly (number_cmp k.names) (λ n. 0 < length (list_at c.in_ok-durations.durations n)) (map (λ (r : SegmentRow). r.name) c.in_ok-rows.rows.items)) c.catalogue.ensures.catalogue rows.names in
     record {
       paths = paths;
       critical_paths = subst (λ (l : List NamedTrace). AllZip (IsCriticalPath by_number traces) l paths) are (paths_are model traces tells ts paths zipped);
@@ -97,7 +100,7 @@ returns g c =
       names = subst (λ (l : List SegmentRow). AreNamesOf known traces (map (λ (r : SegmentRow). r.name) l)) (sym c.of.ensures)
           (subst (λ (l : List NamedSegment). ListsExactly (number_cmp known) (Contains (map number_of_name l)) (map (λ (r : SegmentRow). r.name) c.in_ok-rows.rows.items)) same
           (listed_as (number_cmp known) (λ n. 0 < length (list_at c.in_ok-durations.durations n)) (Contains (map number_of_name segments)) (map (λ (r : SegmentRow). r.name) c.in_ok-rows.rows.items)
-          (durations_tell c.names-names.result segments c.in_ok-durations.durations c.in_ok-durations.ensures (segments_below c.names-names.result c.deref-2.result.now below)) rows.names));
+          (durations_tell c.names-names.result segments c.in_ok-durations.durations c.in_ok-durations.ensures (segments_below c.names-names.result c.deref-2.result.now below)) listed));
       rows = subst (All (λ (r : SegmentRow). IsRowOf by_number nat_eq traces paths r.name r)) (sym c.of.ensures)
           (λ k d lt. row_of c.names-names.result traces segments paths c.in_ok-durations.durations c.in_ok-on_paths.on_paths (get_or c.in_ok-rows.rows.items k d) same c.in_ok-durations.ensures
           (subst (λ (l : List (List NamedSegment)). IsTableOf c.names-names.result (joined l) c.in_ok-on_paths.on_paths) c.deref-3.ensures.value steps) named (rows.each k d lt));

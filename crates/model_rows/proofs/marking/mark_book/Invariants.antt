@@ -6,6 +6,6 @@ use Rattle.model_rows.proofs.marking.mark_book.Given as goal
 
 abbrev pub invariant-loop-place : goal.invariant-loop-place
 invariant-loop-place l = record {
-  more : MarksMore (segments_of by_number (all_traces (take l.place l.book.days))) l.initial.marks l.marks;
+  more : MarksMore (segments_of by_number (all_traces (take l.place l.book.book.days))) l.initial.marks l.marks;
   room : HaveRoom l.marks;
 }

@@ -13,7 +13,7 @@ returns-in_err-print_model_head-clause-printed g c = λ kept shown.
 
 pub returns-clause-printed : goal.returns-clause-printed
 returns-clause-printed g c = λ kept shown.
-    let texts = c.report_is_shown.ensures c.args.catalogue.now (all_traces c.args.book.now.days) kept c.in_ok-found.found c.names-names.ensures.kept shown c.in_ok-found.ensures in
+    let texts = c.report_is_shown.ensures c.args.book.now.known (all_traces c.args.book.now.book.days) kept c.in_ok-found.found c.report.ensures.kept.known shown c.in_ok-found.ensures.reported in
     c.part_calls_follow.ensures.follow tt c.print_first_rows.result _ _ _ (ModelHead kept ∷ []) (ReportHead kept ∷ LatenciesOf kept ∷ []) _ _ _
     (one_part g.S.Sink.written g.S.Sink.faults (ModelHead kept) done _ _ _ _ (c.in_ok-print_model_head.ensures.printed kept shown))
     (c.print_first_rows.ensures.printed kept texts.head texts.latency)

@@ -11,5 +11,5 @@ record_days-requires-clause-few g c κs within = few_each _ c.args.days.now c.ar
 
 pub returns : goal.returns
 returns g c =
-    if_ok c.record_days.result _ _ (λ r h kept shown. recorded_sheets c.watch_lines_are_told_by_text.ensures c.args.catalogue.now c.args.watch c.args.workers c.args.named.items kept c.args.days.now c.in_ok-split.split.items r.sheets.items r.watched.items
-    c.names.ensures.kept shown c.requires.below c.requires.workers c.requires.days c.in_ok-split.ensures (rw c.names.ensures.count at h)) c.record_days.ensures
+    if_ok c.record_days.result _ _ (λ r h kept shown. recorded_sheets c.watch_lines_are_told_by_text.ensures c.args.book.now.known c.args.watch c.args.workers c.args.named.items kept c.args.days.now c.in_ok-split.split.items r.sheets.items r.watched.items
+    c.names.ensures.kept.known shown c.requires.below c.requires.workers c.requires.days c.in_ok-split.ensures (rw c.names.ensures.count at h)) c.record_days.ensures

@@ -4,10 +4,11 @@ use Rattle.std.specs.Prelude.{count_by, nat_eq, not, slice_get}
 use Rattle.std.specs.List.{AllZip}
 use Rattle.std.proofs.lemmas.List.{length-map}
 use Rattle.std.proofs.lemmas.Slice.Zip.{AllZip-long}
-use Rattle.day_partitions.specs.Books.{all_traces}
+use Rattle.day_partitions.specs.Books.{BookState, all_traces}
 use Rattle.model_meet.specs.ModelStates.{ModelState}
 use Rattle.refute_tests.specs.Clearing.{HaveNamesBelow}
 use Rattle.refute_tests.specs.Survivors.{AreSurvivors}
+use Rattle.segment_names.specs.Known.{Known}
 use Rattle.trace_types.specs.declared.named_segment.NamedSegment.{NamedSegment}
 use Rattle.trace_types.specs.declared.named_trace.NamedTrace.{NamedTrace}
 use Rattle.trace_types.specs.Listing.{ListsExactly}
@@ -84,8 +85,8 @@ make_rows-requires-clause-short_rest g c =
 
 pub returns : goal.returns
 returns g c =
-    let known = c.args.catalogue.now.names in
-    let traces = all_traces c.args.book.now.days in
+    let known = c.args.book.now.known.names in
+    let traces = all_traces c.args.book.now.book.days in
     let ts = c.in_ok-traces.traces.items in
     let paths = c.in_ok-paths.paths.items in
     let model = c.new-model.result in
@@ -93,7 +94,7 @@ returns g c =
     let named : All (IsNamedPath names) paths =
     subst (λ (k : ℕ). All (IsNamedPath k) paths) (ap (λ (m : ModelState). m.names) c.new-model.ensures)
     (paths_named model c.deref.result.now paths c.in_ok-paths.ensures) in
-    let are : traces_at ts ≡ traces = c.in_ok-traces.ensures.traces in
+    let are : traces_at ts ≡ traces = c.in_ok-traces.ensures.traces ∙ ap (λ (b : BookState). all_traces b.days) c.day_book.ensures.book in
     let tells : AreSurvivors traces model.words = subst (AreSurvivors traces) (sym (ap (λ (m : ModelState). m.words) c.new-model.ensures)) c.words.ensures.survivors in
     let zipped : AllZip (λ (t : Bor NamedTrace) (path : List NamedSegment). IsPathUnder model t.now path) ts paths =
     subst (λ (l : List (Bor NamedTrace)). AllZip (λ (t : Bor NamedTrace) (path : List NamedSegment). IsPathUnder model t.now path) l paths) c.deref.ensures.value c.in_ok-paths.ensures in
@@ -113,6 +114,8 @@ returns g c =
     let same : segments ≡ segments_of by_number traces = segments_shown c.deref-6.result.now ∙ ap (λ (l : List (Bor NamedTrace)). segments_of by_number (traces_at l)) c.deref-6.ensures.value ∙ ap (segments_of by_number) are in
     let many : length c.deref-3.result.now ≡ length traces = ap length told ∙ length-map traces (λ (t : NamedTrace). t.latency) in
     let rows = c.in_ok-rows.ensures in
+    let listed : ListsExactly (number_cmp known) (λ n. slice_get c.deref-7.result.now n ≡ Some true) (map (λ (r : TailRow). r.name) c.in_ok-rows.rows.items) =
+    subst (λ (k : Known). ListsExactly (number_cmp k.names) (λ n. slice_get c.deref-7.result.now n ≡ Some true) (map (λ (r : TailRow). r.name) c.in_ok-rows.rows.items)) c.catalogue.ensures.catalogue rows.names in
     record {
       paths = paths;
       critical_paths = subst (λ (l : List NamedTrace). AllZip (IsCriticalPath by_number traces) l paths) are (paths_are model traces tells ts paths zipped);
@@ -123,7 +126,7 @@ returns g c =
       names = subst (λ (l : List TailRow). AreNamesOf known traces (map (λ (r : TailRow). r.name) l)) (sym c.of.ensures)
           (subst (λ (l : List NamedSegment). ListsExactly (number_cmp known) (Contains (map number_of_name l)) (map (λ (r : TailRow). r.name) c.in_ok-rows.rows.items)) same
           (listed_as (number_cmp known) (λ n. slice_get c.deref-7.result.now n ≡ Some true) (Contains (map number_of_name segments)) (map (λ (r : TailRow). r.name) c.in_ok-rows.rows.items)
-          (subst (λ (m : List Bool). (n : ℕ) → (slice_get m n ≡ Some true) ↔ Contains (map number_of_name segments) n) (sym c.deref-7.ensures.value) c.in_ok-marked.ensures.exactly) rows.names));
+          (subst (λ (m : List Bool). (n : ℕ) → (slice_get m n ≡ Some true) ↔ Contains (map number_of_name segments) n) (sym c.deref-7.ensures.value) c.in_ok-marked.ensures.exactly) listed));
       rows = subst (All (λ (r : TailRow). IsTailRow by_number nat_eq (slow_of latencies paths) (rest_of latencies paths) r.name r)) (sym c.of.ensures)
           (λ k d lt. row_of names (slow_of latencies paths) (rest_of latencies paths) c.in_ok-tables.tables.slow c.in_ok-tables.tables.rest (get_or c.in_ok-rows.rows.items k d) slow_table rest_table
           (All-kept (IsNamedPath names) (λ b. b) (slow_marks latencies) paths named) (All-kept (IsNamedPath names) not (slow_marks latencies) paths named) (rows.each k d lt));

@@ -6,7 +6,7 @@ pub overflow_add-count : goal.overflow_add-count
 overflow_add-count c =
     let lt : c.loop-place.place < length c.args.book.now.book.days = omega arith in
     let within = count_within c.args.book.now.book.days c.loop-place.place c.loop-place.count (length c.traces.result.now) c.traces.result.now lt c.loop-place.invariant.so_far c.traces.ensures.traces refl in
-    omega (arith, within, c.days-place-end.ensures.few)
+    omega (arith, within, c.days-place-end.ensures.kept.book.counted)
 
 pub loop-place-preserved : goal.loop-place-preserved
 loop-place-preserved c =

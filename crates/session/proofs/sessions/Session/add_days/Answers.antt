@@ -1,15 +1,16 @@
-use Rattle.std.proofs.Common.{◌≡◌, ◌^◌, ◌+◌, ◌<◌, ◌≤◌, ℕ, length, sym, ap, ◌∙◌, subst}
+use Rattle.std.proofs.Common.{◌≡◌, ◌^◌, ◌+◌, ◌<◌, ◌≤◌, ℕ, length, sym, subst}
 use Rattle.std.proofs.lemmas.Result.{err_from_is_err_and}
 use Rattle.day_partitions.specs.Batches.{with_all}
-use Rattle.day_partitions.specs.Books.{BookState, all_traces}
+use Rattle.day_partitions.specs.Books.{all_traces}
 use Rattle.kept_books.specs.Shown.{AreShown}
+use Rattle.named_books.specs.KeptBooks.{KeptState}
 use Rattle.session.specs.Carrying.{kept_count}
 use Rattle.session.specs.SessionStates.{SessionState}
 use Rattle.session.specs.Sheets.{graced_by}
 use Rattle.session.specs.inner.AddFaults.{fault_of_sheets}
 use Rattle.session.specs.inner.AddSteps.{HasDaysCause}
 use Rattle.session.proofs.AddingLemmas.{days_cause, room_cause, session_of}
-use Rattle.session.proofs.CountLemmas.{count_after, same_names, sheets_for, shown_long}
+use Rattle.session.proofs.CountLemmas.{count_after, sheets_for, shown_long}
 use Rattle.session.proofs.sessions.Session.add_days.Goals as goal
 
 pub record_batch-requires-clause-days : goal.record_batch-requires-clause-days
@@ -22,7 +23,7 @@ returns-in_err-days-clause-cause g c =
     let p = err_from_is_err_and c.from_residual.result c.from_residual.ensures.1 in
     rw (p.1, p.2) (λ valid given.
     let shown = subst (λ (s : SessionState). AreShown s.known c.args.named.items (graced_by s.grace valid)) (sym c.self.view_is) given in
-    let cause = room_cause fault (session_of old.workers old.catalogue old.book old.watch old.grace) valid c.args.named.items shown (rw c.deref.ensures.value at c.in_err-days.ensures.cause) in
+    let cause = room_cause fault (session_of old.workers old.book.known old.book.book old.watch old.grace) valid c.args.named.items shown (rw c.deref.ensures.value at c.in_err-days.ensures.cause) in
     subst (λ (s : SessionState). HasDaysCause s valid fault) c.self.view_is cause)
 
 pub add_all-requires : goal.add_all-requires
@@ -31,15 +32,14 @@ add_all-requires g c =
     let valid = c.requires.shown.0 in
     let named = c.args.named.items in
     let shown = subst (λ (s : SessionState). AreShown s.known named (graced_by s.grace valid)) (sym c.self.view_is) c.requires.shown.1 in
-    let long : length valid ≡ length named = shown_long old.catalogue named old.grace valid shown in
-    sheets_for c.no_more_are_sheeted.ensures old.catalogue old.workers old.watch old.grace valid c.in_ok-recorded.recorded.sheets.items c.in_ok-recorded.recorded.watched.items (c.in_ok-recorded.ensures (graced_by old.grace valid) shown) old.book c.self.invariant.names
-    (subst (λ (n : ℕ). length (all_traces old.book.days) + n < 2 ^ 32) (sym long) (subst (λ (s : SessionState). kept_count s + length named < 2 ^ 32) (sym c.self.view_is) c.requires.many))
+    let long : length valid ≡ length named = shown_long old.book.known named old.grace valid shown in
+    sheets_for c.no_more_are_sheeted.ensures old.book.known old.workers old.watch old.grace valid c.in_ok-recorded.recorded.sheets.items c.in_ok-recorded.recorded.watched.items (c.in_ok-recorded.ensures (graced_by old.grace valid) shown) old.book.book c.list_days_within.ensures.kept.names
+    (subst (λ (n : ℕ). length (all_traces old.book.book.days) + n < 2 ^ 32) (sym long) (subst (λ (s : SessionState). kept_count s + length named < 2 ^ 32) (sym c.self.view_is) c.requires.many))
 
 pub invariant_of-self-2 : goal.invariant_of-self-2
 invariant_of-self-2 g c = record {
   some = c.self.invariant.some;
   few = c.self.invariant.few;
-  names = ap (λ (b : BookState). b.names) c.in_ok-add_all.ensures.added ∙ (same_names c.self.inside.book c.in_ok-recorded.recorded.sheets.items ∙ c.self.invariant.names);
   within = c.self.invariant.within;
 }
 
@@ -49,11 +49,11 @@ returns-clause-kept g c =
     let valid = c.requires.shown.0 in
     let named = c.args.named.items in
     let shown = subst (λ (s : SessionState). AreShown s.known named (graced_by s.grace valid)) (sym c.self.view_is) c.requires.shown.1 in
-    let long : length valid ≡ length named = shown_long old.catalogue named old.grace valid shown in
-    subst (λ (s : SessionState). length (all_traces c.add_all.new.self.days) ≤ kept_count s + length named) c.self.view_is
-    (subst (λ (b : BookState). length (all_traces b.days) ≤ length (all_traces old.book.days) + length named) (sym c.in_ok-add_all.ensures.added)
-    (subst (λ (n : ℕ). length (all_traces (with_all old.book c.in_ok-recorded.recorded.sheets.items).days) ≤ length (all_traces old.book.days) + n) long
-    (count_after c.no_more_are_sheeted.ensures old.catalogue old.workers old.watch old.grace valid c.in_ok-recorded.recorded.sheets.items c.in_ok-recorded.recorded.watched.items (c.in_ok-recorded.ensures (graced_by old.grace valid) shown) old.book)))
+    let long : length valid ≡ length named = shown_long old.book.known named old.grace valid shown in
+    subst (λ (s : SessionState). length (all_traces c.add_all.new.self.book.days) ≤ kept_count s + length named) c.self.view_is
+    (subst (λ (k : KeptState). length (all_traces k.book.days) ≤ length (all_traces old.book.book.days) + length named) (sym c.in_ok-add_all.ensures.added)
+    (subst (λ (n : ℕ). length (all_traces (with_all old.book.book c.in_ok-recorded.recorded.sheets.items).days) ≤ length (all_traces old.book.book.days) + n) long
+    (count_after c.no_more_are_sheeted.ensures old.book.known old.workers old.watch old.grace valid c.in_ok-recorded.recorded.sheets.items c.in_ok-recorded.recorded.watched.items (c.in_ok-recorded.ensures (graced_by old.grace valid) shown) old.book.book)))
 
 pub returns-in_err-add_all-clause-cause : goal.returns-in_err-add_all-clause-cause
 returns-in_err-add_all-clause-cause g c =
@@ -64,5 +64,5 @@ returns-in_err-add_all-clause-cause g c =
     let p = err_from_is_err_and c.from_residual-in_err-add_all.result c.from_residual-in_err-add_all.ensures.1 in
     rw (p.1, p.2) (λ valid given.
     let shown = subst (λ (s : SessionState). AreShown s.known c.args.named.items (graced_by s.grace valid)) (sym c.self.view_is) given in
-    let cause = days_cause fault (session_of old.workers old.catalogue old.book old.watch old.grace) valid sheets watched c.days-days.ensures.kept (c.in_ok-recorded.ensures (graced_by old.grace valid) shown) c.in_err-add_all.ensures.fault in
+    let cause = days_cause fault (session_of old.workers old.book.known old.book.book old.watch old.grace) valid sheets watched c.list_days_within.ensures.kept.book (c.in_ok-recorded.ensures (graced_by old.grace valid) shown) c.in_err-add_all.ensures.fault in
     subst (λ (s : SessionState). HasDaysCause s valid (fault_of_sheets fault)) c.self.view_is cause)

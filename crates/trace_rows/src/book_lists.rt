@@ -1,0 +1,33 @@
+ghost use Rattle.std.specs.Prelude.{◌≡◌, IfOk, length, map};
+ghost use Rattle.std.specs.Borrow.{Bor};
+ghost use Rattle.std.specs.List.{All};
+ghost use Rattle.named_books.specs.KeptBooks.{traces_in};
+ghost use Rattle.refute_tests.specs.Clearing.{HaveNamesBelow};
+ghost use Rattle.trace_rows.specs.inner.PreparedBooks.{AreExclusionsOf};
+ghost use Rattle.trace_types.specs.declared.named_trace.NamedTrace.{NamedTrace};
+
+use model_meet::{Exclusions, Model};
+use named_books::KeptBook;
+use std::alloc::{AllocError, Global};
+use trace_paths::kept_traces;
+use trace_types::NamedTrace;
+
+/// Lists the traces of a book, by day and within a day in order. The only error is that memory ran
+/// out.
+pub(crate) fn list_traces(alloc: Global, book: &KeptBook) -> Result<Vec<&NamedTrace>, AllocError>
+    ensures traces { IfOk result (λ traces. map (λ (t : Bor NamedTrace). t.now) traces.items
+        ≡ traces_in book.now) }
+    ensures below { IfOk result (λ traces. All (λ (t : Bor NamedTrace).
+        HaveNamesBelow (length book.now.known.names) t.now) traces.items) }
+{
+    kept_traces(alloc, book.day_book())
+}
+
+/// Lists the mutual exclusions that the traces of a book leave. The only error is that memory ran
+/// out.
+pub(crate) fn list_exclusions(alloc: Global, book: &KeptBook) -> Result<Exclusions<'_>, AllocError>
+    ensures { IfOk result (AreExclusionsOf book.now) }
+{
+    let model = Model::new(book.words(), book.names());
+    Exclusions::of(alloc, &model)
+}
