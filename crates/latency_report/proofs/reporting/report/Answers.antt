@@ -21,7 +21,7 @@ use Rattle.trace_paths.specs.Tables.{IsTableOf}
 use Rattle.latency_report.specs.declared.segment_row.SegmentRow.{SegmentRow}
 use Rattle.trace_paths.specs.Tables.{list_at}
 use Rattle.latency_report.specs.Numbers.{AreFigures}
-use Rattle.latency_report.specs.Reports.{IsReport, IsRowOf}
+use Rattle.latency_report.specs.Reports.{IsRowOf}
 use Rattle.latency_report.proofs.ReportLemmas.{durations_tell, joined, latencies_shown, paths_are, paths_named, row_of, segments_at, segments_below, segments_shown, short_paths, short_traces, traces_at}
 use Rattle.latency_report.proofs.RowLemmas.{listed_as}
 use Rattle.latency_report.proofs.reporting.report.Goals as goal
@@ -82,7 +82,7 @@ returns-clause-reported g c =
     subst (λ (l : List (Bor NamedTrace)). AllZip (λ (t : Bor NamedTrace) (path : List NamedSegment). IsPathUnder model t.now path) l paths) c.deref.ensures.value c.in_ok-paths.ensures in
     let segments = segments_at c.deref-2.result.now in
     let same : segments ≡ segments_of by_number traces = segments_shown c.deref-2.result.now ∙ ap (λ (l : List (Bor NamedTrace)). segments_of by_number (traces_at l)) c.deref-2.ensures.value ∙ ap (segments_of by_number) are in
-    let count : c.names-names.result ≡ c.day_book.result.now.names = c.names-names.ensures.count ∙ (sym c.names-names.ensures.names.names ∙ ap (λ (b : BookState). b.names) (sym c.day_book.ensures.book)) in
+    let count : c.names-names.result ≡ c.day_book.result.now.names = c.names-names.ensures.count ∙ (sym c.names-names.ensures.kept.names ∙ ap (λ (b : BookState). b.names) (sym c.day_book.ensures.book)) in
     let below : All (λ (t : Bor NamedTrace). HaveNamesBelow c.names-names.result t.now) c.deref-2.result.now =
     subst (All (λ (t : Bor NamedTrace). HaveNamesBelow c.names-names.result t.now)) (sym c.deref-2.ensures.value)
     (subst (λ (k : ℕ). All (λ (t : Bor NamedTrace). HaveNamesBelow k t.now) ts) (sym count) c.in_ok-traces.ensures.below) in
