@@ -61,8 +61,8 @@ fn print_all<S: Sink>(
     requires few_names { length names.now ≤ 512 }
     requires few_tasks { length tasks.now ≤ 512 }
     ensures { PrintsText S.written S.faults result sink.old sink.new buffer.old buffer.new
-        (certificate_text source.now.book.now.known source.now.book.now.book.days source.now.refuters.now
-        names.now tasks.now) }
+        (certificate_text source.now.book.now.known source.now.book.now.book.days
+        source.now.refuters.now names.now tasks.now) }
 {
     calls_follow::<S>();
     let before = count_refuted(source, Kind::Before, names);

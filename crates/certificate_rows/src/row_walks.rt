@@ -25,8 +25,8 @@ fn print_pair<S: Sink>(
     requires one { one < count_of source.now.book.now.known kind }
     requires other { other < count_of source.now.book.now.known kind }
     ensures { PrintsText S.written S.faults result sink.old sink.new buffer.old buffer.new
-        (row_of_pair source.now.book.now.known source.now.book.now.book.days source.now.refuters.now kind
-        (one, other)) }
+        (row_of_pair source.now.book.now.known source.now.book.now.book.days
+        source.now.refuters.now kind (one, other)) }
 {
     texts_follow();
     let Some(finding) = source.refuter(kind, one, other) else {
@@ -76,8 +76,8 @@ pub(crate) fn print_kind<S: Sink>(
     requires source { IsSource source.now }
     requires numbers { All (λ n. n < count_of source.now.book.now.known kind) numbers.now }
     ensures { PrintsText S.written S.faults result sink.old sink.new buffer.old buffer.new
-        (kind_rows source.now.book.now.known source.now.book.now.book.days source.now.refuters.now kind
-        numbers.now) }
+        (kind_rows source.now.book.now.known source.now.book.now.book.days
+        source.now.refuters.now kind numbers.now) }
 {
     texts_follow();
     calls_follow::<S>();

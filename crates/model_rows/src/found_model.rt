@@ -32,9 +32,9 @@ pub(crate) struct FoundModel<'a> {
     pub pipe: Vec<TaskPair<'a>>,
 }
 
-/// Finds the model of a book's traces. It asks the book's words for each ordered pair of names and of
-/// tasks once; its memory is that of the pairs, two references each, and of the marks and the listed
-/// names and tasks. The only error is out of memory.
+/// Finds the model of a book's traces. It asks the book's words for each ordered pair of names and
+/// of tasks once; its memory is that of the pairs, two references each, and of the marks and the
+/// listed names and tasks. The only error is out of memory.
 pub(crate) fn find_model<'a>(
     alloc: Global,
     book: &'a KeptBook,

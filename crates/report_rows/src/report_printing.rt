@@ -40,8 +40,8 @@ pub(crate) fn print_first_rows<S: Sink>(
 }
 
 /// Prints the report on the traces of a book: a header with the number of traces and how long their
-/// critical paths are together, a row of the figures of their latencies, and a row for each name, in
-/// name order. Times are in nanoseconds.
+/// critical paths are together, a row of the figures of their latencies, and a row for each name,
+/// in name order. Times are in nanoseconds.
 ///
 /// All figures are found before the header is printed. After an error a prefix of the text was
 /// printed, and nothing is said of the buffer.
