@@ -10,8 +10,6 @@ mod fields;
 mod headers;
 mod matter;
 mod reading;
-#[cfg(test)]
-mod tests;
 mod texts;
 mod trace_place;
 

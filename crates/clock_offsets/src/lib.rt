@@ -24,8 +24,6 @@ mod number_places;
 mod parents;
 mod places;
 mod search;
-#[cfg(test)]
-mod tests;
 mod trace_offsets;
 
 pub use clock_fault::ClockFault;

@@ -25,8 +25,6 @@ mod placing;
 mod raw_events;
 mod renumbering;
 mod spreading;
-#[cfg(test)]
-mod tests;
 mod text_keys;
 mod text_table;
 mod texts;

@@ -13,8 +13,6 @@ mod ordering;
 mod repeats;
 mod segments;
 mod span;
-#[cfg(test)]
-mod tests;
 mod trace_cut;
 mod trace_fault;
 

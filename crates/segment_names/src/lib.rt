@@ -12,8 +12,6 @@ mod namer;
 mod naming;
 mod slot;
 mod tables;
-#[cfg(test)]
-mod tests;
 mod unnamed;
 
 pub use catalogue::Catalogue;

@@ -20,8 +20,6 @@ mod step_file;
 mod step_line_error;
 mod step_lines;
 mod tables;
-#[cfg(test)]
-mod tests;
 
 pub use machine::Machine;
 pub use numbered_lines::{NumberedLine, next_line};

@@ -5,9 +5,6 @@ ghost use Rattle.step_core.specs.StepFiles.{file_said, steps_of_lines, IsStepLin
 ghost use Rattle.step_core.specs.StepLines.{is_start};
 ghost use Rattle.step_core.specs.LinesLeft.{lines_left, room_left};
 
-#[cfg(test)]
-mod tests;
-
 use crate::numbered_lines::next_line;
 use crate::step_lines::{read_start, read_step};
 use crate::{StepEventList, StepFile, StepLineError};

@@ -1,4 +1,5 @@
-use crate::{CertFault, Claim, ClaimList, Matter, read_certificate};
+//! Certificates that are read: their claims, or the first line outside the form.
+use certificates::{CertFault, Claim, ClaimList, Matter, read_certificate};
 use std::alloc::{AllocError, Global};
 use std::test::Fail;
 use trace_types::{NameText, Text};

@@ -1,5 +1,7 @@
-use super::{Row, answer, is};
-use crate::TraceFault;
+//! Few texts and many texts in a trace, which are told apart in different ways.
+use crate::batches::Row;
+use crate::cuts::{answer, is};
+use segment_cut::TraceFault;
 use std::alloc::{AllocError, Global};
 use std::process::Abort;
 use std::test::Fail;

@@ -1,58 +1,12 @@
+//! Gathered traces beside a plain search, and events that tables lend.
 ghost use Rattle.std.specs.Prelude.{◌<◌, length};
 
-use super::{is_number_of, text_of};
-use crate::{
-    EventFields, EventTable, GatheredEvents, LentEvent, RawEvents, TextHints, are_few, gather,
-};
+use crate::plain_events::{PlainEvent, is_message, is_number_of, table_of, text_of};
+use event_table::{EventTable, GatheredEvents, LentEvent, RawEvents, TextHints, are_few, gather};
 use std::alloc::{AllocError, Global};
 use std::process::Abort;
 use std::test::Fail;
 use trace_types::{Event, LATEST_TIME, Text};
-
-/// An event of the plain lists: its texts are indices of `TEXTS`, and its name is `name`.
-#[derive(Clone, Copy)]
-struct PlainEvent {
-    line: u32,
-    time: u64,
-    request: usize,
-    machine: usize,
-    task: usize,
-    send: Option<usize>,
-    recv: Option<usize>,
-}
-
-/// Makes the table of these events.
-fn table_of(
-    rt: &impl Abort,
-    alloc: Global,
-    hints: &mut TextHints,
-    events: &[PlainEvent],
-) -> Result<EventTable, AllocError> {
-    let mut table = EventTable::new(alloc);
-    for event in events {
-        assert!(rt; table.len() < 20_000);
-        let fields = EventFields {
-            request: text_of(event.request),
-            machine: text_of(event.machine),
-            task: text_of(event.task),
-            event: "name",
-            time: event.time,
-            send: event.send.map(text_of),
-            recv: event.recv.map(text_of),
-        };
-        table.push(alloc, hints, event.line, &fields)?;
-    }
-    Ok(table)
-}
-
-/// Tells whether this is the message.
-fn is_message(message: Option<&[u8]>, text: Option<usize>) -> bool {
-    match (message, text) {
-        (Some(message), Some(text)) => message == text_of(text).as_bytes(),
-        (None, None) => true,
-        _ => false,
-    }
-}
 
 /// Tells whether the event that is lent is this one.
 fn is_lent(lent: &LentEvent<'_>, event: &PlainEvent) -> bool {
@@ -137,7 +91,7 @@ fn events_of(
 }
 
 /// Tells whether the gathered traces are those of the events, found by a plain search.
-fn are_traces_of(
+pub(crate) fn are_traces_of(
     alloc: Global,
     gathered: &GatheredEvents,
     events: &[PlainEvent],

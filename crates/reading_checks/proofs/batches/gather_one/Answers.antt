@@ -1,10 +1,10 @@
 use Rattle.std.proofs.Common.{◌≡◌, ◌<◌, ◌≤◌, List, [], ◌∷◌, ◌++◌, length, ap, ◌∙◌, append-nil, rules, arith}
 use Rattle.trace_types.specs.declared.event.Event.{Event}
 use Rattle.event_table.specs.Gathered.{events_of_tables}
-use Rattle.segment_names.proofs.tests.gather_one.Goals as goal
+use Rattle.reading_checks.proofs.batches.gather_one.Goals as goal
 
 -- one table has its events
-few_alone : (tables : List (List Event)) (table : List Event) → tables ≡ table ∷ [] → length table ≤ 1000 → length (events_of_tables tables) < 4294967296
+few_alone : (tables : List (List Event)) (table : List Event) → tables ≡ table ∷ [] → length table ≤ 5000 → length (events_of_tables tables) < 4294967296
 few_alone tables table is few =
     let long : length (events_of_tables tables) ≡ length table = ap (λ (l : List (List Event)). length (events_of_tables l)) is ∙ ap (λ (l : List Event). length l) (append-nil table) in
     omega arith

@@ -1,8 +1,9 @@
+//! The plain machine: what its steps answer, and whole rows beside the table of words.
 ghost use Rattle.std.specs.Prelude.{◌≡◌, ◌+◌, ◌<◌, ◌≤◌, [], ◌∷◌, length, IfOk};
 
-use crate::{Machine, StepFault};
 use std::alloc::{AllocError, Global};
 use std::test::Fail;
+use step_core::{Machine, StepFault};
 use word_rows::{Entry, Reply, Row, StepEvent};
 use word_rule::{CloseFault, MeetTable};
 

@@ -1,106 +1,24 @@
-ghost use Rattle.std.specs.Prelude.{◌≤◌, length};
-
-use crate::{ClockFault, offsets};
-use event_table::{EventFields, EventTable, GatheredEvents, TextHints, gather};
-use std::alloc::{AllocError, Global};
+//! Clock offsets of the machines of worked traces, and messages that are refused.
+use crate::batches::{Row, gather_rows};
+use clock_offsets::{ClockFault, offsets};
+use event_table::GatheredEvents;
 use std::process::Abort;
 use std::test::Fail;
 use std::thread::Threads;
 
-/// A line of a trace: its machine, its time, and the messages that it sends and receives.
-#[derive(Clone, Copy)]
-struct Row {
-    machine: &'static str,
-    time: u32,
-    send: Option<&'static str>,
-    recv: Option<&'static str>,
-}
-
 /// Makes a line that sends a message.
-fn sends(machine: &'static str, time: u32, message: &'static str) -> Row {
-    Row {
-        machine,
-        time,
-        send: Some(message),
-        recv: None,
-    }
+fn sends(machine: &'static str, time: u32, message: &'static str) -> Row<'static> {
+    (machine, "t", "e", u64::from(time), Some(message), None)
 }
 
 /// Makes a line that receives a message.
-fn receives(machine: &'static str, time: u32, message: &'static str) -> Row {
-    Row {
-        machine,
-        time,
-        send: None,
-        recv: Some(message),
-    }
+fn receives(machine: &'static str, time: u32, message: &'static str) -> Row<'static> {
+    (machine, "t", "e", u64::from(time), None, Some(message))
 }
 
 /// Makes a line that does neither.
-fn alone(machine: &'static str, time: u32) -> Row {
-    Row {
-        machine,
-        time,
-        send: None,
-        recv: None,
-    }
-}
-
-/// Appends these lines, numbered from 1.
-fn push_rows(
-    alloc: Global,
-    hints: &mut TextHints,
-    table: &mut EventTable,
-    rows: &[Row],
-) -> Result<(), AllocError> {
-    for row in rows {
-        let fields = EventFields {
-            request: "r1",
-            machine: row.machine,
-            task: "t",
-            event: "e",
-            time: u64::from(row.time),
-            send: row.send,
-            recv: row.recv,
-        };
-        if table.len() >= 5000 {
-            return Err(AllocError);
-        }
-        let line = table.len() as u32 + 1;
-        table.push(alloc, hints, line, &fields)?;
-    }
-    Ok(())
-}
-
-/// Makes the table of these lines.
-fn make_table(alloc: Global, rows: &[Row]) -> Result<EventTable, AllocError> {
-    let mut hints = TextHints::new(alloc)?;
-    let mut table = EventTable::new(alloc);
-    push_rows(alloc, &mut hints, &mut table, rows)?;
-    Ok(table)
-}
-
-/// Gathers the events of one table.
-fn gather_one<R: Threads + Sync>(
-    rt: &R,
-    alloc: Global,
-    table: EventTable,
-) -> Result<GatheredEvents, AllocError>
-    requires { length table ≤ 5000 }
-{
-    let mut parts = Vec::new(alloc);
-    parts.push(table)?;
-    gather(rt, alloc, parts, 1)
-}
-
-/// Gathers these lines.
-fn gather_rows<R: Abort + AllocGlobal + Threads + Sync>(
-    rt: &R,
-    rows: &[Row],
-) -> Result<GatheredEvents, Fail> {
-    let table = make_table(rt.alloc(), rows)?;
-    assert!(rt; table.len() <= 5000);
-    Ok(gather_one(rt, rt.alloc(), table)?)
+fn alone(machine: &'static str, time: u32) -> Row<'static> {
+    (machine, "t", "e", u64::from(time), None, None)
 }
 
 /// Finds the offsets of the only trace of a batch, or its fault.

@@ -1,6 +1,7 @@
-use crate::{Start, StepEvent, StepFile, StepLineError, plain_number, read_steps};
+//! Files of steps that are read: their steps, or the first line outside the form.
 use std::alloc::Global;
 use std::test::Fail;
+use step_core::{Start, StepEvent, StepFile, StepLineError, plain_number, read_steps};
 
 /// Finds the first bad line of a short file.
 fn bad_line_of(alloc: Global, bytes: &[u8]) -> Option<u32> {
