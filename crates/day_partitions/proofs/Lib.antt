@@ -18,7 +18,6 @@ pub mod RootLemmas
 pub mod ShownLemmas
 pub mod SlotLemmas
 pub mod SurvivorLemmas
-pub mod TestLemmas
 pub mod TreeLemmas
 pub mod WidenLemmas
 pub mod WiderLemmas

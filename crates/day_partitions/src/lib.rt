@@ -17,8 +17,6 @@ pub mod laws;
 mod making;
 mod placing;
 mod room;
-#[cfg(test)]
-mod tests;
 mod tree;
 
 pub use add_all_fault::AddAllFault;

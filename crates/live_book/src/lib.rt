@@ -12,7 +12,8 @@
 //! book, in which each turn found what the turn before it left (specs/Histories.antt), and what the
 //! caller is told is the replay of its front.
 //!
-//! Example (src/recorder_tests.rt): a program records the traces of a day, while it rolls others:
+//! Example (`recorders.rt` of `day_checks`): a program records the traces of a day, while it rolls
+//! others:
 //!
 //! 1. `trace_pass::Recorder::open` with the book's number of names; `Recorder::offer` for each
 //!    trace of the day, by one recording or, after `split`, by one on each thread;
@@ -35,18 +36,10 @@ mod journals;
 pub mod laws;
 mod live_book;
 mod plays;
-#[cfg(test)]
-mod recorder_tests;
 mod rolling;
 mod rule;
-#[cfg(test)]
-mod service_tests;
 mod sharing;
 mod single_steps;
-#[cfg(test)]
-mod tests;
-#[cfg(test)]
-mod thread_tests;
 mod turns;
 
 pub use callers::Caller;

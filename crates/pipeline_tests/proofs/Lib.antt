@@ -4,4 +4,3 @@ pub mod GroupLemmas
 pub mod MeetingLemmas
 pub mod SharingLemmas
 pub mod TaskLemmas
-pub mod TestLemmas

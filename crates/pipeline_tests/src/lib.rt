@@ -9,8 +9,6 @@ mod pairs;
 mod sheets;
 mod stays;
 mod tasks;
-#[cfg(test)]
-mod tests;
 mod whole_rows;
 
 pub use day_sheet::DaySheet;

@@ -1,14 +1,26 @@
 //! Tests of what records traces, by public calls alone: words and rows of bits, the places of
-//! relations, what a model answers from words, and a book of days with its journal.
+//! relations, what a model answers from words, tables of words, and workers that record a day.
 #![tactic(auto)]
 
 #[cfg(test)]
 mod blocks;
 #[cfg(test)]
-mod journals;
+mod gates;
 #[cfg(test)]
 mod places;
 #[cfg(test)]
 mod questions;
 #[cfg(test)]
+mod recordings;
+#[cfg(test)]
 mod rows;
+#[cfg(test)]
+mod shared_traces;
+#[cfg(test)]
+mod task_rows;
+#[cfg(test)]
+mod traces;
+#[cfg(test)]
+mod word_tables;
+#[cfg(test)]
+mod workers;

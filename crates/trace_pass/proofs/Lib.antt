@@ -7,7 +7,6 @@ pub mod BlockLemmas
 pub mod PartLemmas
 pub mod FlatLemmas
 pub mod LawLemmas
-pub mod TestLemmas
 pub mod Worked
 pub mod ClosingLemmas
 pub mod LittleWorkLemmas

@@ -22,8 +22,6 @@ mod reading;
 mod recorders;
 mod recordings;
 mod sharing;
-#[cfg(test)]
-mod tests;
 mod watch_lines;
 mod workers;
 

@@ -30,8 +30,6 @@ mod rule;
 mod sharing;
 mod single_steps;
 mod tables;
-#[cfg(test)]
-mod tests;
 pub mod uses;
 
 pub use closing::{CloseFault, Closed};

@@ -1,0 +1,5 @@
+use Rattle.live_book.specs.Callers.{IsOfBook}
+use Rattle.day_checks.proofs.live_books.roll_days.Given as goal
+
+abbrev pub invariant-days : goal.invariant-days
+invariant-days g l = IsOfBook l.book l.caller

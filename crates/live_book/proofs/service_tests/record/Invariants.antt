@@ -1,5 +1,0 @@
-use Rattle.live_book.specs.Callers.{IsOfBook}
-use Rattle.live_book.proofs.service_tests.record.Given as goal
-
-abbrev pub invariant-days : goal.invariant-days
-invariant-days g l = IsOfBook l.book l.caller

@@ -1,6 +1,0 @@
-use Rattle.std.proofs.Common.{ap, sym, rules}
-use Rattle.hypothesis_index.specs.Places.{width_of}
-use Rattle.live_book.proofs.tests.ask.Goals as goal
-
-pub ask-requires-clause-width : goal.ask-requires-clause-width
-ask-requires-clause-width g c = search (rules, ap width_of (sym c.requires.names))

@@ -1,5 +1,0 @@
-use Rattle.live_book.specs.Callers.{IsOfBook}
-use Rattle.live_book.proofs.thread_tests.work.Given as goal
-
-abbrev pub invariant-calls : goal.invariant-calls
-invariant-calls g l = IsOfBook l.book l.caller

@@ -1,5 +1,0 @@
-use Rattle.std.proofs.Common.{◌≡◌}
-use Rattle.recording_checks.proofs.journals.keep_often.Given as goal
-
-abbrev pub invariant-keeps : goal.invariant-keeps
-invariant-keeps l = l.book.names ≡ 2

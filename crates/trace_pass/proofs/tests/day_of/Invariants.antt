@@ -1,7 +1,0 @@
-use Rattle.std.proofs.Common.{◌≡◌, length}
-use Rattle.std.specs.List.{All}
-use Rattle.refute_tests.specs.Clearing.{HaveNamesBelow}
-use Rattle.trace_pass.proofs.tests.day_of.Given as goal
-
-abbrev pub invariant-loop-k : goal.invariant-loop-k
-invariant-loop-k l = record { named : All (HaveNamesBelow 2) l.traces.items; count : length l.traces.items ≡ l.k }
