@@ -9,8 +9,6 @@ mod naming;
 mod new_days;
 mod parts;
 mod recording;
-#[cfg(test)]
-mod tests;
 
 pub use days::{DayTraces, list_days, split_by_day};
 pub use judging::{JudgedTraces, judge_batch};

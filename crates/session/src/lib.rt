@@ -21,6 +21,3 @@ pub use command_fault::CommandFault;
 pub use job_list::jobs;
 pub use session_rules::Job;
 pub use sessions::Session;
-
-#[cfg(test)]
-mod tests;

@@ -1,5 +1,6 @@
-//! Tests of what a session prints and finds, by public calls alone: counterexamples, whether claims
-//! are shown, and the texts of certificates.
+//! Tests of what a session adds, finds and prints, by public calls alone: batches named by many
+//! workers, counterexamples, whether claims are shown, the texts of certificates, and sessions that
+//! carry out jobs.
 #![tactic(auto)]
 
 #[cfg(test)]
@@ -7,4 +8,16 @@ mod certificate_texts;
 #[cfg(test)]
 mod claims;
 #[cfg(test)]
+mod named_batches;
+#[cfg(test)]
 mod refuters;
+#[cfg(test)]
+mod session_faults;
+#[cfg(test)]
+mod session_steps;
+#[cfg(test)]
+mod sessions;
+#[cfg(test)]
+mod verified_sessions;
+#[cfg(test)]
+mod worked_batches;

@@ -1,6 +1,6 @@
 use Rattle.std.proofs.Common.{arith}
-use Rattle.session.proofs.KnownLemmas.{requests_few}
-use Rattle.session.proofs.tests.add_through.Goals as goal
+use Rattle.session_checks.proofs.RequestLemmas.{requests_few}
+use Rattle.session_checks.proofs.session_steps.add_through.Goals as goal
 
 pub command-requires-clause-few : goal.command-requires-clause-few
 command-requires-clause-few g c κs within = omega (arith, requests_few c.in-Some.parts, c.in-Some.ensures.few)

@@ -1,10 +1,11 @@
+//! Batches whose valid traces are named by many workers, and the limits of names and tasks.
 ghost use Rattle.std.specs.Prelude.{◌≡◌, ◌^◌, ◌<◌, ◌≤◌, All, length, map};
 ghost use Rattle.trace_types.specs.Batch.{PlainTrace};
 ghost use Rattle.trace_types.specs.Times.{AreTimely};
 ghost use Rattle.segment_cut.specs.NumberedCuts.{NumberedCut};
 ghost use Rattle.batch_sheets.specs.Named.{HasFewSegments, cut_trace};
 
-use crate::{judge_batch, name_batch};
+use batch_sheets::{judge_batch, name_batch};
 use event_table::{EventFields, EventTable, GatheredEvents, TextHints, Texts, gather};
 use segment_cut::CutTrace;
 use segment_names::{Catalogue, NameFault};

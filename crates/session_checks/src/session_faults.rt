@@ -1,0 +1,61 @@
+//! Sessions that are refused: too many days, and a write that fails.
+use crate::session_steps::{add_through, control};
+use crate::worked_batches::on_days;
+use event_lines::Command;
+use mystery_io::{Gate, MemSink, Sink};
+use session::{CommandFault, Session};
+use std::alloc::{AllocError, Global};
+use std::sync::atomic::{AtomicU64, Ordering};
+use std::test::Fail;
+use std::thread::Threads;
+
+/// Counts its turns, one before each trace that is recorded.
+#[derive(Drop)]
+struct CountingGate {
+    turns: AtomicU64,
+}
+
+impl Gate for CountingGate {
+    fn turn(&self, _worker: u32, _trace: u32) {
+        self.turns.fetch_add(1, Ordering::SeqCst);
+    }
+}
+
+/// Adds so many days to a new session. Gives the fault and how many traces were recorded.
+fn add_days<R: AllocGlobal + Threads + Sync, S: Sink>(
+    rt: &R,
+    alloc: Global,
+    days: u32,
+    out: &mut S,
+) -> Result<(Option<CommandFault>, u64), AllocError> {
+    let gate = CountingGate {
+        turns: AtomicU64::new(0),
+    };
+    let events = on_days(alloc, days)?;
+    let session = Session::new(alloc, 2)?;
+    let fault = add_through(rt, session, events, out, &gate).err();
+    Ok((fault, gate.turns.load(Ordering::SeqCst)))
+}
+
+// No trace is recorded where there would be too many days.
+#[test]
+fn an_add_of_65_days_records_and_writes_nothing(rt: HostRuntime) -> Result<(), Fail> {
+    let alloc = rt.alloc();
+    let mut out = MemSink::new(alloc, 100, Vec::new(alloc), 1000)?;
+    let many = Some(CommandFault::TooManyDays { days: 65 });
+    assert_eq!(rt; add_days(&rt, alloc, 65, &mut out)?, (many, 0));
+    assert_eq!(rt; out.bytes(), b"".as_slice());
+    assert_eq!(rt; add_days(&rt, alloc, 64, &mut out)?, (None, 64));
+    Ok(())
+}
+
+#[test]
+fn a_write_that_fails_leaves_a_prefix(rt: HostRuntime) -> Result<(), Fail> {
+    let alloc = rt.alloc();
+    let mut out = MemSink::new(alloc, 5, [2].to_vec(alloc)?, 1000)?;
+    let session = Session::new(alloc, 1)?;
+    let fault = control(&rt, session, Command::Drop { day: 3 }, &mut out).err();
+    assert_eq!(rt; fault, Some(CommandFault::Write));
+    assert_eq!(rt; out.bytes(), b"drop\t".as_slice());
+    Ok(())
+}

@@ -1,0 +1,111 @@
+//! Sessions that add, drop and keep days, and what they print.
+use crate::session_steps::{add, carry_out, control};
+use crate::worked_batches::{batch, name};
+use event_lines::Command;
+use mystery_io::{MemSink, Sink};
+use session::{CommandFault, Job, Session};
+use session_rules::NamedChange;
+use std::test::Fail;
+use std::thread::Threads;
+use trace_types::Event;
+
+/// Watches each trace, adds events and prints the model.
+fn watch_and_add<R: AllocGlobal + Threads + Sync, S: Sink>(
+    rt: &R,
+    session: Session,
+    events: Vec<Event>,
+    out: &mut S,
+) -> Result<Session, CommandFault> {
+    let session = control(rt, session, Command::Watch { every: 1 }, out)?;
+    let session = add(rt, session, events, out)?;
+    control(rt, session, Command::Model, out)
+}
+
+/// Prints paths, slacks and graphs.
+fn print_views<R: Threads + Sync, S: Sink>(
+    rt: &R,
+    session: Session,
+    out: &mut S,
+) -> Result<Session, CommandFault> {
+    let session = control(rt, session, Command::Paths, out)?;
+    let session = control(rt, session, Command::Slack, out)?;
+    control(rt, session, Command::Graph, out)
+}
+
+/// Keeps no day and prints the model.
+fn keep_nothing<R: Threads + Sync, S: Sink>(
+    rt: &R,
+    session: Session,
+    out: &mut S,
+) -> Result<Session, CommandFault> {
+    let session = control(rt, session, Command::Keep { days: 0 }, out)?;
+    control(rt, session, Command::Model, out)
+}
+
+#[test]
+fn a_session_adds_drops_keeps_and_prints(rt: HostRuntime) -> Result<(), Fail> {
+    let alloc = rt.alloc();
+    let events = batch(alloc)?;
+    let mut out = MemSink::new(alloc, 100, Vec::new(alloc), 1000)?;
+    let session = Session::new(alloc, 1)?;
+    let session = watch_and_add(&rt, session, events, &mut out).expect(&rt, "session");
+    let session = control(&rt, session, Command::Drop { day: 1 }, &mut out).expect(&rt, "session");
+    let session = print_views(&rt, session, &mut out).expect(&rt, "session");
+    let _session = keep_nothing(&rt, session, &mut out).expect(&rt, "session");
+    assert_eq!(rt;
+        out.bytes(),
+        b"refused\tr3\trepeated event\t6\n\
+          watch\t1\t0\t1\t0\n\
+          watch\t2\t0\t1\t0\n\
+          model\ttraces=2\tdays=2\tsegments=1\ttasks=1\thb=0\tmx=0\tpipe=0\n\
+          drop\t1\t1\n\
+          paths\ttraces=1\n\
+          path\tr2\t2\t10000\t10000\t1\n\
+          step\ta\ts\te\t10000\n\
+          slack\ttraces=1\n\
+          trace\tr2\t2\t10000\t10000\n\
+          segment\ta\ts\te\t10000\t0\n\
+          graph\ttraces=1\n\
+          trace\tr2\t2\t10000\t1\t0\n\
+          vertex\t0\ta\ts\te\t10000\n\
+          keep\t0\t1\n\
+          model\ttraces=0\tdays=0\tsegments=0\ttasks=0\thb=0\tmx=0\tpipe=0\n"
+            .as_slice()
+    );
+    Ok(())
+}
+
+#[test]
+fn a_session_reports_and_forecasts(rt: HostRuntime) -> Result<(), Fail> {
+    let alloc = rt.alloc();
+    let events = batch(alloc)?;
+    let change = NamedChange {
+        name: name(alloc, "a")?,
+        num: 1,
+        den: 4,
+    };
+    let mut out = MemSink::new(alloc, 100, Vec::new(alloc), 1000)?;
+    let session = Session::new(alloc, 1)?;
+    let session = add(&rt, session, events, &mut out).expect(&rt, "session");
+    let session = control(&rt, session, Command::Report, &mut out).expect(&rt, "session");
+    let session = carry_out(&rt, session, Job::Summary, &mut out).expect(&rt, "session");
+    let session = carry_out(&rt, session, Job::Tail, &mut out).expect(&rt, "session");
+    let _session = carry_out(&rt, session, Job::WhatIf { change }, &mut out).expect(&rt, "session");
+    assert_eq!(rt;
+        out.bytes(),
+        b"refused\tr3\trepeated event\t6\n\
+          report\ttraces=2\tcritical=20000\n\
+          latency\t2\t20000\t10000\t10000\n\
+          segment\ta\ts\te\t2\t20000\t10000\t10000\t2\t20000\n\
+          model\ttraces=2\tdays=2\tsegments=1\ttasks=1\thb=0\tmx=0\tpipe=0\n\
+          report\ttraces=2\tcritical=20000\n\
+          latency\t2\t20000\t10000\t10000\n\
+          tail\ttraces=2\tslow=1\tfloor=10000\n\
+          segment\ta\ts\te\t1\t10000\t1\t10000\n\
+          whatif\ttraces=2\tbefore=20000\tafter=5000\n\
+          forecast\tr1\t1\t10000\t2500\n\
+          forecast\tr2\t2\t10000\t2500\n"
+            .as_slice()
+    );
+    Ok(())
+}
