@@ -1,7 +1,7 @@
 use Rattle.std.proofs.Common.{◌≡◌, ◌<◌, ◌≤◌, List, [], ◌∷◌, ◌++◌, length, ap, ◌∙◌, append-nil, rules, arith}
 use Rattle.trace_types.specs.declared.event.Event.{Event}
 use Rattle.event_table.specs.Gathered.{events_of_tables}
-use Rattle.reading_checks.proofs.batches.gather_one.Goals as goal
+use Rattle.segment_checks.proofs.batches.gather_one.Goals as goal
 
 -- one table has its events
 few_alone : (tables : List (List Event)) (table : List Event) → tables ≡ table ∷ [] → length table ≤ 5000 → length (events_of_tables tables) < 4294967296
