@@ -70,13 +70,13 @@ pub fn arguments_outside_the_grammar_name_no_file()
     ensures { (words : List (List ℕ)) → is_in_grammar words ≡ false → files_of words ≡ [] }
 {}
 
-/// States that a run that ends with 3 tells the first bad line, and why it is bad.
+/// States that the outcome of a run that ends with 3 has the first bad line, and why it is bad.
 pub fn with_3_the_first_bad_line_is_told()
     ensures { (o : Outcome) (seen : Seen) → Explains o seen → status_of o ≡ 3
         → (line : ℕ) × (why : Reason) × (o ≡ BadLine line why) × EndsAs (BadLine line why) seen }
 {}
 
-/// States that a run that ends with 4 names the file that failed.
+/// States that the outcome of a run that ends with 4 has the index of the file that failed.
 pub fn with_4_the_failed_file_is_named()
     ensures { (o : Outcome) (seen : Seen) → Explains o seen → status_of o ≡ 4
         → (index : ℕ) × (o ≡ File index)

@@ -5,7 +5,8 @@ use std::marker::Model;
 use trace_types::NamedTrace;
 
 /// The kept traces by day, with the catalogue of their names: the book of days has room for exactly
-/// the names of the catalogue, at most 512. Each read tells what every such book keeps.
+/// the names of the catalogue, at most 512. The reads of its parts and counts tell what every such
+/// book keeps.
 #[derive(Drop)]
 pub struct KeptBook {
     catalogue: Catalogue,
@@ -53,6 +54,7 @@ impl KeptBook {
         ensures sure { width_of (length catalogue.names) ≡ width_of book.names → IsOk result }
     {
         book.widen(catalogue.names())?;
+        // Its contract tells what every book of days keeps.
         let _days = book.days();
         Ok(KeptBook { catalogue, book })
     }
@@ -139,6 +141,7 @@ impl KeptBook {
         ensures sure { AreAllNew self.old.book sheets.items → IsOk result }
     {
         let added = self.book.add_all(sheets);
+        // Its contract tells what every book of days keeps.
         let _days = self.book.days();
         added
     }
@@ -152,6 +155,7 @@ impl KeptBook {
         ensures kept { IsKeptBook self.old }
     {
         let count = self.book.drop_day(day);
+        // Its contract tells what every book of days keeps.
         let _days = self.book.days();
         count
     }
@@ -164,6 +168,7 @@ impl KeptBook {
         ensures book { IsKeptBook self.old }
     {
         let count = self.book.keep_newest(days);
+        // Its contract tells what every book of days keeps.
         let _days = self.book.days();
         count
     }
