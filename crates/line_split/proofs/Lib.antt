@@ -1,0 +1,14 @@
+mod CarryLemmas
+mod ChunkLemmas
+mod FileLemmas
+mod KnownLemmas
+mod LineLemmas
+mod MakeLemmas
+mod MessageLemmas
+mod PartLemmas
+mod PendingLemmas
+mod PutLemmas
+mod ReadLemmas
+mod RunLemmas
+mod SaidLemmas
+mod StepLemmas

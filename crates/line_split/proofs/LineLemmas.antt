@@ -1,0 +1,72 @@
+-- The lines of bytes, one after another.
+use Rattle.std.proofs.Common.{◌≡◌, ◌<◌, ◌+◌, ℕ, zero, suc, List, [], ◌∷◌, ◌++◌, All, Bool, true, false, length, get_or, take, drop, map, ap, arith, refl, sym, ◌∙◌}
+use Rattle.std.specs.Prelude.{if◌then◌else◌, MatchOption, Option, Some, None}
+use Rattle.memchr.specs.Find.{IsLastByte, is_byte}
+use Rattle.std.specs.List.{AllByRecursion, onto_first}
+use Rattle.std.specs.Borrow.{Bor}
+use Rattle.std.proofs.Math.ListN.{get_or-map}
+use Rattle.std.proofs.lemmas.List.{get_or-drop, get_or_default, length-drop, length-map, length-take-le, take-append-drop, take_more}
+use Rattle.std.proofs.lemmas.List.Elements.{All-cons, All-nil}
+use Rattle.std.proofs.lemmas.List.Splits.{slice_split_none}
+use Rattle.event_lines.specs.Cut.{input_lines, is_line_feed}
+use Rattle.line_split.specs.Lines.{lines_from}
+
+abbrev IsClear : List ℕ → Type 0
+IsClear line = All (λ byte. is_line_feed byte ≡ false) line
+
+first_clear : (x : ℕ) (parts : List (List ℕ)) → is_line_feed x ≡ false → AllByRecursion IsClear parts → AllByRecursion IsClear (onto_first x parts)
+first_clear x [] e h = (All-cons (λ byte. is_line_feed byte ≡ false) x [] e (All-nil (λ byte. is_line_feed byte ≡ false)), tt)
+first_clear x (part ∷ parts) e h = (All-cons (λ byte. is_line_feed byte ≡ false) x part e h.0, h.1)
+
+clear_by : (x : ℕ) (rest : List (List ℕ)) (b : Bool) → is_line_feed x ≡ b → AllByRecursion IsClear rest → AllByRecursion IsClear (if b then [] ∷ rest else onto_first x rest)
+clear_by x rest true e h = (All-nil (λ byte. is_line_feed byte ≡ false), h)
+clear_by x rest false e h = first_clear x rest e h
+
+-- no line has a line feed
+lines_clear : (bytes : List ℕ) → AllByRecursion IsClear (input_lines bytes)
+lines_clear [] = (All-nil (λ byte. is_line_feed byte ≡ false), tt)
+lines_clear (x ∷ bytes) = clear_by x (input_lines bytes) (is_line_feed x) refl (lines_clear bytes)
+
+clear_at : (lines : List (List ℕ)) (i : ℕ) (d : List ℕ) → i < length lines → AllByRecursion IsClear lines → IsClear (get_or lines i d)
+clear_at [] i d lt h = absurd (omega arith)
+clear_at (l ∷ ls) zero d lt h = h.0
+clear_at (l ∷ ls) (suc i) d lt h = clear_at ls i d (omega arith) h.1
+
+-- a line is the one line of its own bytes
+pub one_line : (bytes : List ℕ) (i : ℕ) (d : List ℕ) → i < length (input_lines bytes) → input_lines (get_or (input_lines bytes) i d) ≡ get_or (input_lines bytes) i d ∷ []
+one_line bytes i d lt = slice_split_none is_line_feed (get_or (input_lines bytes) i d) (clear_at (input_lines bytes) i d lt (lines_clear bytes))
+
+pub lines_append : (file n : ℕ) (xs ys : List (List ℕ)) → lines_from file n (xs ++ ys) ≡ lines_from file n xs ++ lines_from file (n + length xs) ys
+lines_append file n [] ys = ap (λ k. lines_from file k ys) (omega arith)
+lines_append file n (x ∷ xs) ys =
+    ap (λ ls. record { file = file; number = n; bytes = x } ∷ ls) (lines_append file (n + 1) xs ys ∙ ap (λ k. lines_from file (n + 1) xs ++ lines_from file k ys) (omega arith))
+
+-- one line more
+pub lines_more : (file n : ℕ) (lines : List (List ℕ)) (i : ℕ) (d : List ℕ) → i < length lines
+    → lines_from file n (take (i + 1) lines) ≡ lines_from file n (take i lines) ++ record { file = file; number = n + i; bytes = get_or lines i d } ∷ []
+lines_more file n lines i d lt =
+    ap (lines_from file n) (take_more lines i d lt) ∙ lines_append file n (take i lines) (get_or lines i d ∷ [])
+    ∙ ap (λ k. lines_from file n (take i lines) ++ record { file = file; number = n + k; bytes = get_or lines i d } ∷ []) (length-take-le i lines (omega arith))
+
+-- the first lines, and those after them
+pub lines_split : (file n i : ℕ) (lines : List (List ℕ)) → lines_from file n lines ≡ lines_from file n (take i lines) ++ lines_from file (n + length (take i lines)) (drop i lines)
+lines_split file n i lines = ap (lines_from file n) (sym (take-append-drop i lines)) ∙ lines_append file n (take i lines) (drop i lines)
+
+-- a line as it was read
+pub line_read : (items found : List (Bor (List ℕ))) (lines : List (List ℕ)) (i : ℕ) (d : Bor (List ℕ)) → found ≡ items → map (λ (line : Bor (List ℕ)). line.now) items ≡ lines → (get_or found i d).now ≡ get_or lines i d.now
+line_read items found lines i d is same =
+    ap (λ (xs : List (Bor (List ℕ))). (get_or xs i d).now) is ∙ sym (get_or-map (λ (line : Bor (List ℕ)). line.now) items i d) ∙ ap (λ (ls : List (List ℕ)). get_or ls i d.now) same
+
+pub line_count : (items : List (Bor (List ℕ))) (lines : List (List ℕ)) → map (λ (line : Bor (List ℕ)). line.now) items ≡ lines → length lines ≡ length items
+line_count items lines same = ap length (sym same) ∙ length-map items (λ (line : Bor (List ℕ)). line.now)
+
+false_from_not : (b : Bool) → (b ≡ true → ⊥) → b ≡ false
+false_from_not true h = absurd (h refl)
+false_from_not false h = refl
+
+-- what stands behind the last line feed is one line
+pub last_alone : (bytes : List ℕ) (found : Option ℕ) → IsLastByte (is_byte 10) bytes found → MatchOption found (input_lines bytes ≡ bytes ∷ []) (λ at. input_lines (drop (at + 1) bytes) ≡ drop (at + 1) bytes ∷ [])
+last_alone bytes None nowhere = slice_split_none is_line_feed bytes (λ k d lt. ap is_line_feed (get_or_default bytes k d 0 lt) ∙ false_from_not (is_line_feed (get_or bytes k 0)) (nowhere k (omega arith) lt))
+last_alone bytes (Some i) h = slice_split_none is_line_feed (drop (i + 1) bytes) (λ k d lt.
+    let within : i + 1 + k < length bytes = omega (arith, length-drop (i + 1) bytes, lt) in
+    ap is_line_feed (get_or-drop (i + 1) bytes k d ∙ get_or_default bytes (i + 1 + k) d 0 within) ∙ false_from_not (is_line_feed (get_or bytes (i + 1 + k) 0)) (h.0.after (i + 1 + k) (omega arith) within))

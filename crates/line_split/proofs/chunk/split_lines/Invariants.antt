@@ -1,0 +1,21 @@
+use Rattle.std.proofs.Common.{◌≡◌, ◌<◌, ◌+◌, ◌^◌, ℕ, take}
+use Rattle.event_lines.specs.Cut.{input_lines}
+use Rattle.line_split.specs.Lines.{lines_from}
+use Rattle.line_split.specs.Parts.{counted}
+use Rattle.line_split.specs.inner.Calls.{call_of_line}
+use Rattle.line_split.specs.inner.Steps.{Fits, Splits}
+use Rattle.line_split.proofs.StepLemmas.{ended, nothing}
+use Rattle.line_split.proofs.chunk.split_lines.Given as goal
+
+-- the lines so far were split
+abbrev pub invariant-lines : goal.invariant-lines
+invariant-lines g l =
+    let P = g.P.OutputFiles in
+    let call = call_of_line l.call in
+    record {
+      fits : Fits call (P.written l.files) l.pending;
+      small : l.number < 2 ^ 64;
+      numbered : (n : ℕ) → l.first ≡ counted n → l.number ≡ counted (n + l.line-index);
+      split : (n : ℕ) → l.first ≡ counted n
+          → Splits call (lines_from l.file n (take l.line-index (input_lines l.bytes))) (ended nothing) P.written P.faults l.fn.files l.files l.fn.pending l.pending;
+    }
