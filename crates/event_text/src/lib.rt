@@ -1,0 +1,10 @@
+//! Prints event lines: the text of an event or of a control line, as the reader of event lines
+//! reads it back.
+#![tactic(auto)]
+
+mod command_line;
+mod event_line;
+mod quoting;
+
+pub use command_line::push_command;
+pub use event_line::push_event;

@@ -1,0 +1,10 @@
+//! Tests of `run` over files and sinks in memory: what is written of worked inputs, and how a run
+//! ends that meets a bad line or a fault.
+#![tactic(auto)]
+
+#[cfg(test)]
+mod faults;
+#[cfg(test)]
+mod page_load;
+#[cfg(test)]
+mod running;

@@ -1,0 +1,3 @@
+pub mod FileLemmas
+pub mod InputLemmas
+pub mod StatusLemmas

@@ -1,0 +1,5 @@
+pub mod CommandLines
+pub mod Endings
+pub mod Inputs
+pub mod Messages
+pub mod inner
