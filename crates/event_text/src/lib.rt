@@ -1,5 +1,4 @@
-//! Prints event lines: the text of an event or of a control line, as the reader of event lines
-//! reads it back.
+//! Prints event lines: the text of an event or of a control line, each in one form.
 #![tactic(auto)]
 
 mod command_line;
