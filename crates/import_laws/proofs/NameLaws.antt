@@ -69,7 +69,7 @@ at_place text (t ∷ tasks) h = by (at_place text tasks) (bytes_eq text t) refl
         let rest : list_any (bytes_eq text) tasks ≡ true = ap (λ b. b || list_any (bytes_eq text) tasks) (sym e) ∙ h in
         ap (λ n. get_or (t ∷ tasks) n []) place ∙ later rest
 
-place_within : (text : List ℕ) (tasks : List (List ℕ)) → position_or_len (bytes_eq text) tasks ≤ length tasks
+pub place_within : (text : List ℕ) (tasks : List (List ℕ)) → position_or_len (bytes_eq text) tasks ≤ length tasks
 place_within text [] = omega arith
 place_within text (t ∷ tasks) = by (place_within text tasks) (bytes_eq text t) refl
   where

@@ -78,7 +78,7 @@ any_firsts text (x ∷ xs) h = by (any_firsts text xs) (bytes_eq text x) refl
         (any-filter (bytes_eq text) (λ y. not (bytes_eq x y)) (λ z f. ap not (ap (bytes_eq x) (sym ((bytes_eq-Decides text z).0 f)) ∙ other)) (firsts_of bytes_eq xs)
         ∙ later rest)
 
-few_firsts : (xs : List (List ℕ)) → length (firsts_of bytes_eq xs) ≤ length xs
+pub few_firsts : (xs : List (List ℕ)) → length (firsts_of bytes_eq xs) ≤ length xs
 few_firsts [] = omega arith
 few_firsts (x ∷ xs) =
     omega (arith, few_firsts xs, length-filter (λ y. not (bytes_eq x y)) (firsts_of bytes_eq xs), count_by-le-length (λ y. not (bytes_eq x y)) (firsts_of bytes_eq xs))
