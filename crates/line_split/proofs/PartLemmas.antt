@@ -130,5 +130,9 @@ one_part call line request some is =
       alone = λ other h. sym (eqb-true part other (sym (ap (has_part call other) is) ∙ h));
     }
 
-pub same_part : (call : Call) (line other : FileLine) (part : ℕ) → request_of line.bytes ≡ request_of other.bytes → is_in_part call part line ≡ is_in_part call part other
-same_part call line other part is = ap (has_part call part) is
+-- the part of a line is that of its request
+part_is : (call : Call) (line : FileLine) (request : List ℕ) (part : ℕ) → request_of line.bytes ≡ Ok (Some request) → is_in_part call part line ≡ true → part_of call.parts call.seed request ≡ part
+part_is call line request part is h = eqb-true (part_of call.parts call.seed request) part (sym (ap (has_part call part) is) ∙ h)
+
+pub same_part : (call : Call) (line other : FileLine) (request : List ℕ) (a b : ℕ) → request_of line.bytes ≡ Ok (Some request) → request_of other.bytes ≡ Ok (Some request) → is_in_part call a line ≡ true → is_in_part call b other ≡ true → a ≡ b
+same_part call line other request a b is same here there = sym (part_is call line request a is here) ∙ part_is call other request b same there

@@ -1,8 +1,8 @@
 -- Files that are read and split one after another, and what a whole call did.
-use Rattle.std.proofs.Common.{◌≡◌, ◌≤◌, ◌<◌, ◌+◌, ℕ, List, [], ◌∷◌, ◌++◌, All, true, length, map, take, get_or, ap, arith, refl, sym, subst, ◌∙◌, append-nil, append_assoc, inl, inr, drop, Option, Some, None, Result, Ok, Err}
+use Rattle.std.proofs.Common.{◌≡◌, ◌≤◌, ◌<◌, ◌+◌, ◌-◌, ℕ, zero, suc, List, [], ◌∷◌, ◌++◌, All, true, length, map, take, get_or, ap, arith, refl, sym, subst, ◌∙◌, append-nil, append_assoc, inl, inr, drop, Option, Some, None, Result, Ok, Err}
 use Rattle.std.specs.Prelude.{IfErr, OnErr, OnOk, ◌==◌, if◌then◌else◌, is_some, not}
-use Rattle.std.proofs.lemmas.List.{drop_all, drop_at, length-map, length_push, map-append, take_all, take_more}
-use Rattle.std.proofs.lemmas.List.Elements.{All-append, All-push, All-tail, All-head}
+use Rattle.std.proofs.lemmas.List.{drop_all, drop_at, length-map, length_push, map-append, take_all, take_at, take_more}
+use Rattle.std.proofs.lemmas.List.Elements.{All-append, All-cons, All-drop, All-head, All-nil, All-push, All-same, All-tail, All-take}
 use Rattle.event_lines.specs.Cut.{input_lines}
 use Rattle.mystery_io.specs.Readings.{AreEnded, AreEndedBeforeLast, OnlyGrow, Reading, new_readings}
 use Rattle.output_files.specs.Written.{WrittenFile}
@@ -14,7 +14,7 @@ use Rattle.line_split.specs.Lines.{FileLine, IsGood, all_lines, lines_from, line
 use Rattle.mystery_io.specs.Counts.{counted_up}
 use Rattle.line_split.specs.Messages.{message_of, status_of}
 use Rattle.line_split.specs.Parts.{AreBegun, file_count, part_file}
-use Rattle.line_split.specs.Runs.{Explains, ExplainsAt, ReadsAll, ReadsFirst}
+use Rattle.line_split.specs.Runs.{Explains, ExplainsAt, ReadsAll, ReadsFirst, before_last}
 use Rattle.line_split.specs.inner.Pending.{BeginsFiles, IsBegun, Tells, TellsFiles, WholeFiles}
 use Rattle.line_split.specs.inner.Steps.{CallRuns, FileCause, FileStop, FilesStop, IsStoreFault, LinesStop, RunCause, Splits, all_split, read_faults, write_faults}
 use Rattle.line_split.proofs.ReadLemmas.{reading}
@@ -29,6 +29,37 @@ lines_push file (q ∷ qs) r =
 pub all_push : (readings : List Reading) (r : Reading) → all_lines (readings ++ r ∷ []) ≡ all_lines readings ++ lines_from (length readings) 1 (input_lines r.bytes)
 all_push readings r = lines_push 0 readings r ∙ ap (λ k. all_lines readings ++ lines_from k 1 (input_lines r.bytes)) (omega arith)
 
+-- what holds of all elements holds of the first, and of the last
+module _ {X : Type 0} (P : X → Type 0) (xs ys : List X) (h : All P (xs ++ ys)) where
+  all_left : All P xs
+  all_left = All-same P xs (take (length xs) (xs ++ ys)) (sym (take_at xs ys (length xs) refl)) (All-take P (length xs) (xs ++ ys) h)
+
+  all_right : All P ys
+  all_right = All-same P ys (drop (length xs) (xs ++ ys)) (sym (drop_at xs ys (length xs) refl)) (All-drop P (length xs) (xs ++ ys) h)
+
+-- the lines of the first files are good where all are
+good_first : (file k : ℕ) (readings : List Reading) → All IsGood (lines_of_readings file readings) → All IsGood (lines_of_readings file (take k readings))
+good_first file zero [] h = h
+good_first file zero (r ∷ rs) h = All-nil IsGood
+good_first file (suc k) [] h = h
+good_first file (suc k) (r ∷ rs) h =
+    let here = lines_from file 1 (input_lines r.bytes) in
+    let more = lines_of_readings (file + 1) rs in
+    All-append IsGood here (lines_of_readings (file + 1) (take k rs)) (all_left IsGood here more h) (good_first (file + 1) k rs (all_right IsGood here more h))
+
+before_push : (readings : List Reading) (r : Reading) → before_last (readings ++ r ∷ []) ≡ readings
+before_push readings r = ap (λ (k : ℕ). take k (readings ++ r ∷ [])) (omega (arith, length_push readings r)) ∙ take_at readings (r ∷ []) (length readings) refl
+
+lines_in : (file n : ℕ) (lines : List (List ℕ)) → All (λ (l : FileLine). l.file ≡ file) (lines_from file n lines)
+lines_in file n [] = All-nil (λ (l : FileLine). l.file ≡ file)
+lines_in file n (x ∷ xs) = All-cons (λ (l : FileLine). l.file ≡ file) (record { file = file; number = n; bytes = x }) (lines_from file (n + 1) xs) refl (lines_in file (n + 1) xs)
+
+-- a line of a file has the file's index
+file_of : (file n : ℕ) (lines : List (List ℕ)) (front after : List FileLine) (line : FileLine) → lines_from file n lines ≡ front ++ line ∷ after → line.file ≡ file
+file_of file n lines front after line e =
+    All-head (λ (l : FileLine). l.file ≡ file) line after (all_right (λ (l : FileLine). l.file ≡ file) front (line ∷ after)
+    (All-same (λ (l : FileLine). l.file ≡ file) (front ++ line ∷ after) (lines_from file n lines) (sym e) (lines_in file n lines)))
+
 ended_before : (readings : List Reading) (r : Reading) → AreEnded readings → AreEndedBeforeLast (readings ++ r ∷ [])
 ended_before [] r h = tt
 ended_before (q ∷ []) r h = (All-head (λ (r : Reading). r.at_end ≡ true) q [] h, tt)
@@ -42,14 +73,15 @@ module _ (call : Call) (readings : List Reading) (i : ℕ) (size : length readin
   named_push =
       map-append (λ (r : Reading). r.name) readings (r ∷ []) ∙ ap (λ ns. ns ++ r.name ∷ []) named ∙ ap (λ (n : List ℕ). take i call.files ++ n ∷ []) is ∙ sym (take_more call.files i d lt)
 
-  pub reads_first : AreEnded readings → ReadsFirst call (readings ++ r ∷ [])
-  reads_first ended = record {
+  pub reads_first : AreEnded readings → All IsGood (all_lines readings) → ReadsFirst call (readings ++ r ∷ [])
+  reads_first ended good = record {
     named = named_push ∙ ap (λ k. take k call.files) (sym (length_push readings r ∙ ap (λ k. k + 1) size));
     ended = ended_before readings r ended;
+    good = All-same IsGood (all_lines (before_last (readings ++ r ∷ []))) (all_lines readings) (ap all_lines (before_push readings r)) good;
   }
 
 pub reads_none : (call : Call) (readings : List Reading) → readings ≡ [] → ReadsFirst call readings
-reads_none call readings none = subst (ReadsFirst call) (sym none) (record { named = refl; ended = tt })
+reads_none call readings none = subst (ReadsFirst call) (sym none) (record { named = refl; ended = tt; good = All-nil IsGood })
 
 -- a fault of one file is one of all
 module _ {P : Type 0} (call : Call) (written : P → List WrittenFile) (faults : P → ℕ) (old mid new : P) (p q : Pending) (readings : List Reading) (i : ℕ) (size : length readings ≡ i) (first : Splits call (all_lines readings) all_split written faults old mid p q) (ended : AreEnded readings) where
@@ -65,6 +97,7 @@ module _ {P : Type 0} (call : Call) (written : P → List WrittenFile) (faults :
     reason = h.3;
     of_file = h.4;
     at_line = h.5;
+    last = length_push readings r ∙ ap (λ k. k + 1) (size ∙ sym (h.4 ∙ file_of i 1 (input_lines r.bytes) done h.1 h.0 (split ∙ ap (λ ls. done ++ ls) h.2)));
     whole = elim h.6 [
       | inl some ↦ inl some
       | inr other ↦ inr (elim other [
@@ -83,7 +116,7 @@ module _ {P : Type 0} (call : Call) (written : P → List WrittenFile) (faults :
       record {
         readings = readings ++ r ∷ [];
         given = h.given ∙ ap (λ rs. rs ++ r ∷ []) given ∙ append_assoc given_before readings (r ∷ []);
-        reads = reads_first call readings i size lt named r d is ended;
+        reads = reads_first call readings i size lt named r d is ended first.good;
         stops = λ before told.
             let at = h.stops before ([] ++ all_lines readings) (first.told before [] told) in
             record {
@@ -120,10 +153,11 @@ all_first [] h = tt
 all_first (r ∷ []) h = tt
 all_first (r ∷ s ∷ rs) h = (All-head (λ (r : Reading). r.at_end ≡ true) r (s ∷ rs) h, all_first (s ∷ rs) (All-tail (λ (r : Reading). r.at_end ≡ true) r (s ∷ rs) h))
 
-pub all_reads_first : (call : Call) (readings : List Reading) → ReadsAll call readings → ReadsFirst call readings
-all_reads_first call readings h = record {
+pub all_reads_first : (call : Call) (readings : List Reading) → ReadsAll call readings → All IsGood (all_lines readings) → ReadsFirst call readings
+all_reads_first call readings h good = record {
   named = h.named ∙ sym (take_all (length readings) call.files (omega (arith, ap length h.named, length-map readings (λ (r : Reading). r.name))));
   ended = all_first readings h.ended;
+  good = good_first 0 (length readings - 1) readings good;
 }
 
 -- all lines were split, and the buffers were written or not
@@ -146,7 +180,7 @@ flush_runs call before w now given_before given_now p readings (Err fault) given
       made = h.made;
       given = given;
       written = h.split;
-      explains = explains_store call before now readings (all_lines readings) [] fault store (all_reads_first call readings reads) (sym (append-nil (all_lines readings))) good h;
+      explains = explains_store call before now readings (all_lines readings) [] fault store (all_reads_first call readings reads good) (sym (append-nil (all_lines readings))) good h;
     }
 
 -- what a run did

@@ -1,5 +1,6 @@
 -- What a run tells by how it ended, by what it read and by what it wrote.
-use Rattle.std.specs.Prelude.{ℕ, ◌≡◌, ◌+◌, ◌<◌, ◌⊎◌, List, [], ◌∷◌, ◌++◌, All, drop, length, map, take}
+use Rattle.std.specs.Prelude.{ℕ, ◌≡◌, ◌+◌, ◌-◌, ◌<◌, ◌⊎◌, List, [], ◌∷◌, ◌++◌, All, drop, length, map}
+use Rattle.std.specs.Prelude.{take}
 use Rattle.std.specs.Prelude.{Option, Some, None, Ok, Err}
 use Rattle.mystery_io.specs.Readings.{AreEnded, AreEndedBeforeLast, Reading, new_readings}
 use Rattle.output_files.specs.Written.{WrittenFile}
@@ -11,10 +12,16 @@ use Rattle.line_split.specs.Lines.{FileLine, IsGood, all_lines, longest_line, re
 use Rattle.line_split.specs.Messages.{Outcome}
 use Rattle.line_split.specs.Parts.{AreBegun, ArePartsOf, counted}
 
--- the first files of a call were opened, one after another, and all but the last read to their ends
+-- the readings before the last one
+abbrev pub before_last : List Reading → List Reading
+before_last readings = take (length readings - 1) readings
+
+-- the first files of a call were opened, one after another. All but the last were read to their ends,
+-- and every line of those is good
 pub record ReadsFirst (call : Call) (readings : List Reading) : Type 0 where
   pub named : map (λ (r : Reading). r.name) readings ≡ take (length readings) call.files
   pub ended : AreEndedBeforeLast readings
+  pub good : All IsGood (all_lines (before_last readings))
 
 -- each file of a call was opened and read to its end
 pub record ReadsAll (call : Call) (readings : List Reading) : Type 0 where
@@ -30,8 +37,8 @@ pub record WritesFirst (call : Call) (readings : List Reading) (made : List Writ
   pub good : All IsGood lines
   pub begun : AreBegun call lines made
 
--- the first bad line of all that were read: those before it are good. It is whole: a line follows it,
--- or its file came to the end, or it is too long already
+-- the first bad line of all that were read: those before it are good, and no file after its own was
+-- opened. It is whole: a line follows it, or its file came to the end, or it is too long already
 pub record IsFirstBad (readings : List Reading) (file number : ℕ) (why : Reason) : Type 0 where
   pub before : List FileLine
   pub bad : FileLine
@@ -41,6 +48,7 @@ pub record IsFirstBad (readings : List Reading) (file number : ℕ) (why : Reaso
   pub reason : request_of bad.bytes ≡ Err why
   pub of_file : file ≡ bad.file
   pub at_line : number ≡ counted bad.number
+  pub last : length readings ≡ file + 1
   pub whole : (0 < length after) ⊎ AreEnded readings ⊎ (longest_line < length bad.bytes)
 
 -- how a call that ended so read and wrote: what the reads gave, one reading a file that was opened,
