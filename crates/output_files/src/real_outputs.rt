@@ -1,4 +1,4 @@
-ghost use Rattle.std.specs.Prelude.{◌≡◌, []};
+ghost use Rattle.std.specs.Prelude.{◌≡◌, ◌<◌, [], vec_capacity, vec_len};
 
 use crate::{CreateFault, OutputFiles};
 use mystery_io::{Failed, RealSink, Sink};
@@ -27,6 +27,7 @@ pub struct RealOutputs<'r, R: std::rt::Files> {
 
 impl<'r, R: std::rt::Files> RealOutputs<'r, R> {
     ghost use Rattle.output_files.specs.Objects.{real_faults, real_written};
+    ghost use Rattle.output_files.specs.Written.{after_create};
 
     /// Makes files through this runtime, with none so far.
     pub fn new(alloc: Global, rt: &'r R) -> RealOutputs<'r, R>
@@ -39,6 +40,19 @@ impl<'r, R: std::rt::Files> RealOutputs<'r, R> {
             files: Vec::new(alloc),
             faults: 0,
         }
+    }
+
+    /// Puts a file that was made behind the others, in the room that there is for it.
+    fn keep(&mut self, name: &Text, file: R::File)
+        requires room { vec_len self.old.files < vec_capacity self.old.files }
+        ensures made { real_written self.new ≡ after_create (real_written self.old) name.now }
+        ensures counted { real_faults self.new ≡ real_faults self.old }
+    {
+        // There is room, so this does not fail.
+        let _kept = self.files.push(NamedSink {
+            name: Snapshot::of(name),
+            sink: RealSink::new(file),
+        });
     }
 }
 
@@ -54,14 +68,13 @@ impl<R: std::rt::Files> OutputFiles for RealOutputs<'_, R> {
     }
 
     fn create(&mut self, name: &Text) -> Result<(), CreateFault> {
+        // Room for it comes first, so that nothing fails once the file is made.
+        self.files.reserve(1)?;
         let Ok(file) = fs::create(self.rt, name.as_str()) else {
             self.faults = self.faults.saturating_add(1);
             return Err(CreateFault::Failed);
         };
-        self.files.push(NamedSink {
-            name: Snapshot::of(name),
-            sink: RealSink::new(file),
-        })?;
+        self.keep(name, file);
         Ok(())
     }
 
