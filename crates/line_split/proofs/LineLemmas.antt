@@ -1,12 +1,12 @@
 -- The lines of bytes, one after another.
-use Rattle.std.proofs.Common.{◌≡◌, ◌<◌, ◌+◌, ℕ, zero, suc, List, [], ◌∷◌, ◌++◌, All, Bool, true, false, length, get_or, take, drop, map, ap, arith, refl, sym, ◌∙◌}
+use Rattle.std.proofs.Common.{◌≡◌, ◌<◌, ◌+◌, ℕ, zero, suc, List, [], ◌∷◌, ◌++◌, All, Bool, true, false, length, get_or, take, drop, map, ap, arith, refl, sym, subst, ◌∙◌}
 use Rattle.std.specs.Prelude.{if◌then◌else◌, MatchOption, Option, Some, None}
 use Rattle.memchr.specs.Find.{IsLastByte, is_byte}
 use Rattle.std.specs.List.{AllByRecursion, onto_first}
 use Rattle.std.specs.Borrow.{Bor}
 use Rattle.std.proofs.Math.ListN.{get_or-map}
 use Rattle.std.proofs.lemmas.List.{get_or-drop, get_or_default, length-drop, length-map, length-take-le, take-append-drop, take_more}
-use Rattle.std.proofs.lemmas.List.Elements.{All-cons, All-nil}
+use Rattle.std.proofs.lemmas.List.Elements.{All-append, All-cons, All-nil}
 use Rattle.std.proofs.lemmas.List.Splits.{slice_split_none}
 use Rattle.event_lines.specs.Cut.{input_lines, is_line_feed}
 use Rattle.line_split.specs.Lines.{lines_from}
@@ -35,6 +35,14 @@ clear_at (l ∷ ls) (suc i) d lt h = clear_at ls i d (omega arith) h.1
 -- a line is the one line of its own bytes
 pub one_line : (bytes : List ℕ) (i : ℕ) (d : List ℕ) → i < length (input_lines bytes) → input_lines (get_or (input_lines bytes) i d) ≡ get_or (input_lines bytes) i d ∷ []
 one_line bytes i d lt = slice_split_none is_line_feed (get_or (input_lines bytes) i d) (clear_at (input_lines bytes) i d lt (lines_clear bytes))
+
+-- what has one line has no line feed
+one_clear : (bytes : List ℕ) → input_lines bytes ≡ bytes ∷ [] → IsClear bytes
+one_clear bytes one = (subst (AllByRecursion IsClear) one (lines_clear bytes)).0
+
+-- two pieces of one line each are one line together
+pub one_more : (a b : List ℕ) → input_lines a ≡ a ∷ [] → input_lines b ≡ b ∷ [] → input_lines (a ++ b) ≡ (a ++ b) ∷ []
+one_more a b here there = slice_split_none is_line_feed (a ++ b) (All-append (λ byte. is_line_feed byte ≡ false) a b (one_clear a here) (one_clear b there))
 
 pub lines_append : (file n : ℕ) (xs ys : List (List ℕ)) → lines_from file n (xs ++ ys) ≡ lines_from file n xs ++ lines_from file (n + length xs) ys
 lines_append file n [] ys = ap (λ k. lines_from file k ys) (omega arith)

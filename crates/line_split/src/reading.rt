@@ -1,5 +1,5 @@
 ghost use Rattle.std.specs.Prelude.{◌≡◌, ◌<◌, ◌≤◌, ◌+◌, ◌++◌, ◌∷◌, ◌^◌, [], ℕ, List, IfErr, OnOk};
-ghost use Rattle.std.specs.Prelude.{false, length, true};
+ghost use Rattle.std.specs.Prelude.{drop, false, length, take, true};
 ghost use Rattle.event_lines.specs.Cut.{input_lines};
 ghost use Rattle.mystery_io.specs.Readings.{Reading};
 ghost use Rattle.line_split.specs.inner.Calls.{call_of_line};
@@ -24,7 +24,8 @@ use trace_types::Text;
 /// How many bytes are read at a time at most.
 const PIECE: usize = 262_144;
 
-/// Splits the lines that end in what is carried, and carries the rest.
+/// Splits the lines that end in a piece of a file, whose last line feed is at `at`, and carries what
+/// follows it.
 fn split_ended<R: Threads + Sync, P: OutputFiles>(
     rt: &R,
     alloc: Global,
@@ -33,30 +34,32 @@ fn split_ended<R: Threads + Sync, P: OutputFiles>(
     call: CommandLine<'_>,
     file: usize,
     carry: &mut Carry,
+    piece: &[u8],
+    at: usize,
 ) -> Result<(), SplitFault>
     requires fits { Fits (call_of_line call) (P.written outputs.old) pending.old }
     requires some { 0 < call.parts }
     requires most { call.parts ≤ 256 }
     requires few { file + 1 < 2 ^ 64 }
+    requires within { at < length piece.now }
+    requires cut { piece.now ≡ take at piece.now ++ 10 ∷ drop (at + 1) piece.now }
     ensures fits { OnOk result (Fits (call_of_line call.entry) (P.written outputs.new) pending.new) }
     ensures counted { P.faults outputs.new ≡ write_faults result (P.faults outputs.old) }
     ensures unread { (count : ℕ) → read_faults result count ≡ count }
-    ensures one { OnOk result (input_lines carry.new.rest.items ≡ carry.new.rest.items ∷ []) }
+    ensures rest { OnOk result (carry.new.rest.items ≡ drop (at + 1) piece.now) }
     ensures carried { OnOk result ((start : P) (before : Pending) (bytes : List ℕ)
         → Carried (call_of_line call.entry) file bytes P.written P.faults start outputs.old before
         pending.old carry.old.rest.items carry.old.number
-        → Carried (call_of_line call.entry) file bytes P.written P.faults start outputs.new before
-        pending.new carry.new.rest.items carry.new.number) }
+        → Carried (call_of_line call.entry) file (bytes ++ piece.now) P.written P.faults start
+        outputs.new before pending.new carry.new.rest.items carry.new.number) }
     ensures stops { IfErr result (λ fault. (start : P) (before : Pending) (bytes : List ℕ)
         → Carried (call_of_line call.entry) file bytes P.written P.faults start outputs.old before
         pending.old carry.old.rest.items carry.old.number
-        → FileStops (call_of_line call.entry) file bytes false P.written start outputs.new before
-        fault) }
+        → FileStops (call_of_line call.entry) file (bytes ++ piece.now) false P.written start
+        outputs.new before fault) }
 {
     pieces_say_what_the_whole_says();
-    let Some(at) = last_line_feed(&carry.rest) else {
-        return Ok(());
-    };
+    carry.rest.extend_from_slice(&piece[..at])?;
     carry.number = split_chunk(
         rt,
         alloc,
@@ -65,13 +68,52 @@ fn split_ended<R: Threads + Sync, P: OutputFiles>(
         call,
         file,
         carry.number,
-        &carry.rest[..at],
+        &carry.rest,
     )?;
-    carry.rest = Vec::from_slice(alloc, &carry.rest[at + 1..])?;
+    carry.rest = Vec::from_slice(alloc, &piece[at + 1..])?;
     Ok(())
 }
 
-/// Takes a piece of a file: splits the lines that end in it, and carries the rest.
+/// Takes a piece of a file: splits the lines that end in it, and carries the rest. What is carried has
+/// no line feed, so only the piece is searched.
+fn carry_on<R: Threads + Sync, P: OutputFiles>(
+    rt: &R,
+    alloc: Global,
+    outputs: &mut P,
+    pending: &mut Pending,
+    call: CommandLine<'_>,
+    file: usize,
+    carry: &mut Carry,
+    piece: &[u8],
+) -> Result<(), SplitFault>
+    requires fits { Fits (call_of_line call) (P.written outputs.old) pending.old }
+    requires some { 0 < call.parts }
+    requires most { call.parts ≤ 256 }
+    requires few { file + 1 < 2 ^ 64 }
+    requires one { input_lines carry.old.rest.items ≡ carry.old.rest.items ∷ [] }
+    ensures fits { OnOk result (Fits (call_of_line call.entry) (P.written outputs.new) pending.new) }
+    ensures counted { P.faults outputs.new ≡ write_faults result (P.faults outputs.old) }
+    ensures unread { (count : ℕ) → read_faults result count ≡ count }
+    ensures one { OnOk result (input_lines carry.new.rest.items ≡ carry.new.rest.items ∷ []) }
+    ensures carried { OnOk result ((start : P) (before : Pending) (bytes : List ℕ)
+        → Carried (call_of_line call.entry) file bytes P.written P.faults start outputs.old before
+        pending.old carry.old.rest.items carry.old.number
+        → Carried (call_of_line call.entry) file (bytes ++ piece.now) P.written P.faults start
+        outputs.new before pending.new carry.new.rest.items carry.new.number) }
+    ensures stops { IfErr result (λ fault. (start : P) (before : Pending) (bytes : List ℕ)
+        → Carried (call_of_line call.entry) file bytes P.written P.faults start outputs.old before
+        pending.old carry.old.rest.items carry.old.number
+        → FileStops (call_of_line call.entry) file (bytes ++ piece.now) false P.written start
+        outputs.new before fault) }
+{
+    let Some(at) = last_line_feed(piece) else {
+        carry.rest.extend_from_slice(piece)?;
+        return Ok(());
+    };
+    split_ended(rt, alloc, outputs, pending, call, file, carry, piece, at)
+}
+
+/// Takes a piece of a file as `carry_on` does, and tells where the line that is carried is too long.
 fn take_piece<R: Threads + Sync, P: OutputFiles>(
     rt: &R,
     alloc: Global,
@@ -86,9 +128,11 @@ fn take_piece<R: Threads + Sync, P: OutputFiles>(
     requires some { 0 < call.parts }
     requires most { call.parts ≤ 256 }
     requires few { file + 1 < 2 ^ 64 }
+    requires one { input_lines carry.old.rest.items ≡ carry.old.rest.items ∷ [] }
     ensures fits { OnOk result (Fits (call_of_line call.entry) (P.written outputs.new) pending.new) }
     ensures counted { P.faults outputs.new ≡ write_faults result (P.faults outputs.old) }
     ensures unread { (count : ℕ) → read_faults result count ≡ count }
+    ensures one { OnOk result (input_lines carry.new.rest.items ≡ carry.new.rest.items ∷ []) }
     ensures carried { OnOk result ((start : P) (before : Pending) (bytes : List ℕ)
         → Carried (call_of_line call.entry) file bytes P.written P.faults start outputs.old before
         pending.old carry.old.rest.items carry.old.number
@@ -100,8 +144,7 @@ fn take_piece<R: Threads + Sync, P: OutputFiles>(
         → FileStops (call_of_line call.entry) file (bytes ++ piece.now) false P.written start
         outputs.new before fault) }
 {
-    carry.rest.extend_from_slice(piece)?;
-    split_ended(rt, alloc, outputs, pending, call, file, carry)?;
+    carry_on(rt, alloc, outputs, pending, call, file, carry, piece)?;
     if carry.rest.len() > LONGEST {
         return Err(SplitFault::BadLine {
             file,
@@ -130,6 +173,7 @@ fn read_pieces<R: Threads + Sync, F: Files, P: OutputFiles>(
     requires some { 0 < call.parts }
     requires most { call.parts ≤ 256 }
     requires few { file + 1 < 2 ^ 64 }
+    requires one { input_lines carry.old.rest.items ≡ carry.old.rest.items ∷ [] }
     ensures room { length buffer.new ≡ length buffer.old }
     ensures fits { OnOk result (Fits (call_of_line call.entry) (P.written outputs.new) pending.new) }
     ensures counted { P.faults outputs.new ≡ write_faults result (P.faults outputs.old) }

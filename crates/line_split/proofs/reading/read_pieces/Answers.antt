@@ -10,6 +10,7 @@ use Rattle.line_split.proofs.reading.read_pieces.Goals as goal
 pub pieces-init : goal.pieces-init
 pieces-init g c = record {
   opened = c.requires.open;
+  one = c.requires.one;
   fits = c.requires.fits;
   counted = refl;
   tallied = refl;
@@ -59,6 +60,7 @@ pieces-preserved g c =
     let at = c.pieces.invariant in
     record {
       opened = c.in-Ok.ensures.is_open ∙ at.opened;
+      one = c.in_ok-take_piece.ensures.one;
       fits = c.in_ok-take_piece.ensures.fits;
       counted = c.in_ok-take_piece.ensures.counted ∙ at.counted;
       tallied = c.in-Ok.ensures.tallied ∙ at.tallied;

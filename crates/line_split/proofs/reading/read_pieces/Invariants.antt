@@ -1,4 +1,5 @@
 use Rattle.std.proofs.Common.{◌≡◌, ◌++◌, ◌∷◌, [], ℕ, List, true, false}
+use Rattle.event_lines.specs.Cut.{input_lines}
 use Rattle.mystery_io.specs.Readings.{Reading}
 use Rattle.line_split.specs.declared.pending.Pending.{Pending}
 use Rattle.line_split.specs.inner.Calls.{call_of_line}
@@ -14,6 +15,7 @@ invariant-pieces g l =
     let call = call_of_line l.call in
     record {
       opened : F.is_open l.files ≡ true;
+      one : input_lines l.carry.rest.items ≡ l.carry.rest.items ∷ [];
       fits : Fits call (P.written l.outputs) l.pending;
       counted : P.faults l.outputs ≡ P.faults l.fn.outputs;
       tallied : F.faults l.files ≡ F.faults l.fn.files;
