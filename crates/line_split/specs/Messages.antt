@@ -53,6 +53,6 @@ message_text (Err (BadLine file line why)) =
 message_text (Err (File index)) = codes ": read failed\n"
 message_text (Err Write) = codes "write failed\n"
 
--- what is written to standard error: nothing, or one line
+-- what is written to standard error: nothing, or a message that ends with a line feed
 abbrev pub message_of : List (List ℕ) → Outcome → List ℕ
 message_of words outcome = message_name words outcome ++ message_text outcome

@@ -31,12 +31,12 @@ grace_line None = []
 grace_line (Some micros) =
     codes "{\"do\":\"grace\",\"micros\":" ++ decimal micros ++ codes "}\n"
 
--- the row of the origins that stands for it: no file, and no line
+-- the row of the origins for that control line, which comes from no file: two zeros
 abbrev pub grace_origin : Option ℕ → List ℕ
 grace_origin None = []
 grace_origin (Some micros) = codes "0\t0\n"
 
--- a number of a line as 64 bits have it, which stand still at their last value
+-- the number of a line as it is told: itself, or 2^64 - 1 where it is greater
 abbrev pub counted : ℕ → ℕ
 counted number = min number (2 ^ 64 - 1)
 
@@ -54,7 +54,7 @@ abbrev pub part_text : Call → List FileLine → ℕ → List ℕ
 part_text call lines part =
     grace_line call.grace ++ flat_map line_row (filter (is_in_part call part) lines)
 
--- where they come from, row by row
+-- the origins of a part: where each line that stands in it comes from, in the same order
 abbrev pub origins_text : Call → List FileLine → ℕ → List ℕ
 origins_text call lines part =
     grace_origin call.grace ++ flat_map origin_row (filter (is_in_part call part) lines)
@@ -63,11 +63,11 @@ origins_text call lines part =
 abbrev pub three_digits : ℕ → List ℕ
 three_digits n = decimal (n / 100) ++ decimal (n / 10 % 10) ++ decimal (n % 10)
 
--- the names of a part and of its origins: the prefix, the part's number in three digits, from 000, and
--- for the origins an ending
+-- the name of a part: the prefix, and the part's number in three digits, from 000
 abbrev pub part_name : Call → ℕ → List ℕ
 part_name call part = call.prefix ++ three_digits part
 
+-- the name of the origins of a part: that of the part, and an ending
 abbrev pub origins_name : Call → ℕ → List ℕ
 origins_name call part = part_name call part ++ codes ".origins"
 
@@ -75,23 +75,25 @@ origins_name call part = part_name call part ++ codes ".origins"
 abbrev pub file_count : Call → ℕ
 file_count call = call.parts + call.parts
 
--- the files that are made, by index from 0: first all parts, and then the origins of each. Their names
+-- the name of the file with this index, from 0, of those that are made: first come all parts, and
+-- then the origins of each
 abbrev pub made_name : Call → ℕ → List ℕ
 made_name call index =
     if nat_lt index call.parts then part_name call index
     else origins_name call (index - call.parts)
 
--- and what they have of these lines
+-- the whole text of the file with this index, made of these lines
 abbrev pub made_text : Call → List FileLine → ℕ → List ℕ
 made_text call lines index =
     if nat_lt index call.parts then part_text call lines index
     else origins_text call lines (index - call.parts)
 
+-- the file with this index, with its whole text
 abbrev pub part_file : Call → List FileLine → ℕ → WrittenFile
 part_file call lines index =
     record { name = made_name call index; bytes = made_text call lines index }
 
--- the file with this index
+-- the file with this index of a list, from 0
 abbrev pub file_at : List WrittenFile → ℕ → WrittenFile
 file_at files index = slice_index_or files index (record { name = []; bytes = [] })
 
@@ -102,7 +104,7 @@ pub record ArePartsOf (call : Call) (lines : List FileLine) (made : List Written
   pub each : (index : ℕ) → index < file_count call
       → file_at made index ≡ part_file call lines index
 
--- a file has the name of another, and the first of its bytes
+-- a file has the name of another, and its bytes are the first of that one's
 pub record Begins (file whole : WrittenFile) : Type 0 where
   pub named : file.name ≡ whole.name
   pub rest : List ℕ

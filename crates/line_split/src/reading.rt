@@ -74,8 +74,8 @@ fn split_ended<R: Threads + Sync, P: OutputFiles>(
     Ok(())
 }
 
-/// Takes a piece of a file: splits the lines that end in it, and carries the rest. What is carried has
-/// no line feed, so only the piece is searched.
+/// Takes a piece of a file: splits the lines that end in it, and carries the rest. What is carried
+/// has no line feed, so only the piece is searched.
 fn carry_on<R: Threads + Sync, P: OutputFiles>(
     rt: &R,
     alloc: Global,

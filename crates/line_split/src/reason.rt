@@ -8,7 +8,8 @@ use event_lines::Why;
 pub enum Reason {
     /// It is no good line of an input, for this reason.
     Line { why: Why },
-    /// It is a control line, which has no request and asks for the order of all lines.
+    /// It is a control line. It has no request, so it belongs to no part, and what it commands
+    /// depends on all lines before it.
     Control,
     /// It has more than 67,108,864 bytes.
     TooLong,
