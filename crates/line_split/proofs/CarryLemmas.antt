@@ -1,5 +1,5 @@
 -- Pieces of a file, and the lines that end in them.
-use Rattle.std.proofs.Common.{◌≡◌, ◌<◌, ◌+◌, ℕ, List, [], ◌∷◌, ◌++◌, Bool, true, false, length, ap, arith, refl, sym, subst, ◌∙◌, append-nil, append_assoc, inl, inr}
+use Rattle.std.proofs.Common.{◌≡◌, ◌<◌, ◌≤◌, ◌+◌, ℕ, List, [], ◌∷◌, ◌++◌, Bool, true, false, length, ap, arith, refl, sym, subst, ◌∙◌, append-nil, append_assoc, inl, inr}
 use Rattle.std.proofs.lemmas.List.{length-append}
 use Rattle.std.proofs.lemmas.List.Elements.{All-append}
 use Rattle.std.proofs.lemmas.List.Splits.{length-slice_split}
@@ -74,6 +74,10 @@ module _ {P : Type 0} (call : Call) (file : ℕ) (bytes : List ℕ) (written : P
         begun = tells_begins (file_count call) others (part_file call (lines ++ lines_from file 1 h.lines)) (written mid) p new;
         cause = cause;
       }
+
+  -- the file could not be read on, and one line is carried
+  pub stops_read : input_lines rest ≡ rest ∷ [] → FileStops call file bytes false written start mid before (File file)
+  stops_read one = stops_here false (File file) (refl, subst (λ (ls : List (List ℕ)). length (lines_from file (1 + length h.lines) ls) ≤ 1) (sym one) (omega arith))
 
   -- the line that is carried is too long already
   pub stops_long : (at_end : Bool) → input_lines rest ≡ rest ∷ [] → longest_line < length rest → FileStops call file bytes at_end written start mid before (BadLine file number TooLong)

@@ -106,7 +106,16 @@ module _ {P : Type 0} (call : Call) (written : P → List WrittenFile) (faults :
       ])
     ];
   }
-  cause_of r done rest (File index) split good h = length_push readings r ∙ ap (λ k. k + 1) (size ∙ sym h)
+  cause_of r done rest (File index) split good h = (
+    length_push readings r ∙ ap (λ k. k + 1) (size ∙ sym h.0),
+    record {
+      lines = all_lines readings ++ done;
+      rest = rest;
+      split = all_push readings r ∙ ap (λ k. all_lines readings ++ lines_from k 1 (input_lines r.bytes)) size ∙ ap (λ ls. all_lines readings ++ ls) split ∙ sym (append_assoc (all_lines readings) done rest);
+      few = h.1;
+      good = All-append IsGood (all_lines readings) done first.good good;
+    },
+  )
   cause_of r done rest Write split good h = tt
 
   pub stop_of : (given_before given_mid given_now : List Reading) (name d : List ℕ) (fault : SplitFault) → i < length call.files → map (λ (r : Reading). r.name) readings ≡ take i call.files → name ≡ get_or call.files i d → given_mid ≡ given_before ++ readings
@@ -137,7 +146,7 @@ pub explains_stop : (call : Call) (before w : List WrittenFile) (readings : List
 explains_stop call before w readings Arguments reads h = absurd h.cause
 explains_stop call before w readings Memory reads h = (reads, record { lines = h.lines; rest = h.rest; split = h.split; good = h.good; begun = begun_made call before w h.lines h.begun })
 explains_stop call before w readings (BadLine file line why) reads h = (reads, h.cause, record { lines = h.lines; rest = h.rest; split = h.split; good = h.good; begun = begun_made call before w h.lines h.begun })
-explains_stop call before w readings (File index) reads h = (reads, h.cause, record { lines = h.lines; rest = h.rest; split = h.split; good = h.good; begun = begun_made call before w h.lines h.begun })
+explains_stop call before w readings (File index) reads h = (reads, h.cause.0, h.cause.1, record { lines = h.lines; rest = h.rest; split = h.split; good = h.good; begun = begun_made call before w h.lines h.begun })
 explains_stop call before w readings Write reads h = (reads, record { lines = h.lines; rest = h.rest; split = h.split; good = h.good; begun = begun_made call before w h.lines h.begun })
 
 -- a fault that no line causes

@@ -1,6 +1,6 @@
 -- What a run tells by how it ended, by what it read and by what it wrote.
-use Rattle.std.specs.Prelude.{ℕ, ◌≡◌, ◌+◌, ◌-◌, ◌<◌, ◌⊎◌, List, [], ◌∷◌, ◌++◌, All, drop, length, map}
-use Rattle.std.specs.Prelude.{take}
+use Rattle.std.specs.Prelude.{ℕ, ◌≡◌, ◌+◌, ◌-◌, ◌<◌, ◌≤◌, ◌⊎◌, List, [], ◌∷◌, ◌++◌, All}
+use Rattle.std.specs.Prelude.{drop, length, map, take}
 use Rattle.std.specs.Prelude.{Option, Some, None, Ok, Err}
 use Rattle.mystery_io.specs.Readings.{AreEnded, AreEndedBeforeLast, Reading, new_readings}
 use Rattle.output_files.specs.Written.{WrittenFile}
@@ -16,8 +16,8 @@ use Rattle.line_split.specs.Parts.{AreBegun, ArePartsOf, counted}
 abbrev pub before_last : List Reading → List Reading
 before_last readings = take (length readings - 1) readings
 
--- the first files of a call were opened, one after another. All but the last were read to their ends,
--- and every line of those is good
+-- the first files of a call were opened, one after another. All but the last were read to their
+-- ends, and every line of those is good
 pub record ReadsFirst (call : Call) (readings : List Reading) : Type 0 where
   pub named : map (λ (r : Reading). r.name) readings ≡ take (length readings) call.files
   pub ended : AreEndedBeforeLast readings
@@ -27,6 +27,14 @@ pub record ReadsFirst (call : Call) (readings : List Reading) : Type 0 where
 pub record ReadsAll (call : Call) (readings : List Reading) : Type 0 where
   pub named : map (λ (r : Reading). r.name) readings ≡ call.files
   pub ended : AreEnded readings
+
+-- every line that was read is good, but perhaps the last one, whose end may not have come
+pub record AreGoodButLast (readings : List Reading) : Type 0 where
+  pub lines : List FileLine
+  pub rest : List FileLine
+  pub split : all_lines readings ≡ lines ++ rest
+  pub few : length rest ≤ 1
+  pub good : All IsGood lines
 
 -- the files were begun with the first of the lines that were read, which are good
 pub record WritesFirst (call : Call) (readings : List Reading) (made : List WrittenFile)
@@ -61,7 +69,8 @@ Explains call readings made (Err (BadLine file number why)) =
     ReadsFirst call readings × IsFirstBad readings file number why
     × WritesFirst call readings made
 Explains call readings made (Err (File index)) =
-    ReadsFirst call readings × (length readings ≡ index + 1) × WritesFirst call readings made
+    ReadsFirst call readings × (length readings ≡ index + 1) × AreGoodButLast readings
+    × WritesFirst call readings made
 Explains call readings made (Err Write) =
     ReadsFirst call readings × WritesFirst call readings made
 Explains call readings made (Err Memory) =

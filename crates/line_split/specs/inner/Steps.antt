@@ -1,6 +1,6 @@
 -- What the steps of a run do: each splits some lines more.
-use Rattle.std.specs.Prelude.{ℕ, ◌≡◌, ◌+◌, ◌<◌, ◌⊎◌, List, [], ◌∷◌, ◌++◌, All, Bool, IfErr, OnOk, Option, Some, None}
-use Rattle.std.specs.Prelude.{Result, Ok, Err, length, true, ⊤}
+use Rattle.std.specs.Prelude.{ℕ, ◌≡◌, ◌+◌, ◌<◌, ◌≤◌, ◌⊎◌, List, [], ◌∷◌, ◌++◌, All, Bool, IfErr, OnOk}
+use Rattle.std.specs.Prelude.{Option, Some, None, Result, Ok, Err, length, true, ⊤}
 use Rattle.event_lines.specs.Cut.{input_lines}
 use Rattle.mystery_io.specs.Counts.{counted_up}
 use Rattle.mystery_io.specs.Readings.{Reading}
@@ -14,7 +14,7 @@ use Rattle.line_split.specs.CommandLines.{Call}
 use Rattle.line_split.specs.Lines.{FileLine, IsGood, all_lines, lines_from, longest_line, request_of}
 use Rattle.line_split.specs.Parts.{counted, file_count, part_of}
 use Rattle.line_split.specs.Messages.{Outcome}
-use Rattle.line_split.specs.Runs.{Explains, IsFirstBad, ReadsAll, ReadsFirst}
+use Rattle.line_split.specs.Runs.{AreGoodButLast, Explains, IsFirstBad, ReadsAll, ReadsFirst}
 use Rattle.line_split.specs.inner.Pending.{IsBegun, IsOver, Tells, buffer_count}
 
 -- the part of a request, where there is one
@@ -106,7 +106,7 @@ pub record Carried {P : Type 0} (call : Call) (file : ℕ) (bytes : List ℕ)
   pub split : Splits call (lines_from file 1 lines) all_split written faults start now pending later
 
 -- what a fault tells of the lines of a file that were not split: the first of them is bad, and whole;
--- or the file was not read
+-- or the file could not be read on, and at most the line that has not ended is left
 abbrev pub FileCause : ℕ → Bool → List FileLine → SplitFault → Type 0
 FileCause file at_end rest Arguments = ⊥
 FileCause file at_end rest Memory = ⊤
@@ -114,7 +114,7 @@ FileCause file at_end rest (BadLine f line why) = (bad : FileLine) × (after : L
     × (rest ≡ bad ∷ after) × (request_of bad.bytes ≡ Err why) × (f ≡ bad.file)
     × (line ≡ counted bad.number)
     × ((0 < length after) ⊎ (at_end ≡ true) ⊎ (longest_line < length bad.bytes))
-FileCause file at_end rest (File index) = index ≡ file
+FileCause file at_end rest (File index) = (index ≡ file) × (length rest ≤ 1)
 FileCause file at_end rest Write = ⊤
 
 -- the first lines of the bytes of a file were split, and then a fault came
@@ -141,7 +141,7 @@ abbrev pub RunCause : List Reading → SplitFault → Type 0
 RunCause readings Arguments = ⊥
 RunCause readings Memory = ⊤
 RunCause readings (BadLine file line why) = IsFirstBad readings file line why
-RunCause readings (File index) = length readings ≡ index + 1
+RunCause readings (File index) = (length readings ≡ index + 1) × AreGoodButLast readings
 RunCause readings Write = ⊤
 
 -- the first of the lines that were read were written, and then a fault came

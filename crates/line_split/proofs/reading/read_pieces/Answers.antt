@@ -1,9 +1,9 @@
 use Rattle.std.proofs.Common.{◌++◌, ◌∙◌, [], arith, ap, false, refl, take}
 use Rattle.std.proofs.lemmas.Result.{err_from_is_err_and}
 use Rattle.mystery_io.specs.Counts.{counted_up}
-use Rattle.line_split.specs.declared.split_fault.SplitFault.TheVariants.{File, Memory}
+use Rattle.line_split.specs.declared.split_fault.SplitFault.TheVariants.{Memory}
 use Rattle.line_split.specs.inner.Calls.{call_of_line}
-use Rattle.line_split.proofs.CarryLemmas.{stops_here}
+use Rattle.line_split.proofs.CarryLemmas.{stops_here, stops_read}
 use Rattle.line_split.proofs.ReadLemmas.{given_end, given_more}
 use Rattle.line_split.proofs.reading.read_pieces.Goals as goal
 
@@ -32,7 +32,7 @@ returns-in_default-clause-stops g c = λ start before first name is h.
       bytes = at.bytes;
       at_end = false;
       given = c.in_default.ensures.stays ∙ at.given first name is;
-      stops = stops_here (call_of_line c.args.call) c.args.file at.bytes g.P.OutputFiles.written g.P.OutputFiles.faults start c.pieces.outputs before c.pieces.pending _ _ (at.carried start before h) false (File c.args.file) refl;
+      stops = stops_read (call_of_line c.args.call) c.args.file at.bytes g.P.OutputFiles.written g.P.OutputFiles.faults start c.pieces.outputs before c.pieces.pending _ _ (at.carried start before h) at.one;
     }
 
 pub returns-then-count-eq0-clause-read : goal.returns-then-count-eq0-clause-read
