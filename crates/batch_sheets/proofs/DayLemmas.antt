@@ -19,7 +19,7 @@ use Rattle.trace_types.specs.Listing.{ListsExactly}
 use Rattle.std.proofs.lemmas.Bool.{eq-eqb, ne_eqb, cond-true, cond-false, cases_eq, cases_lt}
 use Rattle.std.proofs.lemmas.List.Elements.{All-nil, All-cons, All-head, All-tail, All-weaker, filter-append}
 use Rattle.trace_types.specs.declared.named_trace.NamedTrace.{NamedTrace}
-use Rattle.kept_books.specs.Shown.{named_on}
+use Rattle.book_laws.specs.Shown.{named_on}
 use Rattle.batch_sheets.specs.declared.days.DayTraces.{DayTraces}
 use Rattle.batch_sheets.specs.Splitting.{AreSplit, AreSplitSoFar, named_day, split_day}
 

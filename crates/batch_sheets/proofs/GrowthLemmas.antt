@@ -8,8 +8,8 @@ use Rattle.std.proofs.lemmas.List.Elements.{All-nil, All-cons}
 use Rattle.std.proofs.lemmas.Slice.Eq.{bytes_eq-Decides}
 use Rattle.std.specs.List.{AllZip, enumerate_from, flat_map}
 use Rattle.std.specs.Str.{bytes_eq}
-use Rattle.kept_books.specs.BookLaws.{GrownShows}
-use Rattle.kept_books.specs.Shown.{AreShown, IsShown}
+use Rattle.book_laws.specs.BookLaws.{GrownShows}
+use Rattle.book_laws.specs.Shown.{AreShown, IsShown}
 use Rattle.refute_tests.specs.Clearing.{HaveNamesBelow}
 use Rattle.segment_names.specs.Known.{Known, same_name, with_segments, with_traces}
 use Rattle.segment_names.specs.Limits.{Fits, HasCause, IsKept, IsPassed, PassesLimit}

@@ -15,7 +15,7 @@ use Rattle.trace_types.specs.Segments.{SegmentName, name_of}
 use Rattle.segment_names.specs.Known.{Known, same_name, with_segments}
 use Rattle.segment_names.specs.Naming.{HasUnknown, IsNamed}
 use Rattle.session_rules.specs.KeptTraces.{by_kept, kept_with}
-use Rattle.kept_books.specs.Shown.{IsShown}
+use Rattle.book_laws.specs.Shown.{IsShown}
 use Rattle.batch_sheets.proofs.GrowthLemmas.{name_means, name_own}
 use Rattle.batch_sheets.proofs.ZipLemmas.{zip_weaker}
 

@@ -2,8 +2,8 @@
 use Rattle.std.proofs.Common.{◌≡◌, ℕ, List, [], ◌∷◌, ◌++◌, All, refl, sym, ap, ◌∙◌, subst, append_assoc}
 use Rattle.std.proofs.lemmas.List.Elements.{All-nil, All-cons, All-head, All-tail}
 use Rattle.std.specs.List.{AllZip}
-use Rattle.kept_books.specs.BookLaws.{GrownShows}
-use Rattle.kept_books.specs.Shown.{AreShown}
+use Rattle.book_laws.specs.BookLaws.{GrownShows}
+use Rattle.book_laws.specs.Shown.{AreShown}
 use Rattle.segment_names.specs.Known.{Known}
 use Rattle.segment_names.specs.Limits.{HasCause, IsKept, PassesLimit}
 use Rattle.segment_names.specs.declared.name_fault.NameFault.{NameFault}

@@ -1,12 +1,12 @@
 -- The watch lines of a day, from what a recorder tells.
 use Rattle.std.proofs.Common.{◌≡◌, ℕ, List, ◌++◌, ap, ◌∙◌, subst}
 use Rattle.trace_types.specs.declared.named_trace.NamedTrace.{NamedTrace}
-use Rattle.trace_pass.specs.Halving.{shares_of}
+use Rattle.trace_rules.specs.Halving.{shares_of}
 use Rattle.trace_pass.specs.Meaning.{NumbersAreWithin}
 use Rattle.trace_pass.specs.Rows.{LackOnlyRefuted}
 use Rattle.trace_pass.specs.States.{RecorderState, RecordingState, first_recording}
 use Rattle.trace_pass.specs.Watch.{AreNumberedWatchLines, HasWatched}
-use Rattle.trace_pass.specs.declared.watch_lines.WatchLine.{WatchLine}
+use Rattle.trace_rules.specs.declared.watch_line.WatchLine.{WatchLine}
 
 pub day_lines : NumbersAreWithin → (every width workers : ℕ) (traces : List NamedTrace) (r : RecorderState) (old new : RecordingState) (lines : List WatchLine) → old ≡ first_recording r → r.table.all ≡ workers
     → HasWatched every width (shares_of traces old.pass.view.shares) old new lines → new.traces ≡ old.traces ++ traces → LackOnlyRefuted new.pass.view.readings new.traces → AreNumberedWatchLines every workers traces lines

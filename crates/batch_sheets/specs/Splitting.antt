@@ -1,7 +1,7 @@
 -- Traces that are split by their days.
 use Rattle.std.specs.Prelude.{◌≡◌, ℕ, ◌<◌, List, All, length, map}
+use Rattle.book_laws.specs.Shown.{named_on}
 use Rattle.day_partitions.specs.declared.dated_sheet.DatedSheet.{DatedSheet}
-use Rattle.kept_books.specs.Shown.{named_on}
 use Rattle.trace_types.specs.declared.named_trace.NamedTrace.{NamedTrace}
 use Rattle.batch_sheets.specs.declared.days.DayTraces.{DayTraces}
 

@@ -1,7 +1,7 @@
 ghost use Rattle.std.specs.Prelude.{◌≡◌, ◌<◌, ◌≤◌, ◌++◌, ◌∷◌, [], All, List, length, map};
 ghost use Rattle.std.specs.Prelude.{IfErr, IfOk, OnOk};
 ghost use Rattle.std.specs.List.{AllZip};
-ghost use Rattle.kept_books.specs.Shown.{AreShown};
+ghost use Rattle.book_laws.specs.Shown.{AreShown};
 ghost use Rattle.refute_tests.specs.Clearing.{HaveNamesBelow};
 ghost use Rattle.segment_names.specs.Known.{with_traces};
 ghost use Rattle.segment_names.specs.Limits.{HasCause, PassesLimit};
@@ -17,8 +17,8 @@ ghost use Rattle.batch_sheets.specs.inner.Growth.{PassesIfNew};
 
 use crate::known_names::{NamedOrNew, name_known_parts};
 use crate::parts::LEAST_PART;
+use book_laws::laws::grown_shows;
 use event_table::Texts;
-use kept_books::laws::grown_shows;
 use segment_cut::CutTrace;
 use segment_names::{Catalogue, NameFault, NameOne};
 use std::alloc::{AllocError, Global};

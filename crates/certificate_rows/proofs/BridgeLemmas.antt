@@ -8,7 +8,7 @@ use Rattle.certificates.specs.declared.matter.Matter.TheVariants.{Before, Exclus
 use Rattle.counterexamples.specs.ShownClaims.{relation_between}
 use Rattle.hypothesis_index.specs.Refuting.{Refutes}
 use Rattle.hypothesis_index.specs.declared.relation.Relation.TheVariants as relation
-use Rattle.kept_books.specs.Shown.{IsShown}
+use Rattle.book_laws.specs.Shown.{IsShown}
 use Rattle.segment_names.specs.Known.{Known}
 use Rattle.segment_names.specs.Limits.{IsKept}
 use Rattle.session_rules.specs.KeptTraces.{Kept, by_kept}

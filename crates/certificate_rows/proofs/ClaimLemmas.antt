@@ -15,8 +15,8 @@ use Rattle.counterexamples.specs.ShownClaims.{IsShownClaim, matter_numbers, rela
 use Rattle.day_partitions.specs.Books.{BookState, IsBook, all_traces, traces_kept_on}
 use Rattle.hypothesis_index.specs.Refuting.{Refutes}
 use Rattle.hypothesis_index.specs.declared.relation.Relation.{Relation}
-use Rattle.kept_books.specs.Shown as books
-use Rattle.kept_books.specs.Shown.{AreShown}
+use Rattle.book_laws.specs.Shown as books
+use Rattle.book_laws.specs.Shown.{AreShown}
 use Rattle.segment_names.specs.Known.{Known, name_number, same_name, task_number}
 use Rattle.session_rules.specs.KeptTraces.{Kept, is_of_day, traces_on}
 use Rattle.session_rules.specs.Refutations.{IsClaimShown}

@@ -14,7 +14,7 @@ use Rattle.counterexamples.specs.FirstRefuters.{FindingTable}
 use Rattle.day_partitions.specs.Books.{AreOfDay, BookState, IsBook, KeptDay, all_traces}
 use Rattle.hypothesis_index.specs.Refuting.{Refutes}
 use Rattle.hypothesis_index.specs.declared.relation.Relation.{Relation}
-use Rattle.kept_books.specs.Shown.{AreShown, IsShown}
+use Rattle.book_laws.specs.Shown.{AreShown, IsShown}
 use Rattle.segment_names.specs.Known.{Known}
 use Rattle.session_rules.specs.CertificateTexts.{IsRefutedText, matter_fields, refuted_row}
 use Rattle.session_rules.specs.KeptTraces.{Kept, day_of, is_of_day, traces_on}

@@ -5,7 +5,7 @@ ghost use Rattle.certificate_rows.specs.inner.Sources.{IsKeptThere, IsSource, co
 
 use crate::kind::Kind;
 use counterexamples::{Finding, FirstRefuters};
-use named_books::KeptBook;
+use kept_books::KeptBook;
 use trace_types::NamedTrace;
 
 /// What a certificate is printed of.

@@ -6,7 +6,7 @@ use Rattle.drill_input.specs.DrillInput.{drill_input}
 use Rattle.event_lines.specs.InputLines.{lines_said}
 use Rattle.event_lines.specs.declared.command.Command.TheVariants as commands
 use Rattle.event_lines.specs.declared.line.Line.TheVariants as lines
-use Rattle.job_runs.specs.JobTexts.{IsTextToLimit}
+use Rattle.session_rules.specs.JobTexts.{IsTextToLimit}
 use Rattle.mystery_io.specs.Input.{input_read}
 use Rattle.mystery_io.specs.ReadFaults.{FilesSeen}
 use Rattle.mystery_run.specs.CommandLines.{Call, call_of, certificate_of, certificate_of_action, drill, files_of, files_of_action}

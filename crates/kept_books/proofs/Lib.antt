@@ -1,9 +1,1 @@
-mod BookLemmas
-mod GraphLemmas
-mod GrownLemmas
-mod LawLemmas
 mod NameLemmas
-mod PastLemmas
-mod SheetLemmas
-mod TakenLemmas
-mod ZipLemmas

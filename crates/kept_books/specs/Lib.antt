@@ -1,5 +1,1 @@
-pub mod BookLaws
-pub mod GraphLaws
-pub mod NameLaws
-pub mod PastJobs
-pub mod Shown
+pub mod KeptBooks

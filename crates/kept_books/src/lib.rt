@@ -1,5 +1,7 @@
-//! How a book of days has the kept traces of a session, under the numbers of a catalogue, and what
-//! each change of the book does to them: laws over the definitions alone.
+//! A book of days with the catalogue of its names: both grow together, so that the book has room
+//! for exactly the names of the catalogue.
 #![tactic(auto)]
 
-pub mod laws;
+mod kept_book;
+
+pub use kept_book::KeptBook;

@@ -15,16 +15,17 @@ use Rattle.trace_types.specs.declared.named_trace.NamedTrace.{NamedTrace}
 use Rattle.trace_types.specs.NamedSegments.{number_of_name}
 use Rattle.trace_types.specs.Parts.{by_number, segments_of}
 use Rattle.trace_types.specs.SegmentLists.{NamesDiffer}
-use Rattle.trace_paths.specs.CriticalPaths.{AreCriticalPaths, IsCriticalPath, IsNamedPath, IsPathUnder}
-use Rattle.trace_paths.specs.Durations.{duration, durations_of, has_name, paths_with, time_on}
+use Rattle.trace_rules.specs.CriticalPaths.{AreCriticalPaths, IsCriticalPath}
+use Rattle.trace_paths.specs.NumberedPaths.{IsNamedPath, IsPathUnder}
+use Rattle.trace_rules.specs.Durations.{duration, durations_of, has_name, paths_with, time_on}
 use Rattle.trace_paths.specs.NameOrders.{number_cmp}
 use Rattle.trace_paths.specs.Tables.{IsTableOf}
 use Rattle.trace_types.specs.Segments.{SegmentName}
 use Rattle.latency_report.specs.declared.segment_row.SegmentRow.{SegmentRow}
 use Rattle.latency_report.specs.inner.TableRows.{AreRowsFrom, IsRowFrom}
 use Rattle.trace_paths.specs.Tables.{list_at}
-use Rattle.latency_report.specs.Numbers.{AreFigures}
-use Rattle.latency_report.specs.Reports.{IsRowOf}
+use Rattle.trace_rules.specs.Numbers.{AreFigures}
+use Rattle.trace_rules.specs.ReportRows.{AreFiguresOf}
 
 abbrev Seg : Type 0
 Seg = NamedSegment
@@ -166,7 +167,7 @@ short_paths names paths table t named few = short_table names paths (joined path
 
 -- a row from the tables is a row of the name
 pub row_of : (names : ℕ) (traces : List NamedTrace) (segments : List Seg) (paths : List (List Seg)) (durations on_paths : List (List ℕ)) (row : SegmentRow) → segments ≡ segments_of by_number traces
-    → IsTableOf names segments durations → IsTableOf names (joined paths) on_paths → All (IsNamedPath names) paths → IsRowFrom durations on_paths row → IsRowOf by_number eqb traces paths row.name row
+    → IsTableOf names segments durations → IsTableOf names (joined paths) on_paths → All (IsNamedPath names) paths → IsRowFrom durations on_paths row → AreFiguresOf by_number eqb traces paths row.name row.figures row.on_path row.on_path_sum
 row_of names traces segments paths durations on_paths row is all steps named r =
     let many = all.count in
     let below = r.below in

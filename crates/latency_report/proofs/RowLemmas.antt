@@ -11,9 +11,9 @@ use Rattle.std.proofs.lemmas.List.Concat.{flat_map-append}
 use Rattle.std.proofs.lemmas.List.Elements.{Contains-get_or}
 use Rattle.std.proofs.lemmas.Option.{slice_get-get_or, slice_get-map, slice_get_within}
 use Rattle.trace_types.specs.Listing.{ListsExactly}
-use Rattle.latency_report.specs.declared.figures.Figures.{Figures}
+use Rattle.trace_rules.specs.declared.figures.Figures.{Figures}
 use Rattle.trace_paths.specs.Tables.{list_at}
-use Rattle.latency_report.specs.Numbers.{AreFigures}
+use Rattle.trace_rules.specs.Numbers.{AreFigures}
 
 -- the lists that a list of vectors shows
 abbrev pub shown : {Z : Type 0} → List (Vec ℕ Z) → List (List ℕ)

@@ -1,4 +1,5 @@
-use crate::{Figures, SegmentRowList};
+use crate::SegmentRowList;
+use trace_rules::Figures;
 
 /// The report over the kept traces. Times are in nanoseconds.
 #[derive(Debug, Drop)]

@@ -2,7 +2,6 @@
 //! paths are, and for each segment how long it lasts, and on how many critical paths it is.
 #![tactic(auto)]
 
-mod figures;
 mod full_report;
 mod measuring;
 mod reporting;
@@ -13,7 +12,6 @@ mod tables;
 #[cfg(test)]
 mod tests;
 
-pub use figures::Figures;
 pub use full_report::FullReport;
 pub use reporting::report;
 pub use segment_row::SegmentRow;

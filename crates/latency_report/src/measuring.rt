@@ -1,7 +1,7 @@
 ghost use Rattle.std.specs.Prelude.{◌≡◌, ◌^◌, ◌<◌, length, sum};
-ghost use Rattle.latency_report.specs.Numbers.{AreFigures, IsGreatest, OrZero};
+ghost use Rattle.trace_rules.specs.Numbers.{AreFigures, IsGreatest, OrZero};
 
-use crate::Figures;
+use trace_rules::Figures;
 
 /// Adds numbers up, and finds the greatest; 0 where there is none.
 pub(crate) fn sum_and_greatest(numbers: &[u64]) -> (u128, u64)

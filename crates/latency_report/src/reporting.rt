@@ -1,20 +1,21 @@
 ghost use Rattle.std.specs.Prelude.{IfOk};
 ghost use Rattle.latency_report.specs.Reports.{IsReport};
-ghost use Rattle.named_books.specs.KeptBooks.{IsKeptBook, traces_in};
+ghost use Rattle.kept_books.specs.KeptBooks.{IsKeptBook, traces_in};
 
 use crate::rows::make_rows;
 use crate::tables::{add_lengths, measure_latencies, tabulate_paths, tabulate_traces};
 use crate::{FullReport, SegmentRowList};
+use kept_books::KeptBook;
 use model_meet::Model;
-use named_books::KeptBook;
 use std::alloc::{AllocError, Global};
 use std::thread::Threads;
 use trace_paths::{critical_paths, kept_traces};
+use worker_limit::WorkerLimit;
 
-/// Reports on the kept traces of a book. The critical paths are found by all processors; the rest
+/// Reports on the kept traces of a book. The critical paths are found by the workers; the rest
 /// takes one pass over the traces. The only error is that memory ran out.
 pub fn report<R: Threads + Sync>(
-    rt: &R,
+    workers: &WorkerLimit<'_, R>,
     alloc: Global,
     book: &KeptBook,
 ) -> Result<FullReport, AllocError>
@@ -24,7 +25,7 @@ pub fn report<R: Threads + Sync>(
     let names = book.names();
     let model = Model::new(book.words(), names);
     let traces = kept_traces(alloc, book.day_book())?;
-    let paths = critical_paths(rt, alloc, &traces, &model)?;
+    let paths = critical_paths(workers, alloc, &traces, &model)?;
     let durations = tabulate_traces(alloc, names, &traces)?;
     let on_paths = tabulate_paths(alloc, names, &paths)?;
     let latency = measure_latencies(alloc, &traces)?;

@@ -1,15 +1,17 @@
-ghost use Rattle.std.specs.Prelude.{◌≡◌, ◌^◌, ◌<◌, ℕ, List, All, length, map, nat_lt, slice_index_or};
+ghost use Rattle.std.specs.Prelude.{◌≡◌, ◌^◌, ◌<◌, ℕ, List, All, length, map, nat_lt};
+ghost use Rattle.std.specs.Prelude.{slice_index_or};
 ghost use Rattle.std.specs.Prelude.{IfOk};
-ghost use Rattle.latency_report.specs.Numbers.{AreFigures};
-ghost use Rattle.latency_report.specs.inner.TableRows.{AreRowsFrom};
-ghost use Rattle.latency_report.specs.declared.figures.Figures.{Figures};
 ghost use Rattle.trace_paths.specs.Tables.{list_at};
+ghost use Rattle.trace_rules.specs.Numbers.{AreFigures};
+ghost use Rattle.trace_rules.specs.declared.figures.Figures.{Figures};
+ghost use Rattle.latency_report.specs.inner.TableRows.{AreRowsFrom};
 
+use crate::SegmentRow;
 use crate::measuring::{measure, sum_and_greatest};
-use crate::{Figures, SegmentRow};
 use segment_names::Catalogue;
 use std::alloc::{AllocError, Global};
 use trace_paths::{DurationTable, names_in_order};
+use trace_rules::Figures;
 
 /// Measures each list of a table, which it uses up.
 fn measure_each(alloc: Global, table: DurationTable) -> Result<Vec<Figures>, AllocError>

@@ -1,4 +1,4 @@
-use crate::Figures;
+use trace_rules::Figures;
 
 /// The figures of the segments with one name, in nanoseconds.
 #[derive(Clone, Copy, Debug, PartialEq, Eq)]

@@ -2,18 +2,18 @@ ghost use Rattle.std.specs.Prelude.{◌≡◌, ◌*◌, ◌^◌, ◌<◌, ◌≤
 ghost use Rattle.std.specs.Borrow.{Bor};
 ghost use Rattle.std.specs.List.{flat_map};
 ghost use Rattle.refute_tests.specs.Clearing.{HaveNamesBelow};
-ghost use Rattle.latency_report.specs.Numbers.{AreFigures};
-ghost use Rattle.trace_paths.specs.CriticalPaths.{IsNamedPath};
-ghost use Rattle.trace_paths.specs.Durations.{path_length};
+ghost use Rattle.trace_paths.specs.NumberedPaths.{IsNamedPath};
 ghost use Rattle.trace_paths.specs.Tables.{IsTableOf};
-ghost use Rattle.trace_types.specs.Parts.{by_number, segments_of};
+ghost use Rattle.trace_rules.specs.Numbers.{AreFigures};
+ghost use Rattle.trace_rules.specs.Durations.{path_length};
+ghost use Rattle.trace_types.specs.Parts.{by_number};
 ghost use Rattle.trace_types.specs.declared.named_segment.NamedSegment.{NamedSegment};
 ghost use Rattle.trace_types.specs.declared.named_trace.NamedTrace.{NamedTrace};
 
-use crate::Figures;
 use crate::measuring::measure;
 use std::alloc::{AllocError, Global};
 use trace_paths::DurationTable;
+use trace_rules::Figures;
 use trace_types::{NamedSegment, NamedSegmentList, NamedTrace};
 
 /// Lists how long the traces' segments last, by the numbers of their names.

@@ -1,6 +1,7 @@
 use crate::measuring::measure;
-use crate::{Figures, SegmentRow, SegmentRowList};
+use crate::{SegmentRow, SegmentRowList};
 use std::test::Fail;
+use trace_rules::Figures;
 
 #[test]
 fn the_lower_of_two_in_the_middle_is_the_median(rt: HostRuntime) -> Result<(), Fail> {

@@ -18,7 +18,7 @@ use Rattle.trace_types.specs.Surviving.{IsRefuted}
 use Rattle.refute_tests.specs.Clearing.{HaveNamesBelow}
 use Rattle.model_meet.specs.CountLaws.{CountsAreOne, HaveTasksBelow, NoLineIsLeftOut, NumbersAreOrdered}
 use Rattle.model_meet.specs.Counting.{CountsPairs}
-use Rattle.model_meet.specs.Pipes.{IsPipeline}
+use Rattle.trace_rules.specs.Pipes.{IsPipeline}
 use Rattle.model_meet.specs.declared.counts.Counts.{Counts}
 use Rattle.model_meet.proofs.CountingLemmas.{exactly_alike}
 

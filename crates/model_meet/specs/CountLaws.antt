@@ -2,16 +2,16 @@
 use Rattle.std.specs.Ordering.{nat_cmp}
 use Rattle.std.specs.Prelude.{◌≡◌, ℕ, ◌<◌, List, All}
 use Rattle.std.specs.declared.cmp.Ordering.{Ordering}
-use Rattle.model_meet.specs.Counting.{OrdersBelow}
-use Rattle.model_meet.specs.LineCounts.{AreCounts}
-use Rattle.model_meet.specs.Pipes.{IsPipeline}
-use Rattle.model_meet.specs.declared.counts.Counts.{Counts}
 use Rattle.refute_tests.specs.Clearing.{HaveNamesBelow}
+use Rattle.trace_rules.specs.Pipes.{IsPipeline}
 use Rattle.trace_types.specs.Listing.{AreExactly}
 use Rattle.trace_types.specs.declared.named_segment.NamedSegment.{NamedSegment}
 use Rattle.trace_types.specs.declared.named_trace.NamedTrace.{NamedTrace}
 use Rattle.trace_types.specs.Parts.{by_number}
 use Rattle.trace_types.specs.Relations.{HappensBefore, ExcludesUnordered}
+use Rattle.model_meet.specs.Counting.{OrdersBelow}
+use Rattle.model_meet.specs.LineCounts.{AreCounts}
+use Rattle.model_meet.specs.declared.counts.Counts.{Counts}
 
 -- all tasks of the trace are below this number
 abbrev pub HaveTasksBelow : ℕ → NamedTrace → Type 0

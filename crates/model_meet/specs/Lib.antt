@@ -3,7 +3,6 @@ pub mod Counting
 pub mod ExclusionTables
 pub mod LineCounts
 pub mod ModelStates
-pub mod Pipes
 pub mod RelationBits
 pub mod Telling
 pub mod inner

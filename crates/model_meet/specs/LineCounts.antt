@@ -3,7 +3,7 @@ use Rattle.std.specs.Prelude.{ℕ, ◌<◌, List}
 use Rattle.std.specs.declared.cmp.Ordering.{Ordering}
 use Rattle.model_meet.specs.Counting.{CountsPairs, OrdersBelow}
 use Rattle.model_meet.specs.ModelStates.{ModelState}
-use Rattle.model_meet.specs.Pipes.{IsPipeline}
+use Rattle.trace_rules.specs.Pipes.{IsPipeline}
 use Rattle.model_meet.specs.RelationBits.{HasOrder, HasExclusion, HasPipe}
 use Rattle.model_meet.specs.declared.counts.Counts.{Counts}
 use Rattle.trace_types.specs.declared.named_trace.NamedTrace.{NamedTrace}

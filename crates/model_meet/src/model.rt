@@ -38,25 +38,25 @@ fn rising(a: u32, b: u32) -> (u32, u32)
 
 impl<'a> Model<'a> {
     ghost use Rattle.std.specs.Prelude.{◌≡◌, ◌≢◌, ◌≤◌, ◌<◌, ◌↔◌, ℕ, List, length, IsTrue};
+    ghost use Rattle.std.specs.declared.cmp.Ordering.{Ordering};
+    ghost use Rattle.std.specs.declared.cmp.Ordering.TheVariants.{Less};
     ghost use Rattle.hypothesis_index.specs.Places.{IsRelation, NamesBelow, width_of};
     ghost use Rattle.hypothesis_index.specs.declared.relation.Relation.TheVariants.{Apart, Before};
     ghost use Rattle.hypothesis_index.specs.declared.relation.Relation.TheVariants.{Exclusive};
     ghost use Rattle.hypothesis_index.specs.declared.relation.Relation.TheVariants.{Pipe, Unshared};
-    ghost use Rattle.std.specs.declared.cmp.Ordering.{Ordering};
-    ghost use Rattle.std.specs.declared.cmp.Ordering.TheVariants.{Less};
-    ghost use Rattle.model_meet.specs.LineCounts.{AreCounts, AreCountsOfBits};
-    ghost use Rattle.model_meet.specs.Pipes.{IsPipeline};
-    ghost use Rattle.model_meet.specs.ExclusionTables.{TellsExclusions};
-    ghost use Rattle.model_meet.specs.RelationBits.{KeepsExclusion, bit_between, relation_bit};
-    ghost use Rattle.model_meet.specs.RelationBits.{HasExclusion, HasOrder, HasPipe};
-    ghost use Rattle.model_meet.specs.Telling.{TellsOf};
     ghost use Rattle.refute_tests.specs.Survivors.{AreSurvivors};
+    ghost use Rattle.trace_rules.specs.Pipes.{IsPipeline};
     ghost use Rattle.trace_types.specs.Parts.{by_number};
     ghost use Rattle.trace_types.specs.Pipelines.{RefutesPipe, RefutesUnshared};
     ghost use Rattle.trace_types.specs.Refuting.{RefutesBefore, RefutesExclusive, RefutesApart};
     ghost use Rattle.trace_types.specs.Relations.{ExcludesUnordered, HappensBefore};
     ghost use Rattle.trace_types.specs.Surviving.{IsRefuted, Survives};
     ghost use Rattle.trace_types.specs.declared.named_trace.NamedTrace.{NamedTrace};
+    ghost use Rattle.model_meet.specs.LineCounts.{AreCounts, AreCountsOfBits};
+    ghost use Rattle.model_meet.specs.ExclusionTables.{TellsExclusions};
+    ghost use Rattle.model_meet.specs.RelationBits.{KeepsExclusion, bit_between, relation_bit};
+    ghost use Rattle.model_meet.specs.RelationBits.{HasExclusion, HasOrder, HasPipe};
+    ghost use Rattle.model_meet.specs.Telling.{TellsOf};
 
     /// Makes the model of these words, of which there are `width(names)`; names are at most 512. It
     /// takes no memory.

@@ -12,8 +12,8 @@ use Rattle.mystery_run.specs.Runs.{OfInputs}
 use Rattle.mystery_run.specs.Texts.{IsTextOf, IsTextUpTo}
 use Rattle.mystery_run.specs.Works.{BadInput, Work, Jobs, Steps, work_said}
 use Rattle.mystery_run.proofs.ReadingLemmas.{size_apart}
-use Rattle.job_runs.specs.EndingLaws.{AreAlike, JobsStopAtOneLimit, TextsToLimitAreAlike, WholeStopsAtNoLimit, WholeTextsAreAlike}
-use Rattle.job_runs.specs.WatchLaws.{AlikeTextsDifferInNumbers, DifferInWatchNumbers}
+use Rattle.session_laws.specs.EndingLaws.{AreAlike, JobsStopAtOneLimit, TextsToLimitAreAlike, WholeStopsAtNoLimit, WholeTextsAreAlike}
+use Rattle.session_laws.specs.WatchLaws.{AlikeTextsDifferInNumbers, DifferInWatchNumbers}
 
 -- what a certificate and an input said is one thing
 one_work : (said : Result Work BadInput) (a b : Work) → said ≡ Ok a → said ≡ Ok b → b ≡ a

@@ -7,7 +7,7 @@ use Rattle.mystery_io.specs.Prefixes.{AppendsPrefix}
 use Rattle.mystery_io.specs.Input.{input_read}
 use Rattle.mystery_io.specs.ReadFaults.{OpensFirst}
 use Rattle.mystery_io.specs.Readings.{AreEnded}
-use Rattle.job_runs.specs.Running.{WritesWhole}
+use Rattle.session.specs.Running.{WritesWhole}
 use Rattle.session_rules.specs.Sessions.{first_state}
 use Rattle.session_rules.specs.declared.job.Job.{Job}
 use Rattle.mystery_run.specs.declared.outcome.Outcome.{Outcome}

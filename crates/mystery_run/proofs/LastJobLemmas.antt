@@ -8,9 +8,9 @@ use Rattle.event_lines.specs.GoodLines.{IsLimited, IsTimely}
 use Rattle.event_lines.specs.declared.command.Command.TheVariants as commands
 use Rattle.event_lines.specs.declared.line.Line.{Line}
 use Rattle.event_lines.specs.declared.line.Line.TheVariants as line_kinds
-use Rattle.job_runs.specs.ReadyLaws.{IsFurther, JobsAreReady}
-use Rattle.job_runs.specs.Running.{AreReady}
-use Rattle.session.specs.Carrying.{IsReady, requests_in}
+use Rattle.session_laws.specs.ReadyLaws.{IsFurther, JobsAreReady}
+use Rattle.session_rules.specs.ReadyJobs.{AreReady}
+use Rattle.session_rules.specs.ReadyJobs.{IsReady, requests_in}
 use Rattle.session_rules.specs.Jobs.{jobs_of}
 use Rattle.session_rules.specs.declared.job.Job.{Job}
 use Rattle.session_rules.specs.declared.job.Job.TheVariants.{Control}

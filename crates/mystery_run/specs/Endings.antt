@@ -5,7 +5,6 @@ use Rattle.std.specs.Io.KnownBytes.{append_known}
 use Rattle.mystery_io.specs.Prefixes.{AppendsPrefix}
 use Rattle.session.specs.declared.command_fault.CommandFault.{CommandFault}
 use Rattle.session.specs.declared.command_fault.CommandFault.TheVariants as faults
-use Rattle.session_rules.specs.declared.limit.Limit.TheVariants.{Names, Tasks, Days}
 use Rattle.mystery_run.specs.declared.outcome.Outcome.{Outcome}
 use Rattle.mystery_run.specs.declared.outcome.Outcome.TheVariants.{Done, Memory, Arguments, BadLine}
 use Rattle.mystery_run.specs.declared.outcome.Outcome.TheVariants.{File, Write, Size, Over}
@@ -76,6 +75,4 @@ IsDecided Write = ⊥
 abbrev pub outcome_of : CommandFault → Outcome
 outcome_of faults.Memory = Memory
 outcome_of faults.Write = Write
-outcome_of (faults.TooManyDays days) = Over (Days days)
-outcome_of (faults.TooManyNames count) = Over (Names count)
-outcome_of (faults.TooManyTasks count) = Over (Tasks count)
+outcome_of (faults.Over limit) = Over limit

@@ -1,6 +1,6 @@
 -- The text of a work, whole and cut short.
 use Rattle.std.specs.Prelude.{ℕ, ◌≡◌, List}
-use Rattle.job_runs.specs.JobTexts.{IsText, IsTextToLimit, IsTextOfFirst}
+use Rattle.session_rules.specs.JobTexts.{IsText, IsTextToLimit, IsTextOfFirst}
 use Rattle.session_rules.specs.Sessions.{State}
 use Rattle.session_rules.specs.declared.limit.Limit.{Limit}
 use Rattle.mystery_run.specs.ReplayTexts.{replay_text}

@@ -3,7 +3,7 @@ ghost use Rattle.std.specs.Prelude.{OnOk};
 ghost use Rattle.event_lines.specs.declared.command.Command.TheVariants.{Add};
 ghost use Rattle.event_lines.specs.declared.line.Line.TheVariants.{Control};
 ghost use Rattle.event_lines.specs.InputLines.{IsLineError};
-ghost use Rattle.job_runs.specs.Running.{AreReady};
+ghost use Rattle.session_rules.specs.ReadyJobs.{AreReady};
 ghost use Rattle.mystery_run.specs.Works.{Jobs, work_from, jobs_with};
 ghost use Rattle.mystery_run.specs.inner.Inputs.{IsWithinLimit, lines_said_by};
 ghost use Rattle.mystery_run.specs.inner.LastJobs.{IsLastJob};
@@ -11,8 +11,8 @@ ghost use Rattle.mystery_run.specs.inner.LastJobs.{IsLastJob};
 use crate::input::Input;
 use event_lines::laws::lines_of_an_input_are_good;
 use event_lines::{Command, LineError, LineParts, read_lines};
-use job_runs::laws::jobs_are_ready;
 use session::{Job, jobs};
+use session_laws::laws::jobs_are_ready;
 use std::alloc::{AllocError, Global};
 use std::thread::Threads;
 

@@ -1,10 +1,10 @@
 //! What holds of the definitions, each law a function that does nothing. Those on a run speak of any
 //! outcome that `explained`, the clause of `run`, allows.
 ghost use Rattle.std.specs.Prelude.{◌≡◌, ◌≤◌, ◌==◌, ◌⊎◌, ℕ, List, [], false, not};
-ghost use Rattle.job_runs.specs.WatchLaws.{DifferInWatchNumbers};
 ghost use Rattle.mystery_io.specs.Honest.{AreHonest};
 ghost use Rattle.mystery_io.specs.Input.{input_of};
 ghost use Rattle.mystery_io.specs.ReadFaults.{OpensFirst};
+ghost use Rattle.session_laws.specs.WatchLaws.{DifferInWatchNumbers};
 ghost use Rattle.session_rules.specs.declared.limit.Limit.{Limit};
 ghost use Rattle.mystery_run.specs.declared.outcome.Outcome.{Outcome};
 ghost use Rattle.mystery_run.specs.declared.outcome.Outcome.TheVariants.{BadLine, Done, File, Memory};
@@ -17,8 +17,8 @@ ghost use Rattle.mystery_run.specs.Messages.{status_of};
 ghost use Rattle.mystery_run.specs.Readings.{FailsAt, PassesSize};
 ghost use Rattle.mystery_run.specs.Runs.{EndsAs, Explains, OfInputs, ReadsAll, Seen};
 
-use job_runs::laws::{jobs_end_in_one_way, only_watch_numbers_differ};
 use mystery_io::laws::honest_files_give_contents;
+use session_laws::laws::{jobs_end_in_one_way, only_watch_numbers_differ};
 
 /// States that arguments, a certificate and an input have one ending, where no memory, file or sink
 /// fails.

@@ -88,15 +88,7 @@ impl From<CommandFault> for Outcome {
         match fault {
             CommandFault::Memory => Outcome::Memory,
             CommandFault::Write => Outcome::Write,
-            CommandFault::TooManyDays { days } => Outcome::Over {
-                limit: Limit::Days { count: days },
-            },
-            CommandFault::TooManyNames { count } => Outcome::Over {
-                limit: Limit::Names { count },
-            },
-            CommandFault::TooManyTasks { count } => Outcome::Over {
-                limit: Limit::Tasks { count },
-            },
+            CommandFault::Over { limit } => Outcome::Over { limit },
         }
     }
 }

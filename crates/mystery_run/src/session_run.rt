@@ -1,5 +1,5 @@
 ghost use Rattle.std.specs.Prelude.{◌≡◌, ◌≤◌, ◌<◌, IfSome};
-ghost use Rattle.job_runs.specs.Running.{AreReady};
+ghost use Rattle.session_rules.specs.ReadyJobs.{AreReady};
 ghost use Rattle.mystery_run.specs.Works.{Jobs, work_from};
 ghost use Rattle.mystery_run.specs.inner.InputEnds.{InputEnds};
 ghost use Rattle.mystery_run.specs.inner.Inputs.{IsWithinLimit, lines_said_by};
@@ -11,9 +11,8 @@ use crate::input::Input;
 use crate::job_reading::read_jobs;
 use crate::{Outcome, Reason};
 use event_lines::LineError;
-use job_runs::run_jobs;
 use mystery_io::{Gate, Sink};
-use session::Job;
+use session::{Job, run_jobs};
 use std::alloc::Global;
 use std::thread::Threads;
 

@@ -9,7 +9,8 @@ use pipeline_tests::DaySheet;
 use std::alloc::Global;
 use std::test::Fail;
 use std::thread::Threads;
-use trace_pass::{Recorder, WatchLine, WatchLines, offer_all};
+use trace_pass::{Recorder, WatchLines, offer_all};
+use trace_rules::WatchLine;
 use trace_types::NamedTrace;
 
 /// Offers such a day by so many workers through a gate and closes. Gives nothing where memory ran

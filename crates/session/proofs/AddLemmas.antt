@@ -5,8 +5,8 @@ use Rattle.day_partitions.specs.Batches.{HasRoomFor, new_days, with_all}
 use Rattle.day_partitions.specs.Books.{BookState, all_traces}
 use Rattle.day_partitions.specs.declared.dated_sheet.DatedSheet.{DatedSheet}
 use Rattle.batch_sheets.specs.declared.recording.DayLines.{DayLines}
-use Rattle.kept_books.specs.BookLaws.{DaysAreCounted, GrownShows, SheetsShow}
-use Rattle.kept_books.specs.Shown.{AreShown}
+use Rattle.book_laws.specs.BookLaws.{DaysAreCounted, GrownShows, SheetsShow}
+use Rattle.book_laws.specs.Shown.{AreShown}
 use Rattle.std.specs.Ordering.{nat_cmp}
 use Rattle.trace_types.specs.Listing.{ListsExactly}
 use Rattle.segment_names.specs.Known.{with_traces}

@@ -7,8 +7,8 @@ use Rattle.day_partitions.specs.Books.{BookState, IsBook}
 use Rattle.day_partitions.specs.declared.add_all_fault.AddAllFault.{AddAllFault}
 use Rattle.day_partitions.specs.declared.add_all_fault.AddAllFault.TheVariants as sheeting
 use Rattle.day_partitions.specs.declared.dated_sheet.DatedSheet.{DatedSheet}
-use Rattle.kept_books.specs.Shown.{AreShown}
-use Rattle.named_books.specs.KeptBooks.{KeptState, under_catalogue}
+use Rattle.book_laws.specs.Shown.{AreShown}
+use Rattle.kept_books.specs.KeptBooks.{KeptState, under_catalogue}
 use Rattle.segment_names.specs.Known.{Known, with_traces}
 use Rattle.segment_names.specs.Limits.{HasCause, IsKept, PassesLimit}
 use Rattle.segment_names.specs.declared.name_fault.NameFault.{NameFault}

@@ -9,7 +9,6 @@ use Rattle.session_rules.specs.Parts.{IsPart, Part}
 use Rattle.session_rules.specs.Sessions.{Adds, Does, State}
 use Rattle.session_rules.specs.declared.job.Job.{Job}
 use Rattle.session_rules.specs.declared.job.Job.TheVariants.{Add}
-use Rattle.session_rules.specs.declared.limit.Limit.TheVariants.{Names, Tasks, Days}
 use Rattle.session_rules.specs.declared.refused.Refused.{Refused}
 use Rattle.text_rows.specs.PartsFollow.{FlushCutsParts, FlushEndsParts}
 use Rattle.text_rows.specs.Printing.{Prints, print_faults}
@@ -42,16 +41,12 @@ print_no_limit printing.Write l = l
 
 pub add_counted : (T : Type 0) (fault : AddFault) (count : ℕ) → command_faults {T = T} (Err (fault_of_add fault)) count ≡ count
 add_counted T Memory count = refl
-add_counted T (Over (Names n)) count = refl
-add_counted T (Over (Tasks n)) count = refl
-add_counted T (Over (Days n)) count = refl
+add_counted T (Over limit) count = refl
 
 -- an add that did not begin to print
 pub add_cause : (fault : AddFault) (workers : ℕ) (events : List Event) (s : State) (before : Option (List ℕ)) → HasAddCause events s fault → HasCommandCause (fault_of_add fault) workers (Add events) s before before
 add_cause Memory workers events s before h = inl refl
-add_cause (Over (Names n)) workers events s before h = (h, refl)
-add_cause (Over (Tasks n)) workers events s before h = (h, refl)
-add_cause (Over (Days n)) workers events s before h = (h, refl)
+add_cause (Over limit) workers events s before h = (h, refl)
 
 -- the text of an add, which was printed of these lists into an empty buffer
 module _ (workers : ℕ) (events : List Event) (s : State) (session : SessionState) (refused : List Refused) (watched : List DayLines) (a : IsAddOf workers events s session refused watched) (held : List ℕ) (empty : held ≡ []) (rows : List Refused) (rows_are : rows ≡ refused) (lines : List DayLines) (lines_are : lines ≡ watched) (before now : Option (List ℕ)) where

@@ -5,8 +5,8 @@ use Rattle.std.proofs.lemmas.List.{append-nil}
 use Rattle.day_partitions.specs.Books as books
 use Rattle.day_partitions.specs.Books.{IsBook, all_traces, traces_kept_on, with_fewer}
 use Rattle.event_lines.specs.declared.command.Command.TheVariants as commands
-use Rattle.kept_books.specs.BookLaws.{DropShows, NewestShow}
-use Rattle.kept_books.specs.Shown.{AreShown, IsShown}
+use Rattle.book_laws.specs.BookLaws.{DropShows, NewestShow}
+use Rattle.book_laws.specs.Shown.{AreShown, IsShown}
 use Rattle.session_rules.specs.KeptTraces.{Kept, newest, traces_on, without_day}
 use Rattle.session_rules.specs.Parts.{Dropped, IsPart, KeptNewest, Part, count_row}
 use Rattle.session_rules.specs.Sessions.{Does, State, with_grace, with_kept, with_watch}

@@ -7,7 +7,7 @@ use Rattle.day_partitions.specs.Batches.{AreSheetsFor, trace_count, with_all}
 use Rattle.day_partitions.specs.Books.{BookState, IsSheetOf, KeptDay, all_traces, kept_day, with_added, with_day_traces, days_without}
 use Rattle.day_partitions.specs.declared.dated_sheet.DatedSheet.{DatedSheet}
 use Rattle.batch_sheets.specs.declared.recording.DayLines.{DayLines}
-use Rattle.kept_books.specs.Shown.{AreShown, IsShown}
+use Rattle.book_laws.specs.Shown.{AreShown, IsShown}
 use Rattle.segment_names.specs.Known.{Known}
 use Rattle.session_rules.specs.KeptTraces.{kept_with}
 use Rattle.trace_types.specs.declared.named_trace.NamedTrace.{NamedTrace}

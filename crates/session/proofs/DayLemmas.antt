@@ -11,8 +11,8 @@ use Rattle.batch_sheets.specs.Splitting.{named_day, sheet_day}
 use Rattle.day_partitions.specs.Batches.{new_days, trace_count}
 use Rattle.day_partitions.specs.Books.{BookState, HasTraces, IsBook, KeptDay, all_traces}
 use Rattle.day_partitions.specs.declared.dated_sheet.DatedSheet.{DatedSheet}
-use Rattle.kept_books.specs.BookLaws.{AreSheetsOf}
-use Rattle.kept_books.specs.Shown.{named_on}
+use Rattle.book_laws.specs.BookLaws.{AreSheetsOf}
+use Rattle.book_laws.specs.Shown.{named_on}
 use Rattle.trace_types.specs.Listing.{ListsExactly}
 use Rattle.trace_types.specs.declared.named_trace.NamedTrace.{NamedTrace}
 use Rattle.session.specs.inner.AddSteps.{LacksRoom}

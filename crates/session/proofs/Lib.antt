@@ -8,3 +8,4 @@ mod KnownLemmas
 mod RunLemmas
 mod SheetLemmas
 mod SplitLemmas
+pub mod JobRunLemmas

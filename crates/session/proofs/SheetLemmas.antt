@@ -14,14 +14,14 @@ use Rattle.batch_sheets.specs.declared.days.DayTraces.{DayTraces}
 use Rattle.batch_sheets.specs.declared.recording.DayLines.{DayLines}
 use Rattle.day_partitions.specs.Books.{AreOfDay, IsSheetOf}
 use Rattle.day_partitions.specs.declared.dated_sheet.DatedSheet.{DatedSheet}
-use Rattle.kept_books.specs.Shown.{AreShown, IsShown, named_on}
+use Rattle.book_laws.specs.Shown.{AreShown, IsShown, named_on}
 use Rattle.refute_tests.specs.Clearing.{HaveNamesBelow}
 use Rattle.segment_names.specs.Known.{Known}
 use Rattle.segment_names.specs.Limits.{IsKept}
 use Rattle.session_rules.specs.KeptTraces.{Kept, day_of, traces_on}
 use Rattle.trace_types.specs.Listing.{ListsExactly}
 use Rattle.trace_types.specs.declared.named_trace.NamedTrace.{NamedTrace}
-use Rattle.watch_bounds.specs.TextBounds.{WatchLinesAreToldByText}
+use Rattle.book_laws.specs.TextBounds.{WatchLinesAreToldByText}
 use Rattle.session.specs.Sheets.{AreLinesOn, AreSheets}
 
 -- ---- lists place by place

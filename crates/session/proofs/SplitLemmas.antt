@@ -8,8 +8,8 @@ use Rattle.batch_sheets.specs.Splitting.{AreSplit}
 use Rattle.batch_sheets.specs.declared.days.DayTraces.{DayTraces}
 use Rattle.day_partitions.specs.Batches.{trace_count}
 use Rattle.day_partitions.specs.declared.dated_sheet.DatedSheet.{DatedSheet}
-use Rattle.kept_books.specs.BookLaws.{AreSheetsOf}
-use Rattle.kept_books.specs.Shown.{named_on}
+use Rattle.book_laws.specs.BookLaws.{AreSheetsOf}
+use Rattle.book_laws.specs.Shown.{named_on}
 use Rattle.refute_tests.specs.Clearing.{HaveNamesBelow}
 use Rattle.trace_types.specs.declared.named_trace.NamedTrace.{NamedTrace}
 

@@ -2,30 +2,30 @@
 use Rattle.std.specs.Prelude.{◌≡◌, ℕ, ◌+◌, ◌<◌, ◌≤◌, ◌++◌, ◌∷◌, List, length}
 use Rattle.std.specs.List.{AllZip, flat_map}
 use Rattle.batch_sheets.specs.declared.recording.DayLines.{DayLines}
+use Rattle.book_laws.specs.BookLaws.{AreSheetsOf}
+use Rattle.book_laws.specs.Shown.{AreShown}
 use Rattle.day_partitions.specs.Batches.{HasRoomFor, new_days, with_all}
 use Rattle.day_partitions.specs.Books.{BookState, IsBook}
+use Rattle.day_partitions.specs.Batches.{trace_count}
+use Rattle.day_partitions.specs.declared.dated_sheet.DatedSheet.{DatedSheet}
 use Rattle.segment_names.specs.Limits.{PassesLimit}
 use Rattle.segment_names.specs.declared.name_fault.NameFault.{NameFault}
+use Rattle.segment_names.specs.Known.{Known, with_traces}
+use Rattle.segment_names.specs.Limits.{IsKept}
 use Rattle.session_rules.specs.KeptTraces.{Kept}
 use Rattle.session_rules.specs.Parts.{IsPart, Refusals, refused_row, watch_row}
 use Rattle.session_rules.specs.Sessions.{Adds, PassesLimitOf, State, graced, most_days, state_after}
 use Rattle.session_rules.specs.Sessions.{watch_parts}
 use Rattle.session_rules.specs.declared.limit.Limit.TheVariants.{Days}
-use Rattle.text_rows.specs.TextsOfParts.{AreTexts}
-use Rattle.session.specs.SessionStates.{SessionState, Shows}
-use Rattle.session.specs.Sheets.{AreLinesOn, AreSheets, graced_by}
-use Rattle.day_partitions.specs.Batches.{trace_count}
-use Rattle.day_partitions.specs.declared.dated_sheet.DatedSheet.{DatedSheet}
-use Rattle.kept_books.specs.BookLaws.{AreSheetsOf}
-use Rattle.kept_books.specs.Shown.{AreShown}
-use Rattle.segment_names.specs.Known.{Known, with_traces}
-use Rattle.segment_names.specs.Limits.{IsKept}
 use Rattle.session_rules.specs.Batches.{AreJudged}
 use Rattle.session_rules.specs.declared.refused.Refused.{Refused}
+use Rattle.text_rows.specs.TextsOfParts.{AreTexts}
 use Rattle.trace_types.specs.Batch.{requests_of, traces_of}
 use Rattle.trace_types.specs.declared.event.Event.{Event}
 use Rattle.trace_types.specs.declared.named_trace.NamedTrace.{NamedTrace}
 use Rattle.trace_types.specs.declared.trace.Trace.{Trace}
+use Rattle.session.specs.SessionStates.{SessionState, Shows}
+use Rattle.session.specs.Sheets.{AreLinesOn, AreSheets, graced_by}
 
 -- there are no fewer names once traces are added
 abbrev pub NamesGrow : Type 0

@@ -1,8 +1,9 @@
 -- What a contract sees of a session, and which state of the definition it shows.
 use Rattle.std.specs.Prelude.{◌≡◌, ℕ, ◌<◌, ◌≤◌}
+use Rattle.book_laws.specs.Shown.{AreShown}
 use Rattle.day_partitions.specs.Books.{BookState, all_traces}
-use Rattle.kept_books.specs.Shown.{AreShown}
 use Rattle.segment_names.specs.Known.{Known}
+use Rattle.session_rules.specs.ReadyJobs.{most_micros}
 use Rattle.session_rules.specs.Sessions.{State}
 
 -- how many workers it has, its catalogue, its book of days, after how many of a worker's traces a
@@ -13,10 +14,6 @@ pub record SessionState : Type 0 where
   pub book : BookState
   pub watch : ℕ
   pub grace : ℕ
-
--- the greatest grace, in microseconds: a second
-abbrev pub most_micros : ℕ
-most_micros = 1000000
 
 -- what every session keeps, besides what its catalogue and its book keep together
 pub record IsSession (s : SessionState) : Type 0 where

@@ -3,10 +3,10 @@ use Rattle.std.specs.Prelude.{◌≡◌, ℕ, ◌*◌, List, All, Contains, leng
 use Rattle.std.specs.List.{AllZip}
 use Rattle.std.specs.Ordering.{nat_cmp}
 use Rattle.batch_sheets.specs.declared.recording.DayLines.{DayLines}
+use Rattle.book_laws.specs.BookLaws.{AreSheetsOf}
+use Rattle.book_laws.specs.Shown.{AreShown}
 use Rattle.day_partitions.specs.Books.{IsSheetOf}
 use Rattle.day_partitions.specs.declared.dated_sheet.DatedSheet.{DatedSheet}
-use Rattle.kept_books.specs.BookLaws.{AreSheetsOf}
-use Rattle.kept_books.specs.Shown.{AreShown}
 use Rattle.segment_names.specs.Known.{Known}
 use Rattle.session_rules.specs.KeptTraces.{Kept, day_of, kept_with, traces_on}
 use Rattle.session_rules.specs.WatchLines.{AreWatchLines}

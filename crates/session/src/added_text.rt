@@ -7,7 +7,7 @@ use mystery_io::Sink;
 use session_rules::Refused;
 use text_rows::laws::calls_follow;
 use text_rows::{Field, PrintFault, RowBuffer, Rows, print_row, print_rows};
-use trace_pass::WatchLine;
+use trace_rules::WatchLine;
 
 /// Rows of refused traces.
 #[derive(Clone, Copy)]

@@ -1,8 +1,8 @@
 ghost use Rattle.std.specs.Prelude.{◌≡◌, ◌^◌, ◌+◌, ◌<◌, ◌≤◌, All, List, length, map};
 ghost use Rattle.std.specs.Prelude.{IfErr, IfOk, OnOk};
 ghost use Rattle.batch_sheets.specs.Named.{HasFewSegments, cut_trace};
-ghost use Rattle.kept_books.specs.Shown.{AreShown};
-ghost use Rattle.named_books.specs.KeptBooks.{IsKeptBook, under_catalogue};
+ghost use Rattle.book_laws.specs.Shown.{AreShown};
+ghost use Rattle.kept_books.specs.KeptBooks.{IsKeptBook, under_catalogue};
 ghost use Rattle.refute_tests.specs.Clearing.{HaveNamesBelow};
 ghost use Rattle.segment_cut.specs.NumberedCuts.{NumberedCut};
 ghost use Rattle.segment_names.specs.Known.{with_traces};
@@ -31,8 +31,8 @@ use batch_sheets::{DayLines, judge_batch, name_batch};
 use event_lines::EventParts;
 use event_table::laws::traces_keep_facts;
 use event_table::{GatheredEvents, Texts, gather};
+use kept_books::KeptBook;
 use mystery_io::Gate;
-use named_books::KeptBook;
 use segment_cut::CutTrace;
 use session_rules::Refused;
 use std::alloc::Global;
@@ -59,7 +59,7 @@ struct NamedBatch {
 
 /// A book that knows the names of a batch, and the traces of the batch by number.
 #[derive(Drop)]
-struct NamedBook {
+struct BookAndBatch {
     book: KeptBook,
     named: Vec<NamedTrace>,
 }
@@ -75,7 +75,7 @@ fn name_and_widen<R: Threads + Sync>(
     traces: Vec<CutTrace<'_>>,
     grace: u64,
     workers: u32,
-) -> Result<NamedBook, AddFault>
+) -> Result<BookAndBatch, AddFault>
     requires few { All HasFewSegments (map cut_trace traces.items) }
     requires texts { All (λ (c : NumberedCut). c.texts ≡ texts.now) traces.items }
     requires grace { grace ≤ most_grace }
@@ -94,7 +94,7 @@ fn name_and_widen<R: Threads + Sync>(
     let (mut catalogue, days) = book.into_parts();
     let named = name_batch(rt, alloc, &mut catalogue, texts, traces, grace, workers)?;
     let book = KeptBook::of(catalogue, days)?;
-    Ok(NamedBook { book, named })
+    Ok(BookAndBatch { book, named })
 }
 
 impl Session {
@@ -125,7 +125,7 @@ impl Session {
             grace,
         } = self;
         let nanos = 1000 * u64::from(grace);
-        let NamedBook { book, named } = name_and_widen(
+        let BookAndBatch { book, named } = name_and_widen(
             rt, alloc, book, texts, valid, nanos, workers,
         )?;
         Ok(NamedBatch {

@@ -2,8 +2,8 @@ ghost use Rattle.std.specs.Prelude.{◌^◌, ◌+◌, ◌<◌, All, Contains, Li
 ghost use Rattle.std.specs.Prelude.{IfErr, IfOk};
 ghost use Rattle.std.specs.Ordering.{nat_cmp};
 ghost use Rattle.batch_sheets.specs.Splitting.{named_day};
-ghost use Rattle.kept_books.specs.Shown.{AreShown};
-ghost use Rattle.named_books.specs.KeptBooks.{IsKeptBook, traces_in};
+ghost use Rattle.book_laws.specs.Shown.{AreShown};
+ghost use Rattle.kept_books.specs.KeptBooks.{IsKeptBook, traces_in};
 ghost use Rattle.refute_tests.specs.Clearing.{HaveNamesBelow};
 ghost use Rattle.session.specs.Sheets.{AreSheets};
 ghost use Rattle.session.specs.inner.AddSteps.{HasRoomCause};
@@ -12,13 +12,13 @@ ghost use Rattle.trace_types.specs.Listing.{ListsExactly};
 
 use crate::add_fault::AddFault;
 use batch_sheets::{RecordedDays, days_with, list_days, record_days, split_by_day};
+use book_laws::laws::watch_lines_are_told_by_text;
+use kept_books::KeptBook;
 use mystery_io::Gate;
-use named_books::KeptBook;
 use session_rules::Limit;
 use std::alloc::{AllocError, Global};
 use std::thread::Threads;
 use trace_types::NamedTrace;
-use watch_bounds::laws::watch_lines_are_told_by_text;
 
 /// How many days a book has at most.
 const MOST_DAYS: u32 = 64;

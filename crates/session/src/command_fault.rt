@@ -13,14 +13,11 @@ pub enum CommandFault {
     Memory,
     /// A write failed. A prefix of the job's text is written.
     Write,
-    /// The add would keep traces of more than 64 days: of so many. Nothing of it is written.
-    TooManyDays { days: u32 },
-    /// With a trace of the add there would be more than 512 segment names: so many. Nothing of the
-    /// add is written.
-    TooManyNames { count: u32 },
-    /// With a trace of the add there would be more than 64 tasks of segments: so many. Nothing of
-    /// the add is written.
-    TooManyTasks { count: u32 },
+    /// The job is an add that passes this limit. Nothing of it is written.
+    Over {
+        /// The first limit that it passes.
+        limit: Limit,
+    },
 }
 
 impl From<PrintFault> for CommandFault {
@@ -42,15 +39,7 @@ impl From<AddFault> for CommandFault {
     fn from(fault: AddFault) -> CommandFault {
         match fault {
             AddFault::Memory => CommandFault::Memory,
-            AddFault::Over {
-                limit: Limit::Names { count },
-            } => CommandFault::TooManyNames { count },
-            AddFault::Over {
-                limit: Limit::Tasks { count },
-            } => CommandFault::TooManyTasks { count },
-            AddFault::Over {
-                limit: Limit::Days { count },
-            } => CommandFault::TooManyDays { days: count },
+            AddFault::Over { limit } => CommandFault::Over { limit },
         }
     }
 }

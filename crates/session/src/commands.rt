@@ -1,9 +1,10 @@
-ghost use Rattle.std.specs.Prelude.{◌≡◌, ◌^◌, ◌+◌, ◌<◌, ◌≤◌, length, IfOk, IfErr};
+ghost use Rattle.std.specs.Prelude.{◌≡◌, ◌^◌, ◌+◌, ◌<◌, ◌≤◌, IfOk, IfErr};
 ghost use Rattle.session_rules.specs.Jobs.{IsNoAdd};
 ghost use Rattle.session_rules.specs.Sessions.{State};
 ghost use Rattle.session_rules.specs.declared.job.Job.TheVariants as jobs;
-ghost use Rattle.session.specs.Carrying.{CarriesOut, HasCommandCause, IsLimitFault, IsReady};
-ghost use Rattle.session.specs.Carrying.{command_faults, kept_count, requests_in};
+ghost use Rattle.session_rules.specs.ReadyJobs.{IsReady, requests_in};
+ghost use Rattle.session.specs.Carrying.{CarriesOut, HasCommandCause, IsLimitFault};
+ghost use Rattle.session.specs.Carrying.{command_faults, kept_count};
 ghost use Rattle.session.specs.SessionStates.{Shows};
 
 use crate::added_text::print_added;

@@ -5,14 +5,14 @@ ghost use Rattle.event_lines.specs.declared.command.Command.TheVariants as comma
 ghost use Rattle.session_rules.specs.Parts.{count_row};
 ghost use Rattle.session_rules.specs.declared.job.Job.TheVariants as jobs;
 ghost use Rattle.session.specs.Carrying.{kept_count};
-ghost use Rattle.session.specs.SessionStates.{most_micros};
+ghost use Rattle.session_rules.specs.ReadyJobs.{most_micros};
 ghost use Rattle.session.specs.inner.Changes.{session_with_book, session_with_grace};
 ghost use Rattle.session.specs.inner.Changes.{session_with_watch};
 ghost use Rattle.session.specs.inner.Steps.{PrintsSteps};
 ghost use Rattle.text_rows.specs.Printing.{PrintsText, print_faults};
 
 use crate::Session;
-use kept_books::laws::{drop_shows, newest_show};
+use book_laws::laws::{drop_shows, newest_show};
 use mystery_io::Sink;
 use session_rules::SessionPart;
 use text_rows::laws::part_calls_follow;

@@ -1,30 +1,40 @@
 ghost use Rattle.std.specs.Prelude.{◌≡◌, ◌≤◌};
 ghost use Rattle.session_rules.specs.Jobs.{IsNoAdd};
 ghost use Rattle.session_rules.specs.declared.job.Job.TheVariants as jobs;
-ghost use Rattle.session.specs.Carrying.{IsReady, IsReadyCommand, kept_count};
-ghost use Rattle.session.specs.inner.Steps.{PrintsSteps};
+ghost use Rattle.session_rules.specs.ReadyJobs.{IsReady, IsReadyCommand};
 ghost use Rattle.text_rows.specs.Printing.{print_faults};
+ghost use Rattle.session.specs.Carrying.{kept_count};
+ghost use Rattle.session.specs.inner.Steps.{PrintsSteps};
 
 use crate::{Job, Session};
+use book_laws::laws::names_are_listed;
 use certificate_rows::laws::{claims_have_verdicts, refutations_are_listed};
 use certificate_rows::{print_certificate, print_verdicts};
 use event_lines::Command;
-use forecast_rows::print_forecasts;
-use kept_books::laws::names_are_listed;
-use model_rows::print_model;
 use mystery_io::Sink;
-use report_rows::{print_report, print_summary, print_tail};
 use session_rules::SessionPart;
 use std::thread::Threads;
 use text_rows::laws::parts_follow;
 use text_rows::{PrintFault, RowBuffer};
 use trace_rows::{print_graphs, print_paths, print_slacks};
+use view_rows::{print_forecasts, print_model, print_report, print_summary, print_tail};
+use worker_limit::WorkerLimit;
 
 impl Session {
+    /// Returns a runtime with the session's number of workers.
+    fn limit_on<'r, R>(&self, rt: &'r R) -> WorkerLimit<'r, R>
+        ensures { result.most ≡ self.now.workers }
+    {
+        WorkerLimit {
+            runtime: rt,
+            most: self.workers,
+        }
+    }
+
     /// Carries out the command of a control line, and prints its text.
     fn print_command<R: Threads + Sync, S: Sink>(
         &mut self,
-        rt: &R,
+        workers: &WorkerLimit<'_, R>,
         command: Command,
         sink: &mut S,
         buffer: &mut RowBuffer,
@@ -51,10 +61,10 @@ impl Session {
                 Ok(())
             }
             Command::Model => print_model(self.alloc, &self.book, sink, buffer),
-            Command::Paths => print_paths(rt, self.alloc, &self.book, sink, buffer),
-            Command::Slack => print_slacks(rt, self.alloc, &self.book, sink, buffer),
-            Command::Report => print_report(rt, self.alloc, &self.book, sink, buffer),
-            Command::Graph => print_graphs(rt, self.alloc, &self.book, sink, buffer),
+            Command::Paths => print_paths(workers, self.alloc, &self.book, sink, buffer),
+            Command::Slack => print_slacks(workers, self.alloc, &self.book, sink, buffer),
+            Command::Report => print_report(workers, self.alloc, &self.book, sink, buffer),
+            Command::Graph => print_graphs(workers, self.alloc, &self.book, sink, buffer),
         }
     }
 
@@ -77,14 +87,15 @@ impl Session {
         names_are_listed();
         refutations_are_listed();
         claims_have_verdicts();
+        let workers = self.limit_on(rt);
         match job {
             Job::Add { .. } => unreachable!(),
-            Job::Control { command } => self.print_command(rt, command, sink, buffer),
-            Job::Summary => print_summary(rt, self.alloc, &self.book, sink, buffer),
+            Job::Control { command } => self.print_command(&workers, command, sink, buffer),
+            Job::Summary => print_summary(&workers, self.alloc, &self.book, sink, buffer),
             Job::WhatIf { change } => print_forecasts(
-                rt, self.alloc, &self.book, &change, sink, buffer,
+                &workers, self.alloc, &self.book, &change, sink, buffer,
             ),
-            Job::Tail => print_tail(rt, self.alloc, &self.book, sink, buffer),
+            Job::Tail => print_tail(&workers, self.alloc, &self.book, sink, buffer),
             Job::Why => print_certificate(self.alloc, &self.book, sink, buffer),
             Job::Verify { claims } => print_verdicts(&self.book, claims.items(), sink, buffer),
         }

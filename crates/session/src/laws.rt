@@ -2,7 +2,7 @@
 ghost use Rattle.session.specs.AddLaws.{AddIsTold, AddLeadsOn, AddPassesDays};
 ghost use Rattle.session.specs.AddLaws.{NamesGrow, NoMoreAreSheeted, NoMoreAreValid};
 
-use kept_books::laws::{grown_shows, sheets_show};
+use book_laws::laws::{grown_shows, sheets_show};
 
 /// A catalogue has no fewer names after traces are added.
 pub fn names_grow()

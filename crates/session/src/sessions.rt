@@ -3,12 +3,12 @@ ghost use Rattle.session_rules.specs.Sessions.{first_state};
 ghost use Rattle.session.specs.Carrying.{kept_count};
 ghost use Rattle.session.specs.SessionStates.{Shows};
 
-use named_books::KeptBook;
+use kept_books::KeptBook;
 use std::alloc::{AllocError, Global};
 use std::marker::Model;
 
 /// A session: the kept traces with a catalogue that grows with each add, the watch number and the
-/// grace of later adds, and how many workers share the traces of a day.
+/// grace of later adds, and how many workers there are.
 #[derive(Drop)]
 pub struct Session {
     pub(crate) alloc: Global,

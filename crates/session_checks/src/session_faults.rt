@@ -3,7 +3,7 @@ use crate::session_steps::{add_through, control};
 use crate::worked_batches::on_days;
 use event_lines::Command;
 use mystery_io::{Gate, MemSink, Sink};
-use session::{CommandFault, Session};
+use session::{CommandFault, Limit, Session};
 use std::alloc::{AllocError, Global};
 use std::sync::atomic::{AtomicU64, Ordering};
 use std::test::Fail;
@@ -42,7 +42,9 @@ fn add_days<R: AllocGlobal + Threads + Sync, S: Sink>(
 fn an_add_of_65_days_records_and_writes_nothing(rt: HostRuntime) -> Result<(), Fail> {
     let alloc = rt.alloc();
     let mut out = MemSink::new(alloc, 100, Vec::new(alloc), 1000)?;
-    let many = Some(CommandFault::TooManyDays { days: 65 });
+    let many = Some(CommandFault::Over {
+        limit: Limit::Days { count: 65 },
+    });
     assert_eq!(rt; add_days(&rt, alloc, 65, &mut out)?, (many, 0));
     assert_eq!(rt; out.bytes(), b"".as_slice());
     assert_eq!(rt; add_days(&rt, alloc, 64, &mut out)?, (None, 64));

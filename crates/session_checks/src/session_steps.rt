@@ -1,6 +1,6 @@
 //! Jobs that a session carries out: each answers `Memory` where it would have too many traces.
 ghost use Rattle.std.specs.Prelude.{◌≡◌, ◌≤◌, length, IfOk, IfSome, IsTrue};
-ghost use Rattle.session.specs.Carrying.{IsReady, IsReadyCommand, requests_in};
+ghost use Rattle.session_rules.specs.ReadyJobs.{IsReady, IsReadyCommand, requests_in};
 ghost use Rattle.trace_types.specs.Times.{AreTimely};
 
 use certificates::{Claim, ClaimList};

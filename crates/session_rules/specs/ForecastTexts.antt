@@ -5,10 +5,10 @@ use Rattle.std.specs.Prelude.{if◌then◌else◌, slice_index}
 use Rattle.std.specs.List.{AllZip}
 use Rattle.segment_names.specs.Known.{same_name}
 use Rattle.text_rows.specs.Rows.{figure, row_of}
+use Rattle.trace_rules.specs.declared.forecast.Forecast.{Forecast}
 use Rattle.trace_types.specs.Segments.{SegmentName}
 use Rattle.weighted_dag.specs.Chains.{IsLongestLength}
 use Rattle.weighted_dag.specs.Graphs.{Graph, order_of, weight_of, with_weights}
-use Rattle.what_if.specs.declared.forecast.Forecast.{Forecast}
 use Rattle.session_rules.specs.declared.named_change.NamedChange.{NamedChange}
 use Rattle.session_rules.specs.KeptTraces.{Kept}
 use Rattle.session_rules.specs.TraceTexts.{IsGraphOf, name_of_vertex}

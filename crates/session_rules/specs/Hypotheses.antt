@@ -15,37 +15,17 @@ pub data Hypothesis (N T : Type 0) : Type 0 where
   Pipe : T → T → Hypothesis N T
   Unshared : T → T → Hypothesis N T
 
--- the pair is this one, in one order or the other
-abbrev pub IsSamePair : {X : Type 0} → X → X → X → X → Type 0
-IsSamePair a b c d = ((a ≡ c) × (b ≡ d)) ⊎ ((a ≡ d) × (b ≡ c))
+-- the hypothesis with its two sides exchanged, where their order does not matter
+abbrev pub exchanged_hypothesis : {N T : Type 0} → Hypothesis N T → Hypothesis N T
+exchanged_hypothesis (Before a b) = Before a b
+exchanged_hypothesis (Exclusive a b) = Exclusive b a
+exchanged_hypothesis (Apart a b) = Apart b a
+exchanged_hypothesis (Pipe t u) = Pipe t u
+exchanged_hypothesis (Unshared t u) = Unshared u t
 
--- two hypotheses are one
+-- two hypotheses are one: equal, or equal once the sides of one are exchanged
 abbrev pub IsSame : {N T : Type 0} → Hypothesis N T → Hypothesis N T → Type 0
-IsSame (Before a b) (Before c d) = (a ≡ c) × (b ≡ d)
-IsSame (Before a b) (Exclusive c d) = ⊥
-IsSame (Before a b) (Apart c d) = ⊥
-IsSame (Before a b) (Pipe c d) = ⊥
-IsSame (Before a b) (Unshared c d) = ⊥
-IsSame (Exclusive a b) (Before c d) = ⊥
-IsSame (Exclusive a b) (Exclusive c d) = IsSamePair a b c d
-IsSame (Exclusive a b) (Apart c d) = ⊥
-IsSame (Exclusive a b) (Pipe c d) = ⊥
-IsSame (Exclusive a b) (Unshared c d) = ⊥
-IsSame (Apart a b) (Before c d) = ⊥
-IsSame (Apart a b) (Exclusive c d) = ⊥
-IsSame (Apart a b) (Apart c d) = IsSamePair a b c d
-IsSame (Apart a b) (Pipe c d) = ⊥
-IsSame (Apart a b) (Unshared c d) = ⊥
-IsSame (Pipe a b) (Before c d) = ⊥
-IsSame (Pipe a b) (Exclusive c d) = ⊥
-IsSame (Pipe a b) (Apart c d) = ⊥
-IsSame (Pipe a b) (Pipe c d) = (a ≡ c) × (b ≡ d)
-IsSame (Pipe a b) (Unshared c d) = ⊥
-IsSame (Unshared a b) (Before c d) = ⊥
-IsSame (Unshared a b) (Exclusive c d) = ⊥
-IsSame (Unshared a b) (Apart c d) = ⊥
-IsSame (Unshared a b) (Pipe c d) = ⊥
-IsSame (Unshared a b) (Unshared c d) = IsSamePair a b c d
+IsSame h i = (h ≡ i) ⊎ (h ≡ exchanged_hypothesis i)
 
 module _ {A S N T E : Type 0} (p : Parts A S N T E) where
   -- the trace refutes the hypothesis, which is one on two different names or tasks

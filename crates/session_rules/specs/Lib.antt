@@ -2,10 +2,12 @@ pub mod Batches
 pub mod CertificateTexts
 pub mod ForecastTexts
 pub mod Hypotheses
+pub mod JobTexts
 pub mod Jobs
 pub mod KeptTraces
 pub mod ModelTexts
 pub mod Parts
+pub mod ReadyJobs
 pub mod Refutations
 pub mod ReportTexts
 pub mod Sessions

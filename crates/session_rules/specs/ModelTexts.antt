@@ -3,8 +3,8 @@ use Rattle.std.specs.Prelude.{◌≡◌, ℕ, ◌++◌, List, [], ◌∷◌, len
 use Rattle.std.specs.Cmp.Lexicographic.{slice_cmp}
 use Rattle.std.specs.List.{flat_map}
 use Rattle.std.specs.Ordering.{nat_cmp}
-use Rattle.model_meet.specs.Pipes.{IsPipeline}
 use Rattle.text_rows.specs.Rows.{figure, row_of}
+use Rattle.trace_rules.specs.Pipes.{IsPipeline}
 use Rattle.trace_types.specs.Listing.{ListsExactly, CountsDistinct}
 use Rattle.trace_types.specs.NameOrder.{name_cmp, pair_cmp}
 use Rattle.trace_types.specs.Parts.{segments_of}

@@ -4,7 +4,7 @@ use Rattle.certificates.specs.declared.matter.Matter.{Matter}
 use Rattle.std.specs.List.{flat_map}
 use Rattle.segment_cut.specs.Faults.{fault_reason, fault_number}
 use Rattle.text_rows.specs.Rows.{figure, row_of}
-use Rattle.trace_pass.specs.declared.watch_lines.WatchLine.{WatchLine}
+use Rattle.trace_rules.specs.declared.watch_line.WatchLine.{WatchLine}
 use Rattle.trace_types.specs.Segments.{SegmentName}
 use Rattle.session_rules.specs.declared.named_change.NamedChange.{NamedChange}
 use Rattle.session_rules.specs.declared.refused.Refused.{Refused}

@@ -2,14 +2,13 @@
 -- are in nanoseconds.
 use Rattle.std.specs.Prelude.{◌≡◌, ℕ, List, [], ◌∷◌, ◌++◌, length, map, sum_by, codes}
 use Rattle.std.specs.Prelude.{Contains, decimal}
-use Rattle.latency_report.specs.declared.figures.Figures.{Figures}
-use Rattle.latency_report.specs.declared.segment_row.SegmentRow.{SegmentRow}
-use Rattle.latency_report.specs.Numbers.{AreFigures}
-use Rattle.latency_report.specs.Reports.{IsRowOf}
 use Rattle.segment_names.specs.Known.{same_name}
 use Rattle.text_rows.specs.Rows.{figure, row_of}
-use Rattle.trace_paths.specs.CriticalPaths.{AreCriticalPaths}
-use Rattle.trace_paths.specs.Durations.{path_length}
+use Rattle.trace_rules.specs.declared.figures.Figures.{Figures}
+use Rattle.trace_rules.specs.Numbers.{AreFigures}
+use Rattle.trace_rules.specs.ReportRows.{AreFiguresOf}
+use Rattle.trace_rules.specs.CriticalPaths.{AreCriticalPaths}
+use Rattle.trace_rules.specs.Durations.{path_length}
 use Rattle.trace_types.specs.declared.segment.Segment.{Segment}
 use Rattle.trace_types.specs.Listing.{ListsExactly}
 use Rattle.trace_types.specs.NameOrder.{name_cmp}
@@ -46,12 +45,13 @@ pub record IsLatencyText (kept : List Kept) (bytes : List ℕ) : Type 0 where
   pub text : bytes ≡ row_of (codes "latency" ∷ map decimal (numbers_of figures))
 
 -- `segment` and a name; the figures of the durations of the kept traces' segments with this name;
--- on how many of the critical paths there is one, and how long they last there together. The row's
--- own name, a number of some catalogue, is not looked at
+-- on how many of the critical paths there is one, and how long they last there together
 pub record IsSegmentText (kept : List Kept) (name : SegmentName) (bytes : List ℕ) : Type 0 where
   pub paths : List (List Segment)
   pub critical_paths : AreCriticalPaths by_kept kept paths
-  pub row : SegmentRow
-  pub told : IsRowOf by_kept same_name kept paths name row
+  pub figures : Figures
+  pub on_path : ℕ
+  pub on_path_sum : ℕ
+  pub told : AreFiguresOf by_kept same_name kept paths name figures on_path on_path_sum
   pub text : bytes ≡ named_row (codes "segment") name
-      (numbers_of row.figures ++ (row.on_path ∷ row.on_path_sum ∷ []))
+      (numbers_of figures ++ (on_path ∷ on_path_sum ∷ []))

@@ -5,7 +5,7 @@ use Rattle.std.specs.Prelude.{slice_get, slice_index}
 use Rattle.std.specs.List.{flat_map, range_with_len}
 use Rattle.std.specs.Option.{option_map_or}
 use Rattle.text_rows.specs.Rows.{row_of}
-use Rattle.trace_graph.specs.TraceGraphs.{IsTraceGraph}
+use Rattle.trace_rules.specs.TraceGraphs.{IsTraceGraph}
 use Rattle.trace_types.specs.Segments.{SegmentName, name_of}
 use Rattle.weighted_dag.specs.Chains.{IsLongest, IsLongestLength, NoLongestIsBefore, chain_length}
 use Rattle.weighted_dag.specs.Graphs.{Graph, IsEdge, IsGraph, order_of, successors_of, weight_of}

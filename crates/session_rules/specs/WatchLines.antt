@@ -1,9 +1,9 @@
 -- The watch lines of one day of a batch.
 use Rattle.std.specs.Prelude.{◌≡◌, ℕ, ◌≤◌, List, map, take}
 use Rattle.std.specs.List.{All, AllPairs}
-use Rattle.trace_pass.specs.Halving.{share_of, shares_of}
-use Rattle.trace_pass.specs.Watch.{watch_marks}
-use Rattle.trace_pass.specs.declared.watch_lines.WatchLine.{WatchLine}
+use Rattle.trace_rules.specs.Halving.{share_of, shares_of}
+use Rattle.trace_rules.specs.WatchMarks.{watch_marks}
+use Rattle.trace_rules.specs.declared.watch_line.WatchLine.{WatchLine}
 use Rattle.session_rules.specs.Hypotheses.{IsAtLeastRefuted, IsAtMostRefuted}
 use Rattle.session_rules.specs.KeptTraces.{Kept, by_kept}
 

@@ -3,4 +3,3 @@ pub mod SlowLemmas
 pub mod MarkLemmas
 pub mod PathLemmas
 pub mod TailLemmas
-pub mod OnePathLemmas

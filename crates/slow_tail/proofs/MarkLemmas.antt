@@ -11,7 +11,7 @@ use Rattle.std.proofs.lemmas.Option.{get_or_from_slice_get, slice_get-get_or, sl
 use Rattle.trace_types.specs.declared.named_segment.NamedSegment.{NamedSegment}
 use Rattle.trace_types.specs.NamedSegments.{number_of_name}
 use Rattle.slow_tail.specs.inner.Marks.{AreMarksOf}
-use Rattle.slow_tail.specs.SlowTraces.{marked, unmarked}
+use Rattle.trace_rules.specs.SlowTraces.{marked, unmarked}
 
 -- one more mark
 pub mark_one : (marks : List Bool) (k n : ℕ) → k < length marks → (slice_get (set marks k true) n ≡ Some true) ↔ ((slice_get marks n ≡ Some true) ⊎ (k ≡ n))

@@ -16,8 +16,9 @@ use Rattle.trace_types.specs.declared.named_trace.NamedTrace.{NamedTrace}
 use Rattle.trace_types.specs.NamedSegments.{number_of_name}
 use Rattle.trace_types.specs.Parts.{by_number, segments_of}
 use Rattle.trace_types.specs.SegmentLists.{NamesDiffer}
-use Rattle.trace_paths.specs.CriticalPaths.{IsCriticalPath, IsNamedPath, IsPathUnder}
-use Rattle.trace_paths.specs.Durations.{duration, durations_of, has_name, paths_with, time_on}
+use Rattle.trace_rules.specs.CriticalPaths.{IsCriticalPath}
+use Rattle.trace_paths.specs.NumberedPaths.{IsNamedPath, IsPathUnder}
+use Rattle.trace_rules.specs.Durations.{duration, durations_of, has_name, paths_with, time_on}
 use Rattle.trace_paths.specs.Tables.{IsTableOf}
 
 abbrev Seg : Type 0

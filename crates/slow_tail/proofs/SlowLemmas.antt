@@ -11,7 +11,7 @@ use Rattle.std.proofs.lemmas.List.{length-append, length-map}
 use Rattle.std.proofs.lemmas.List.FromFn.{length-enumerate_from}
 use Rattle.std.proofs.lemmas.List.Elements.{All-map, All-weaker, Contains-append_right, filter_passes}
 use Rattle.std.proofs.lemmas.List.Sorted.{Contains-permutation, IsPermutation-sym, length_permutation, sum_by-IsPermutation}
-use Rattle.slow_tail.specs.SlowTraces.{IsFloor, IsLeast, comes_after, is_slow, marked, slow_count, slow_marks, slow_of, with_indices}
+use Rattle.trace_rules.specs.SlowTraces.{IsFloor, IsLeast, comes_after, is_slow, marked, slow_count, slow_marks, slow_of, with_indices}
 use Rattle.slow_tail.proofs.CountLemmas.{count_all, count_cons, count_le, count_map, count_none, count_split, map_agree, none_counted}
 
 abbrev pub Place : Type 0

@@ -7,14 +7,14 @@ use Rattle.std.proofs.lemmas.Option.{slice_get_within}
 use Rattle.trace_types.specs.declared.named_segment.NamedSegment.{NamedSegment}
 use Rattle.trace_types.specs.Listing.{ListsExactly}
 use Rattle.trace_types.specs.Parts.{Parts, by_number}
-use Rattle.trace_paths.specs.CriticalPaths.{IsNamedPath}
-use Rattle.trace_paths.specs.Durations.{has_name, durations_of}
+use Rattle.trace_paths.specs.NumberedPaths.{IsNamedPath}
+use Rattle.trace_rules.specs.Durations.{has_name, durations_of}
 use Rattle.trace_paths.specs.Tables.{IsTableOf}
 use Rattle.slow_tail.specs.declared.tail_row.TailRow.{TailRow}
 use Rattle.slow_tail.specs.inner.TableRows.{IsTailRowFrom}
 use Rattle.slow_tail.specs.SlowLaws.{AddUp}
-use Rattle.slow_tail.specs.SlowReports.{IsTailRow}
-use Rattle.slow_tail.specs.SlowTraces.{rest_of, slow_marks, slow_of, with_indices, is_slow}
+use Rattle.trace_rules.specs.ReportRows.{AreSlowAndRest}
+use Rattle.trace_rules.specs.SlowTraces.{rest_of, slow_marks, slow_of, with_indices, is_slow}
 use Rattle.slow_tail.proofs.MarkLemmas.{sums_add_up}
 use Rattle.slow_tail.proofs.PathLemmas.{joined, table_has}
 use Rattle.slow_tail.proofs.SlowLemmas.{length_places}
@@ -38,7 +38,7 @@ name_within cmp marks names items i listed is lt =
 
 -- a row from the tables is a row of the name
 pub row_of : (names : ℕ) (slow rest : List (List NamedSegment)) (slow_table rest_table : List (List ℕ)) (row : TailRow) → IsTableOf names (joined slow) slow_table → IsTableOf names (joined rest) rest_table → All (IsNamedPath names) slow → All (IsNamedPath names) rest
-    → IsTailRowFrom slow_table rest_table row → IsTailRow by_number eqb slow rest row.name row
+    → IsTailRowFrom slow_table rest_table row → AreSlowAndRest by_number eqb slow rest row.name row.slow_on row.slow_sum row.rest_on row.rest_sum
 row_of names slow rest slow_table rest_table row s r named_slow named_rest is =
     let many = s.count in
     let below = is.below in

@@ -1,4 +1,3 @@
 pub mod SlowLaws
 pub mod SlowReports
-pub mod SlowTraces
 pub mod inner

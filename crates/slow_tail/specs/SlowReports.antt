@@ -1,25 +1,16 @@
 -- The report on the slowest of a list of traces: what is on their critical paths, beside what is on
 -- those of the rest.
 use Rattle.std.specs.Prelude.{◌≡◌, nat_eq, Bool, ℕ, List, length, map, count_by, All}
-use Rattle.trace_paths.specs.CriticalPaths.{AreCriticalPaths}
-use Rattle.trace_paths.specs.Durations.{paths_with, time_on}
 use Rattle.trace_paths.specs.NameOrders.{AreNamesOf}
+use Rattle.trace_rules.specs.CriticalPaths.{AreCriticalPaths}
+use Rattle.trace_rules.specs.ReportRows.{AreSlowAndRest}
+use Rattle.trace_rules.specs.SlowTraces.{IsFloor, rest_of, slow_count, slow_marks, slow_of}
 use Rattle.trace_types.specs.declared.named_segment.NamedSegment.{NamedSegment}
 use Rattle.trace_types.specs.declared.named_trace.NamedTrace.{NamedTrace}
-use Rattle.trace_types.specs.Parts.{Parts, by_number}
+use Rattle.trace_types.specs.Parts.{by_number}
 use Rattle.trace_types.specs.Segments.{SegmentName}
 use Rattle.slow_tail.specs.declared.slow_report.SlowReport.{SlowReport}
 use Rattle.slow_tail.specs.declared.tail_row.TailRow.{TailRow}
-use Rattle.slow_tail.specs.SlowTraces.{IsFloor, rest_of, slow_count, slow_marks, slow_of}
-
-module _ {A S N T E : Type 0} (p : Parts A S N T E) (same : N → N → Bool) where
-  -- on how many of the slow traces' critical paths there is a segment with this name, and for how
-  -- long, and the same of the rest; `same` tells whether two names are one
-  pub record IsTailRow (slow rest : List (List S)) (name : N) (row : TailRow) : Type 0 where
-    pub slow_on : row.slow_on ≡ paths_with p same name slow
-    pub slow_sum : row.slow_sum ≡ time_on p same name slow
-    pub rest_on : row.rest_on ≡ paths_with p same name rest
-    pub rest_sum : row.rest_sum ≡ time_on p same name rest
 
 -- the latencies of traces
 abbrev pub trace_latencies : List NamedTrace → List ℕ
@@ -37,5 +28,6 @@ pub record IsSlowReport (known : List SegmentName) (traces : List NamedTrace) (r
   pub exact : count_by (λ (m : Bool). m) (slow_marks (trace_latencies traces)) ≡ report.slow
   pub floor : IsFloor (slow_of (trace_latencies traces) (trace_latencies traces)) report.floor
   pub names : AreNamesOf known traces (map (λ (r : TailRow). r.name) report.rows)
-  pub rows : All (λ (r : TailRow). IsTailRow by_number nat_eq (slow_of (trace_latencies traces) paths)
-      (rest_of (trace_latencies traces) paths) r.name r) report.rows
+  pub rows : All (λ (r : TailRow). AreSlowAndRest by_number nat_eq
+      (slow_of (trace_latencies traces) paths) (rest_of (trace_latencies traces) paths) r.name
+      r.slow_on r.slow_sum r.rest_on r.rest_sum) report.rows

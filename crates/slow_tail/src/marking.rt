@@ -1,7 +1,7 @@
-ghost use Rattle.std.specs.Prelude.{◌≡◌, ◌^◌, ◌<◌, ◌≤◌, ℕ, Bool, count_by, IfOk, length, map, not};
+ghost use Rattle.std.specs.Prelude.{◌≡◌, ◌^◌, ◌<◌, ◌≤◌, Bool, count_by, IfOk, length, map, not};
 ghost use Rattle.std.specs.Borrow.{Bor};
-ghost use Rattle.slow_tail.specs.SlowTraces.{IsFloor, comes_after, slow_count, slow_marks};
-ghost use Rattle.slow_tail.specs.SlowTraces.{slow_of, with_indices};
+ghost use Rattle.trace_rules.specs.SlowTraces.{IsFloor, comes_after, slow_count, slow_marks};
+ghost use Rattle.trace_rules.specs.SlowTraces.{slow_of, with_indices};
 ghost use Rattle.trace_types.specs.declared.named_trace.NamedTrace.{NamedTrace};
 
 use crate::slow_traces::SlowTraces;

@@ -1,8 +1,8 @@
 ghost use Rattle.std.specs.Prelude.{◌≡◌, List, All, IfOk, length};
 ghost use Rattle.std.specs.List.{flat_map};
-ghost use Rattle.slow_tail.specs.SlowTraces.{marked, unmarked};
-ghost use Rattle.trace_paths.specs.CriticalPaths.{IsNamedPath};
+ghost use Rattle.trace_paths.specs.NumberedPaths.{IsNamedPath};
 ghost use Rattle.trace_paths.specs.Tables.{IsTableOf};
+ghost use Rattle.trace_rules.specs.SlowTraces.{marked, unmarked};
 ghost use Rattle.trace_types.specs.declared.named_segment.NamedSegment.{NamedSegment};
 
 use std::alloc::{AllocError, Global};

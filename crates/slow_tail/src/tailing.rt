@@ -1,5 +1,5 @@
 ghost use Rattle.std.specs.Prelude.{IfOk};
-ghost use Rattle.named_books.specs.KeptBooks.{traces_in};
+ghost use Rattle.kept_books.specs.KeptBooks.{traces_in};
 ghost use Rattle.slow_tail.specs.SlowReports.{IsSlowReport};
 
 use crate::marking::{find_slow, list_latencies};
@@ -7,17 +7,18 @@ use crate::names::mark_names;
 use crate::path_tables::tabulate_paths;
 use crate::rows::make_rows;
 use crate::{SlowReport, TailRowList};
+use kept_books::KeptBook;
 use model_meet::Model;
-use named_books::KeptBook;
 use std::alloc::{AllocError, Global};
 use std::thread::Threads;
 use trace_paths::{critical_paths, kept_traces};
+use worker_limit::WorkerLimit;
 
-/// Reports on the slowest of the kept traces of a book. The critical paths are found by all
-/// processors; the rest takes one pass over the traces, and linear time on average to tell the slow
+/// Reports on the slowest of the kept traces of a book. The critical paths are found by the
+/// workers; the rest takes one pass over the traces, and linear time on average to tell the slow
 /// ones. The only error is that memory ran out.
 pub fn tail<R: Threads + Sync>(
-    rt: &R,
+    workers: &WorkerLimit<'_, R>,
     alloc: Global,
     book: &KeptBook,
 ) -> Result<SlowReport, AllocError>
@@ -26,7 +27,7 @@ pub fn tail<R: Threads + Sync>(
     let names = book.names();
     let model = Model::new(book.words(), names);
     let traces = kept_traces(alloc, book.day_book())?;
-    let paths = critical_paths(rt, alloc, &traces, &model)?;
+    let paths = critical_paths(workers, alloc, &traces, &model)?;
     let latencies = list_latencies(alloc, &traces)?;
     let slow = find_slow(alloc, &latencies)?;
     let tables = tabulate_paths(alloc, names, &paths, &slow.marks)?;

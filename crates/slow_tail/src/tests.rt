@@ -6,12 +6,13 @@ ghost use Rattle.trace_types.specs.declared.named_segment.NamedSegment.{NamedSeg
 use crate::marking::find_slow;
 use crate::{TailRow, TailRowList, tail};
 use day_partitions::DayBook;
-use named_books::KeptBook;
+use kept_books::KeptBook;
 use pipeline_tests::DaySheet;
 use segment_names::Catalogue;
 use std::alloc::Global;
 use std::test::Fail;
 use trace_types::{NamedSegment, NamedTrace, Segment, SegmentList, Text, Trace};
+use worker_limit::WorkerLimit;
 
 #[test]
 fn of_equal_latencies_the_last_listed_are_slow(rt: HostRuntime) -> Result<(), Fail> {
@@ -152,7 +153,11 @@ fn the_slowest_are_told_from_the_rest(rt: HostRuntime) -> Result<(), Fail> {
         traces.push(name_trace(alloc, &mut catalogue, task, time).expect(&rt, "trace"))?;
     }
     let book = book_of(alloc, catalogue, traces).expect(&rt, "book");
-    let report = tail(&rt, alloc, &book)?;
+    let workers = WorkerLimit {
+        runtime: &rt,
+        most: 2,
+    };
+    let report = tail(&workers, alloc, &book)?;
     assert!(rt; report.traces == 3 && report.slow == 1 && report.floor == 4);
     let expected = [
         TailRow {
@@ -179,7 +184,11 @@ fn no_traces_have_a_report_of_zeros(rt: HostRuntime) -> Result<(), Fail> {
     let alloc = rt.alloc();
     let catalogue = Catalogue::new(alloc);
     let book = book_of(alloc, catalogue, Vec::new(alloc)).expect(&rt, "book");
-    let report = tail(&rt, alloc, &book)?;
+    let workers = WorkerLimit {
+        runtime: &rt,
+        most: 2,
+    };
+    let report = tail(&workers, alloc, &book)?;
     assert!(rt; report.traces == 0 && report.slow == 0 && report.floor == 0);
     assert!(rt; report.rows.items().is_empty());
     Ok(())

@@ -20,8 +20,8 @@ use Rattle.trace_types.specs.SegmentLists.{NamesDiffer}
 use Rattle.model_meet.specs.ModelStates.{ModelState}
 use Rattle.model_meet.specs.RelationBits.{KeepsExclusion}
 use Rattle.weighted_dag.specs.Graphs.{Graph, IsEdge, IsGraph, weight_of}
-use Rattle.trace_graph.specs.VertexOrder.{IsEarlier, IsVertexOrder}
-use Rattle.trace_graph.specs.TraceGraphs.{HasVertices, IsDependencyBy, IsGraphBy}
+use Rattle.trace_rules.specs.VertexOrder.{IsEarlier, IsVertexOrder}
+use Rattle.trace_rules.specs.TraceGraphs.{HasVertices, IsDependencyBy, IsGraphBy}
 use Rattle.trace_graph.specs.inner.Keys.{AreKeys, IsKeyBefore, Key, duration_of, index_in, key_at, name_in, no_key}
 use Rattle.trace_graph.specs.inner.Successors.{AreKnown, AreLists, name_at}
 

@@ -4,7 +4,8 @@ use Rattle.std.proofs.lemmas.Int.{by_lt_z}
 use Rattle.std.proofs.lemmas.Option.{slice_get_within, get_or_from_slice_get}
 use Rattle.trace_types.specs.Parts.{Parts}
 use Rattle.trace_types.specs.Refuting.{RefutesExclusive, StartsEarly}
-use Rattle.trace_graph.specs.TraceGraphs.{DoNotOverlap, IsDependency}
+use Rattle.trace_rules.specs.TraceGraphs.{IsDependency}
+use Rattle.trace_graph.specs.GraphLaws.{DoNotOverlap}
 
 contains_got : {X : Type 0} (xs : List X) (i : ℕ) (x : X) → slice_get xs i ≡ Some x → Contains xs x
 contains_got xs i x got = (i, slice_get_within xs i x got, get_or_from_slice_get xs i x x got)

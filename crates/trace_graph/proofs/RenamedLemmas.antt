@@ -8,8 +8,8 @@ use Rattle.trace_types.specs.Refuting.{RefutesExclusive}
 use Rattle.trace_types.specs.Renaming.{Agree, IsSegmentRenamed, IsTraceRenamed}
 use Rattle.trace_types.specs.Surviving.{Survives}
 use Rattle.weighted_dag.specs.Graphs.{Graph, weight_of}
-use Rattle.trace_graph.specs.VertexOrder.{ComesBefore, IsEarlier, IsVertexOrder}
-use Rattle.trace_graph.specs.TraceGraphs.{IsDependency, IsTraceGraph}
+use Rattle.trace_rules.specs.VertexOrder.{ComesBefore, IsEarlier, IsVertexOrder}
+use Rattle.trace_rules.specs.TraceGraphs.{IsDependency, IsTraceGraph}
 
 -- what matches the element at an index stands at that index
 right_of : {X Y : Type 0} (R : X → Y → Type 0) (xs : List X) (ys : List Y) → AllZip R xs ys → (k : ℕ) (x : X) → slice_get xs k ≡ Some x → IsSomeAnd (slice_get ys k) (R x)

@@ -12,8 +12,8 @@ use Rattle.trace_types.specs.Parts.{by_number}
 use Rattle.trace_types.specs.declared.named_segment.NamedSegment.{NamedSegment}
 use Rattle.trace_types.specs.declared.named_trace.NamedTrace.{NamedTrace}
 use Rattle.weighted_dag.specs.Graphs.{Graph}
-use Rattle.trace_graph.specs.VertexOrder.{IsEarlier}
-use Rattle.trace_graph.specs.TraceGraphs.{ExcludesIn, IsDependency, IsDependencyBy, IsGraphBy, IsTraceGraph}
+use Rattle.trace_rules.specs.VertexOrder.{IsEarlier}
+use Rattle.trace_rules.specs.TraceGraphs.{ExcludesIn, IsDependency, IsDependencyBy, IsGraphBy, IsTraceGraph}
 use Rattle.trace_graph.proofs.GraphLemmas.{earlier_asym, same_segment}
 
 module _ (model : ModelState) (trace : NamedTrace) (tells : TellsExclusions model) (below : HaveNamesBelow model.names trace) (traces : List NamedTrace) (left : AreSurvivors traces model.words) where

@@ -12,8 +12,8 @@ use Rattle.std.proofs.lemmas.List.Kept.{AllPairs-from_increasing}
 use Rattle.std.proofs.lemmas.Option.{slice_get-get_or, slice_get_cases}
 use Rattle.trace_types.specs.Parts.{Parts}
 use Rattle.weighted_dag.specs.Graphs.{Graph, IsEdge, IsGraph, successors_of, weight_of}
-use Rattle.trace_graph.specs.VertexOrder.{ComesBefore, IsEarlier, IsVertexOrder}
-use Rattle.trace_graph.specs.TraceGraphs.{IsTraceGraph}
+use Rattle.trace_rules.specs.VertexOrder.{ComesBefore, IsEarlier, IsVertexOrder}
+use Rattle.trace_rules.specs.TraceGraphs.{IsTraceGraph}
 
 slice_get_some : {X : Type 0} (xs : List X) (k : ℕ) → k < length xs → (x : X) × (slice_get xs k ≡ Some x)
 slice_get_some xs k lt = ⊎_elim (λ (x, within, got, read). (x, got)) (λ (past, none). absurd (omega arith)) (slice_get_cases xs k).1

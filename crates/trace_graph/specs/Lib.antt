@@ -1,4 +1,3 @@
+pub mod GraphLaws
 pub mod RenamedGraphs
-pub mod TraceGraphs
-pub mod VertexOrder
 pub mod inner

@@ -1,8 +1,8 @@
 -- Graphs of one trace under two readings.
 use Rattle.std.specs.Prelude.{ℕ, List}
+use Rattle.trace_rules.specs.TraceGraphs.{IsTraceGraph}
 use Rattle.trace_types.specs.Parts.{Parts}
 use Rattle.trace_types.specs.Renaming.{AreRenamed, IsOneToOne, IsTraceRenamed}
-use Rattle.trace_graph.specs.TraceGraphs.{IsTraceGraph}
 use Rattle.weighted_dag.specs.Graphs.{Graph}
 
 -- where names and tasks are matched one to one, a graph of a trace is one of the renamed trace

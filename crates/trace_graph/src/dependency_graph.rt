@@ -2,7 +2,7 @@ ghost use Rattle.std.specs.Prelude.{List, IfOk};
 ghost use Rattle.model_meet.specs.RelationBits.{KeepsExclusion};
 ghost use Rattle.refute_tests.specs.Clearing.{HaveNamesBelow};
 ghost use Rattle.refute_tests.specs.Survivors.{AreSurvivors};
-ghost use Rattle.trace_graph.specs.TraceGraphs.{HasVertices, IsGraphBy, IsTraceGraph};
+ghost use Rattle.trace_rules.specs.TraceGraphs.{HasVertices, IsGraphBy, IsTraceGraph};
 ghost use Rattle.trace_types.specs.Parts.{by_number};
 ghost use Rattle.trace_types.specs.declared.named_trace.NamedTrace.{NamedTrace};
 

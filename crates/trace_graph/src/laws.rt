@@ -1,8 +1,9 @@
 //! Laws over the definitions alone: each function does nothing, and its contract is the law.
 ghost use Rattle.std.specs.Prelude.{ℕ, List, Contains};
-ghost use Rattle.trace_graph.specs.RenamedGraphs.{RenamedGraphIsTheSame};
-ghost use Rattle.trace_graph.specs.TraceGraphs.{DoNotOverlap, HasOneGraph, IsDependency};
+ghost use Rattle.trace_rules.specs.TraceGraphs.{IsDependency};
 ghost use Rattle.trace_types.specs.Parts.{Parts};
+ghost use Rattle.trace_graph.specs.RenamedGraphs.{RenamedGraphIsTheSame};
+ghost use Rattle.trace_graph.specs.GraphLaws.{DoNotOverlap, HasOneGraph};
 
 use trace_types::laws::{a_list_is_told_in_one_way, renamed_traces_leave_alike};
 

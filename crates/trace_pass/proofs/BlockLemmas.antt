@@ -8,9 +8,9 @@ use Rattle.word_rows.specs.declared.views.Reading.{Reading}
 use Rattle.word_rows.specs.Changes.{readings_from}
 use Rattle.word_rows.specs.declared.events.StepEvent.{StepEvent}
 use Rattle.word_rule.specs.Histories.{ArePrefixes}
-use Rattle.trace_pass.specs.Halving.{first_part, shares_of}
+use Rattle.trace_rules.specs.Halving.{first_part, shares_of}
 use Rattle.trace_pass.specs.States.{HasStopped, RecorderState, RecordingState, both_recordings}
-use Rattle.trace_pass.specs.declared.watch_lines.WatchLine.{WatchLine}
+use Rattle.trace_rules.specs.declared.watch_line.WatchLine.{WatchLine}
 use Rattle.trace_pass.specs.inner.Working.{AreHalves, AreLines, HasWorked}
 use Rattle.trace_pass.proofs.HalvingLemmas.{length_shares, shares_split}
 use Rattle.trace_pass.proofs.WatchLemmas.{lines_both}

@@ -8,10 +8,11 @@ use Rattle.std.specs.List.{All, AllPairs}
 use Rattle.trace_types.specs.declared.named_trace.NamedTrace.{NamedTrace}
 use Rattle.word_rows.specs.Words.{AreWords}
 use Rattle.trace_pass.specs.Counts.{IsAtLeastRefutedCount, zeros}
-use Rattle.trace_pass.specs.Halving.{share_at}
+use Rattle.trace_rules.specs.Halving.{share_at}
 use Rattle.trace_pass.specs.States.{RecordingState}
-use Rattle.trace_pass.specs.Watch.{HasWatched, watch_marks}
-use Rattle.trace_pass.specs.declared.watch_lines.WatchLine.{WatchLine}
+use Rattle.trace_pass.specs.Watch.{HasWatched}
+use Rattle.trace_rules.specs.WatchMarks.{watch_marks}
+use Rattle.trace_rules.specs.declared.watch_line.WatchLine.{WatchLine}
 use Rattle.trace_pass.specs.inner.Working.{AreLines, HasWatchedFrom}
 
 abbrev mark : WatchLine → ℕ × ℕ

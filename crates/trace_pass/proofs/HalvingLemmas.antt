@@ -5,7 +5,7 @@ use Rattle.std.proofs.lemmas.Bool.{le-ltb, lt-ltb, cases_order}
 use Rattle.std.proofs.lemmas.List.{append-nil, take-append-drop}
 use Rattle.std.proofs.lemmas.List.Concat.{flat_map-append}
 use Rattle.std.specs.List.{flat_map}
-use Rattle.trace_pass.specs.Halving.{first_part, halving, shares_of}
+use Rattle.trace_rules.specs.Halving.{first_part, halving, shares_of}
 
 pub part_within : (n workers : ℕ) → 0 < workers → first_part n workers ≤ n
 part_within n workers some = div-le_of_le-mul workers (let h : n * (workers / 2) ≤ n * workers = mul-le-mul_left n (omega arith) in omega arith)

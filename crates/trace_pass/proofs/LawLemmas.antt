@@ -19,8 +19,8 @@ use Rattle.word_rows.specs.Meeting.{BlockLacks, LacksAppend}
 use Rattle.word_rows.specs.Words.{AreWords, bit_of}
 use Rattle.trace_pass.specs.Counts.{IsAtMostRefutedCount, zeros}
 use Rattle.trace_pass.specs.Meaning.{CountIsOne, NumbersAreAtMost, NumbersAreWithin, SharesAreWhole, ZerosAreCount}
-use Rattle.trace_pass.specs.Halving.{shares_of}
-use Rattle.trace_pass.specs.declared.watch_lines.WatchLine.{WatchLine}
+use Rattle.trace_rules.specs.Halving.{shares_of}
+use Rattle.trace_rules.specs.declared.watch_line.WatchLine.{WatchLine}
 use Rattle.trace_pass.proofs.HalvingLemmas.{length_shares, whole_shares}
 use Rattle.trace_pass.proofs.PlaceLemmas.{PlacesDiffer, PlacesFit, least_from, most_refuted}
 use Rattle.trace_pass.proofs.WatchLemmas.{lacks_flat}

@@ -9,11 +9,11 @@ use Rattle.trace_types.specs.declared.named_trace.NamedTrace.{NamedTrace}
 use Rattle.word_rows.specs.Changes.{left_view, new_view}
 use Rattle.word_rule.specs.Histories.{KnowsMore}
 use Rattle.word_rule.specs.Holdings.{Holding, together, with_view}
-use Rattle.trace_pass.specs.Halving.{first_part, shares_of}
+use Rattle.trace_rules.specs.Halving.{first_part, shares_of}
 use Rattle.trace_pass.specs.Rows.{AreRowsWithin}
 use Rattle.trace_pass.specs.States.{HasStopped, IsOfRecorder, RecorderState, RecordingState, both_recordings}
 use Rattle.trace_pass.specs.Watch.{HasWatched}
-use Rattle.trace_pass.specs.declared.watch_lines.WatchLine.{WatchLine}
+use Rattle.trace_rules.specs.declared.watch_line.WatchLine.{WatchLine}
 use Rattle.trace_pass.specs.inner.Parts.{HasRows, IsCutInto, PartState, recording_of, rest_of, with_recorded}
 use Rattle.trace_pass.specs.inner.Working.{AreHalves, AreLines, AreLinesAfter, CanOffer, HasRecorded, HasStoppedAt, HasWatchedFrom, HasWorked, IsWatching}
 use Rattle.trace_pass.proofs.BlockLemmas.{both_worked, first_kept, first_stopped}

@@ -13,8 +13,8 @@ use Rattle.word_rows.specs.Changes.{readings_from}
 use Rattle.word_rows.specs.Meeting.{BlockLacks, LacksAppend}
 use Rattle.word_rows.specs.Words.{AreWords, bit_of}
 use Rattle.trace_pass.specs.Counts.{IsAtLeastRefutedCount, zeros}
-use Rattle.trace_pass.specs.Watch.{is_multiple, watch_counts}
-use Rattle.trace_pass.specs.declared.watch_lines.WatchLine.{WatchLine}
+use Rattle.trace_rules.specs.WatchMarks.{is_multiple, watch_counts}
+use Rattle.trace_rules.specs.declared.watch_line.WatchLine.{WatchLine}
 use Rattle.trace_pass.specs.inner.Working.{AreLines, AreLinesAfter, IsWatching}
 use Rattle.trace_pass.proofs.CountLemmas.{zeros_le}
 

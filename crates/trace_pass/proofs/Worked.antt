@@ -1,8 +1,8 @@
 -- The definitions on the examples of the documents.
 use Rattle.std.proofs.Common.{◌≡◌, ℕ, [], ◌∷◌, refl}
 use Rattle.trace_types.specs.declared.named_trace.NamedTrace.{NamedTrace}
-use Rattle.trace_pass.specs.Halving.{halving, share_of, shares_of}
-use Rattle.trace_pass.specs.Watch.{watch_counts, watch_marks}
+use Rattle.trace_rules.specs.Halving.{halving, share_of, shares_of}
+use Rattle.trace_rules.specs.WatchMarks.{watch_counts, watch_marks}
 
 five_among_three : shares_of {T = ℕ} (1 ∷ 2 ∷ 3 ∷ 4 ∷ 5 ∷ []) 3 ≡ (1 ∷ []) ∷ (2 ∷ 3 ∷ []) ∷ (4 ∷ 5 ∷ []) ∷ []
 unfolding halving

@@ -1,7 +1,6 @@
 pub mod Rows
 pub mod States
 pub mod Faults
-pub mod Halving
 pub mod Counts
 pub mod Watch
 pub mod Meaning

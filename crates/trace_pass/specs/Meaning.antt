@@ -4,13 +4,13 @@ use Rattle.std.specs.List.{All, flat_map}
 use Rattle.hypothesis_index.specs.Places.{width_of}
 use Rattle.refute_tests.specs.Clearing.{HaveNamesBelow}
 use Rattle.refute_tests.specs.Survivors.{AreSurvivors}
+use Rattle.trace_rules.specs.Halving.{shares_of}
+use Rattle.trace_rules.specs.declared.watch_line.WatchLine.{WatchLine}
 use Rattle.trace_types.specs.declared.named_trace.NamedTrace.{NamedTrace}
 use Rattle.trace_pass.specs.Counts.{IsRefutedCount, zeros}
-use Rattle.trace_pass.specs.Halving.{shares_of}
 use Rattle.trace_pass.specs.Rows.{LackOnlyRefuted}
 use Rattle.trace_pass.specs.States.{RecordingState}
 use Rattle.trace_pass.specs.Watch.{AreAtMostRefuted, AreNumberedWatchLines, HasWatched}
-use Rattle.trace_pass.specs.declared.watch_lines.WatchLine.{WatchLine}
 
 -- there is one share for each worker, and one after the other they are the traces
 abbrev pub SharesAreWhole : Type 0

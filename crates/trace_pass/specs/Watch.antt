@@ -1,29 +1,15 @@
 -- Watch lines, and the readings from which their numbers are taken.
-use Rattle.std.specs.Prelude.{◌≡◌, ℕ, ◌+◌, ◌%◌, ◌≤◌, Bool, not, ◌&&◌, ◌==◌, List, [], ◌∷◌, ◌++◌, length, map, take}
-use Rattle.std.specs.List.{All, AllPairs, filter, flat_map, range_with_len}
+use Rattle.std.specs.Prelude.{◌≡◌, ℕ, ◌+◌, ◌≤◌, List, ◌++◌, length, map, take}
+use Rattle.std.specs.List.{All, AllPairs, flat_map}
+use Rattle.trace_rules.specs.Halving.{share_at, share_of, shares_of}
+use Rattle.trace_rules.specs.WatchMarks.{watch_marks}
+use Rattle.trace_rules.specs.declared.watch_line.WatchLine.{WatchLine}
 use Rattle.trace_types.specs.declared.named_trace.NamedTrace.{NamedTrace}
 use Rattle.word_rows.specs.Changes.{readings_from}
 use Rattle.word_rows.specs.Words.{AreWords}
-use Rattle.trace_pass.specs.Counts.{IsAtLeastRefutedCount, IsAtMostRefutedCount, IsWithinRefuted, zeros}
-use Rattle.trace_pass.specs.Halving.{share_at, share_of, shares_of}
+use Rattle.trace_pass.specs.Counts.{IsAtLeastRefutedCount, IsAtMostRefutedCount, IsWithinRefuted}
+use Rattle.trace_pass.specs.Counts.{zeros}
 use Rattle.trace_pass.specs.States.{RecordingState}
-use Rattle.trace_pass.specs.declared.watch_lines.WatchLine.{WatchLine}
-
--- the number is a multiple of this one, which is not 0
-abbrev pub is_multiple : ℕ → ℕ → Bool
-is_multiple every n = not (every == 0) && (n % every == 0)
-
--- after how many of its traces a worker with so many takes a number
-abbrev pub watch_counts : ℕ → ℕ → List ℕ
-watch_counts every traces = filter (is_multiple every) (range_with_len 1 traces)
-
--- which lines workers with these shares write, of whom this one is the first: by worker, and then
--- by how many of its traces it had offered
-abbrev pub watch_marks : {T : Type 0} → ℕ → ℕ → List (List T) → List (ℕ × ℕ)
-watch_marks every worker [] = []
-watch_marks every worker (share ∷ shares) =
-    map (λ (n : ℕ). (worker, n)) (watch_counts every (length share))
-    ++ watch_marks every (worker + 1) shares
 
 -- the lines of workers with these shares, and the readings from which their numbers were taken
 pub record HasWatched (every width : ℕ) (shares : List (List NamedTrace))

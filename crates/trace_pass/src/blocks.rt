@@ -1,16 +1,16 @@
 ghost use Rattle.std.specs.Prelude.{◌≡◌, ◌^◌, ◌<◌, ◌≤◌, ◌++◌, IfErr, IfOk};
 ghost use Rattle.std.specs.Thread.{IsSync};
+ghost use Rattle.trace_rules.specs.Halving.{first_part};
 ghost use Rattle.word_rule.specs.Holdings.{IsOfTable, together};
-ghost use Rattle.trace_pass.specs.Halving.{first_part};
 ghost use Rattle.trace_pass.specs.inner.Parts.{HasRows, IsCutInto, part_of, recording_of, rest_of};
 ghost use Rattle.trace_pass.specs.inner.Working.{AreHalves, CanOffer, HasRecorded, HasStoppedAt};
 
 use crate::parts::{Part, Stopped};
 use crate::recorders::Recorder;
-use crate::watch_lines::WatchLine;
 use crate::workers::offer_part;
 use mystery_io::Gate;
 use std::thread::{Threads, join};
+use trace_rules::WatchLine;
 use word_rule::Pass;
 
 /// How many of so many traces the first half of the workers takes.

@@ -31,4 +31,4 @@ pub use offering::{OfferAllFault, offer_all};
 pub use recorders::{OfferFault, Recorder};
 pub use recordings::Recording;
 pub use sharing::JoinFault;
-pub use watch_lines::{WatchLine, WatchLines};
+pub use watch_lines::WatchLines;

@@ -1,7 +1,7 @@
 ghost use Rattle.std.specs.Prelude.{◌≡◌, ◌^◌, ◌<◌, ◌++◌, All, length, IfErr, IfOk};
 ghost use Rattle.refute_tests.specs.Clearing.{HaveNamesBelow};
+ghost use Rattle.trace_rules.specs.Halving.{shares_of};
 ghost use Rattle.word_rule.specs.Histories.{IsOfOneHistory, KnowsMore};
-ghost use Rattle.trace_pass.specs.Halving.{shares_of};
 ghost use Rattle.trace_pass.specs.States.{HasStopped, IsOfRecorder};
 ghost use Rattle.trace_pass.specs.Watch.{HasWatched};
 

@@ -1,17 +1,7 @@
 ghost use Rattle.std.specs.Prelude.{◌≡◌};
 
 use std::marker::Model;
-
-/// A watch number: what a worker saw refuted just after it had offered so many of its traces.
-#[derive(Clone, Copy, Debug, PartialEq, Eq)]
-pub struct WatchLine {
-    /// The worker, counted from 0.
-    pub worker: u32,
-    /// How many of its traces the worker had offered.
-    pub done: u32,
-    /// The number of relations that its reading showed as refuted.
-    pub refuted: u32,
-}
+use trace_rules::WatchLine;
 
 /// Watch lines in order, seen as their list.
 #[derive(Debug, Drop)]
@@ -21,7 +11,7 @@ pub struct WatchLines {
 
 impl Model for WatchLines {
     ghost use Rattle.std.specs.Prelude.{List};
-    ghost use Rattle.trace_pass.specs.declared.watch_lines.WatchLine.{WatchLine};
+    ghost use Rattle.trace_rules.specs.declared.watch_line.WatchLine.{WatchLine};
 
     ghost Value = { List WatchLine };
 

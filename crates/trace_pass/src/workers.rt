@@ -1,19 +1,21 @@
-ghost use Rattle.std.specs.Prelude.{◌≡◌, ◌+◌, ◌^◌, ◌<◌, List, [], ◌∷◌, ◌++◌, length, take, IfErr, IfOk, IsTrue, OnOk};
+ghost use Rattle.std.specs.Prelude.{◌≡◌, ◌+◌, ◌^◌, ◌<◌, List, [], ◌∷◌, ◌++◌, length, take, IfErr};
+ghost use Rattle.std.specs.Prelude.{IfOk, IsTrue, OnOk};
+ghost use Rattle.trace_rules.specs.WatchMarks.{is_multiple};
 ghost use Rattle.trace_types.specs.declared.named_trace.NamedTrace.{NamedTrace};
 ghost use Rattle.word_rows.specs.declared.views.Reading.{Reading};
 ghost use Rattle.word_rule.specs.Histories.{KnowsMore};
 ghost use Rattle.trace_pass.specs.States.{HasStopped, IsOfRecorder};
-ghost use Rattle.trace_pass.specs.Watch.{is_multiple};
 ghost use Rattle.trace_pass.specs.inner.Parts.{HasSameTraces, recording_of, rest_of};
-ghost use Rattle.trace_pass.specs.inner.Working.{CanOffer, HasRecorded, HasStoppedAt, HasWorked, IsWatching};
+ghost use Rattle.trace_pass.specs.inner.Working.{CanOffer, HasRecorded, HasStoppedAt, HasWorked};
+ghost use Rattle.trace_pass.specs.inner.Working.{IsWatching};
 
 use crate::counting::read_number;
 use crate::parts::{Part, Stopped};
 use crate::recorders::Recorder;
-use crate::watch_lines::WatchLine;
 use mystery_io::Gate;
 use pipeline_tests::RowRoom;
 use std::alloc::AllocError;
+use trace_rules::WatchLine;
 use word_rows::laws::{block_lacks, lacks_append};
 use word_rule::Pass;
 

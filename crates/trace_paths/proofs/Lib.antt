@@ -1,5 +1,6 @@
 pub mod AllPathsLemmas
 pub mod BookLemmas
+pub mod OnePathLemmas
 pub mod OrderLemmas
 pub mod PathLemmas
 pub mod TableLemmas

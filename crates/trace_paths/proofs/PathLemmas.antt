@@ -18,9 +18,10 @@ use Rattle.trace_types.specs.Parts.{by_number}
 use Rattle.trace_types.specs.SegmentLists.{NamesDiffer}
 use Rattle.weighted_dag.specs.Chains.{IsChain}
 use Rattle.weighted_dag.specs.Graphs.{Graph, IsGraph, order_of}
-use Rattle.trace_graph.specs.TraceGraphs.{HasVertices}
-use Rattle.trace_graph.specs.VertexOrder.{ComesBefore, IsEarlier}
-use Rattle.trace_paths.specs.CriticalPaths.{IsNamedPath, StandsFor}
+use Rattle.trace_rules.specs.TraceGraphs.{HasVertices}
+use Rattle.trace_rules.specs.VertexOrder.{ComesBefore, IsEarlier}
+use Rattle.trace_rules.specs.CriticalPaths.{StandsFor}
+use Rattle.trace_paths.specs.NumberedPaths.{IsNamedPath}
 
 -- two lists side by side, at an index
 pub zip_at : {X Y : Type 0} (R : X → Y → Type 0) (xs : List X) (ys : List Y) (i : ℕ) (d : X) (e : Y) → AllZip R xs ys → i < length ys → R (get_or xs i d) (get_or ys i e)

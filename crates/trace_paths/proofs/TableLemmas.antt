@@ -7,7 +7,7 @@ use Rattle.std.proofs.lemmas.List.{get_or-replicate, length-replicate, length-se
 use Rattle.std.proofs.lemmas.List.Elements.{filter-append}
 use Rattle.trace_types.specs.declared.named_segment.NamedSegment.{NamedSegment}
 use Rattle.trace_types.specs.Parts.{by_number}
-use Rattle.trace_paths.specs.Durations.{duration, durations_of}
+use Rattle.trace_rules.specs.Durations.{duration, durations_of}
 use Rattle.trace_paths.specs.Tables.{IsTableOf}
 
 -- the lists that a list of vectors shows

@@ -4,8 +4,9 @@ use Rattle.model_meet.specs.ModelStates.{ModelState}
 use Rattle.model_meet.specs.RelationBits.{KeepsExclusion}
 use Rattle.refute_tests.specs.Clearing.{HaveNamesBelow}
 use Rattle.refute_tests.specs.Survivors.{AreSurvivors}
-use Rattle.trace_graph.specs.TraceGraphs.{IsGraphBy, IsTraceGraph}
-use Rattle.trace_paths.specs.CriticalPaths.{IsNamedPath, IsPathBy, IsPathUnder}
+use Rattle.trace_rules.specs.TraceGraphs.{IsGraphBy, IsTraceGraph}
+use Rattle.trace_rules.specs.CriticalPaths.{IsPathBy}
+use Rattle.trace_paths.specs.NumberedPaths.{IsNamedPath, IsPathUnder}
 use Rattle.trace_paths.specs.inner.GraphPaths.{IsPathIn}
 use Rattle.trace_types.specs.Parts.{by_number}
 use Rattle.trace_types.specs.declared.named_segment.NamedSegment.{NamedSegment}

@@ -1,5 +1,5 @@
-pub mod CriticalPaths
-pub mod Durations
 pub mod NameOrders
+pub mod NumberedPaths
+pub mod PathLaws
 pub mod Tables
 pub mod inner

@@ -1,8 +1,8 @@
 -- Durations by the numbers of names.
 use Rattle.std.specs.Prelude.{◌≡◌, ℕ, ◌<◌, nat_eq, List, [], length, slice_index_or}
+use Rattle.trace_rules.specs.Durations.{durations_of}
 use Rattle.trace_types.specs.declared.named_segment.NamedSegment.{NamedSegment}
 use Rattle.trace_types.specs.Parts.{by_number}
-use Rattle.trace_paths.specs.Durations.{durations_of}
 
 -- the list of a name's number
 abbrev pub list_at : List (List ℕ) → ℕ → List ℕ

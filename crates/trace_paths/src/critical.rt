@@ -1,8 +1,9 @@
 ghost use Rattle.std.specs.Prelude.{◌<◌, ℕ, All, IfOk, length};
 ghost use Rattle.std.specs.List.{AllZip};
 ghost use Rattle.refute_tests.specs.Clearing.{HaveNamesBelow};
-ghost use Rattle.trace_graph.specs.TraceGraphs.{HasVertices};
-ghost use Rattle.trace_paths.specs.CriticalPaths.{IsNamedPath, IsPathUnder, StandsFor};
+ghost use Rattle.trace_rules.specs.TraceGraphs.{HasVertices};
+ghost use Rattle.trace_rules.specs.CriticalPaths.{StandsFor};
+ghost use Rattle.trace_paths.specs.NumberedPaths.{IsNamedPath, IsPathUnder};
 ghost use Rattle.trace_paths.specs.inner.GraphPaths.{IsPathIn};
 ghost use Rattle.trace_types.specs.Parts.{by_number};
 

@@ -1,5 +1,5 @@
 ghost use Rattle.std.specs.Prelude.{◌≡◌};
-ghost use Rattle.trace_paths.specs.Durations.{duration};
+ghost use Rattle.trace_rules.specs.Durations.{duration};
 ghost use Rattle.trace_types.specs.Parts.{by_number};
 
 use std::alloc::{AllocError, Global};

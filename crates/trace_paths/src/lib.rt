@@ -1,4 +1,4 @@
-//! The critical paths of traces: of one trace under a model, and of many by all processors; and how
+//! The critical paths of traces: of one trace under a model, and of many by the workers; and how
 //! long the segments of each name last.
 #![tactic(auto)]
 
@@ -6,6 +6,7 @@ mod all_paths;
 mod critical;
 mod duration_table;
 mod kept;
+pub mod laws;
 mod name_order;
 
 pub use all_paths::critical_paths;

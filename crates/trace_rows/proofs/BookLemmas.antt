@@ -6,7 +6,7 @@ use Rattle.std.proofs.lemmas.List.Folds.{length-flat_map-take}
 use Rattle.std.proofs.lemmas.Option.{slice_get-get_or, get_or_from_slice_get}
 use Rattle.day_partitions.specs.Books.{KeptDay, all_traces}
 use Rattle.refute_tests.specs.Clearing.{HaveNamesBelow}
-use Rattle.trace_graph.specs.TraceGraphs.{IsTraceGraph}
+use Rattle.trace_rules.specs.TraceGraphs.{IsTraceGraph}
 use Rattle.trace_rows.specs.inner.NumberedTraces.{IsNumbered}
 use Rattle.trace_types.specs.Parts.{by_number}
 use Rattle.trace_types.specs.Segments.{SegmentName}

@@ -12,7 +12,7 @@ use Rattle.session_rules.specs.Parts.{IsPart, Part}
 use Rattle.text_rows.specs.PartsFollow.{PartCallGoesOn, PartCallsFollow}
 use Rattle.text_rows.specs.declared.print_fault.PrintFault.{PrintFault}
 use Rattle.trace_types.specs.declared.named_trace.NamedTrace.{NamedTrace}
-use Rattle.named_books.specs.KeptBooks.{KeptState}
+use Rattle.kept_books.specs.KeptBooks.{KeptState}
 use Rattle.trace_rows.specs.inner.ShownTraces.{PrintsShown}
 use Rattle.trace_rows.proofs.PrintLemmas.{done, shown_follow, shown_goes_on}
 

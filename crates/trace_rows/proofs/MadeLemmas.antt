@@ -10,7 +10,7 @@ use Rattle.std.proofs.Math.Seq.{drop-append_seam, take-add}
 use Rattle.std.proofs.lemmas.Grind.{flat_map-append}
 use Rattle.std.proofs.lemmas.List.{append-nil, map-append, take-append-le, take_all}
 use Rattle.std.proofs.lemmas.List.Elements.{All-cons, All-drop, All-nil, All-take}
-use Rattle.kept_books.specs.Shown.{AreShown, IsShown}
+use Rattle.book_laws.specs.Shown.{AreShown, IsShown}
 use Rattle.session_rules.specs.KeptTraces.{Kept}
 use Rattle.session_rules.specs.Parts.{IsPart, Part}
 use Rattle.text_rows.specs.PartsFollow.{AreTextsOfBoth, FlushEndsParts}
@@ -21,7 +21,7 @@ use Rattle.text_rows.specs.declared.print_fault.PrintFault.{PrintFault}
 use Rattle.trace_types.specs.declared.named_trace.NamedTrace.{NamedTrace}
 use Rattle.trace_rows.specs.declared.chunks.Piece.{Piece}
 use Rattle.trace_rows.specs.inner.Pieces.{traces_of_pieces}
-use Rattle.named_books.specs.KeptBooks.{KeptState}
+use Rattle.kept_books.specs.KeptBooks.{KeptState}
 use Rattle.trace_rows.specs.inner.ShownTraces.{IsShownText, PrintsShown}
 use Rattle.trace_rows.proofs.ChunkLemmas.{collected, lent}
 use Rattle.trace_rows.proofs.PrintLemmas.{done, zip_split}

@@ -6,7 +6,7 @@ use Rattle.std.proofs.lemmas.List.{map-append, take_all, take_more, drop_more, t
 use Rattle.std.proofs.lemmas.Grind.{flat_map-append}
 use Rattle.std.proofs.lemmas.Slice.Zip.{AllZip-long}
 use Rattle.std.proofs.lemmas.Option.{slice_get-get_or, get_or_from_slice_get}
-use Rattle.kept_books.specs.Shown.{AreShown, IsShown}
+use Rattle.book_laws.specs.Shown.{AreShown, IsShown}
 use Rattle.session_rules.specs.KeptTraces.{Kept}
 use Rattle.session_rules.specs.Parts.{Header, IsPart, Part, traces_row}
 use Rattle.text_rows.specs.Printing.{PrintsText}
@@ -15,7 +15,7 @@ use Rattle.text_rows.specs.TextsFollow.{CallGoesOn, CallsFollow, NothingIsPrinte
 use Rattle.text_rows.specs.declared.print_fault.PrintFault.{PrintFault}
 use Rattle.text_rows.specs.declared.print_fault.PrintFault.TheVariants.{Memory}
 use Rattle.trace_types.specs.declared.named_trace.NamedTrace.{NamedTrace}
-use Rattle.named_books.specs.KeptBooks.{KeptState, traces_in}
+use Rattle.kept_books.specs.KeptBooks.{KeptState, traces_in}
 use Rattle.trace_rows.specs.inner.ShownTraces.{PrintsShown, PrintsWhole}
 
 -- nothing went wrong

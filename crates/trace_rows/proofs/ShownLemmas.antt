@@ -2,7 +2,7 @@
 use Rattle.std.proofs.Common.{◌≡◌, ℕ, zero, suc, ◌<◌, List, [], ◌∷◌, length, slice_get, slice_index, Some, Contains, ◌↔◌, refl, sym, ◌∙◌, ap, arith}
 use Rattle.std.specs.List.{AllZip, enumerate_from}
 use Rattle.std.specs.Option.{option_map_or, unwrap_or}
-use Rattle.kept_books.specs.Shown.{IsShown}
+use Rattle.book_laws.specs.Shown.{IsShown}
 use Rattle.segment_names.specs.Known.{Known}
 use Rattle.session_rules.specs.KeptTraces.{Kept, by_kept}
 use Rattle.session_rules.specs.TraceTexts.{name_of_vertex}

@@ -2,18 +2,18 @@
 use Rattle.std.proofs.Common.{◌≡◌, ℕ, zero, suc, ◌^◌, ◌<◌, ◌++◌, ◌↔◌, List, [], ◌∷◌, length, get_or, slice_index, codes, decimal, refl, sym, ◌∙◌, ap, subst, zero-add, arith}
 use Rattle.std.specs.List.{All, EachIndex, flat_map, range_with_len}
 use Rattle.std.proofs.lemmas.List.FromFn.{length-range_with_len, get_or-range_with_len}
-use Rattle.kept_books.specs.Shown.{AreShown, IsShown}
+use Rattle.book_laws.specs.Shown.{AreShown, IsShown}
 use Rattle.segment_names.specs.Known.{Known}
 use Rattle.segment_names.specs.Limits.{IsKept}
 use Rattle.session_rules.specs.KeptTraces.{Kept}
 use Rattle.session_rules.specs.TraceTexts.{IsGraphText, IsPathText, IsSlackText, edges_of, graph_text, name_of_vertex, path_text, slack_text, trace_row}
 use Rattle.text_rows.specs.Rows.{row_of}
-use Rattle.trace_graph.specs.TraceGraphs.{IsTraceGraph}
+use Rattle.trace_rules.specs.TraceGraphs.{IsTraceGraph}
 use Rattle.trace_types.specs.Parts.{by_number}
 use Rattle.trace_types.specs.declared.named_trace.NamedTrace.{NamedTrace}
-use Rattle.kept_books.specs.GraphLaws.{GraphIsShown}
+use Rattle.book_laws.specs.GraphLaws.{GraphIsShown}
 use Rattle.trace_rows.specs.inner.NumberedTraces.{IsNumbered, NumberedTrace, edge_row, edge_rows, graph_rows, name_row, row_of_trace, path_rows, vertex_slack_row, slack_rows, vertex_step_row, vertex_row}
-use Rattle.named_books.specs.KeptBooks.{KeptState, traces_in}
+use Rattle.kept_books.specs.KeptBooks.{KeptState, traces_in}
 use Rattle.trace_rows.specs.inner.ShownTraces.{NamesAreShown}
 use Rattle.trace_rows.proofs.EdgeLemmas.{edge_rows_are}
 use Rattle.weighted_dag.specs.Chains.{IsChain, IsLongestLength, NoLongestIsBefore, NoneIsLonger, chain_length}

@@ -1,13 +1,13 @@
 ghost use Rattle.std.specs.Prelude.{◌≡◌, IfOk, length, map};
 ghost use Rattle.std.specs.Borrow.{Bor};
 ghost use Rattle.std.specs.List.{All};
-ghost use Rattle.named_books.specs.KeptBooks.{traces_in};
+ghost use Rattle.kept_books.specs.KeptBooks.{traces_in};
 ghost use Rattle.refute_tests.specs.Clearing.{HaveNamesBelow};
 ghost use Rattle.trace_rows.specs.inner.PreparedBooks.{AreExclusionsOf};
 ghost use Rattle.trace_types.specs.declared.named_trace.NamedTrace.{NamedTrace};
 
+use kept_books::KeptBook;
 use model_meet::{Exclusions, Model};
-use named_books::KeptBook;
 use std::alloc::{AllocError, Global};
 use trace_paths::kept_traces;
 use trace_types::NamedTrace;

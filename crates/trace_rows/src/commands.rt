@@ -1,6 +1,6 @@
 ghost use Rattle.std.specs.Prelude.{◌≡◌, ◌∷◌, List, length, map, codes};
-ghost use Rattle.kept_books.specs.Shown.{AreShown};
-ghost use Rattle.named_books.specs.KeptBooks.{traces_in};
+ghost use Rattle.book_laws.specs.Shown.{AreShown};
+ghost use Rattle.kept_books.specs.KeptBooks.{traces_in};
 ghost use Rattle.session_rules.specs.KeptTraces.{Kept};
 ghost use Rattle.session_rules.specs.Parts.{GraphOf, Header, IsPart, PathOf, SlacksOf};
 ghost use Rattle.session_rules.specs.Parts.{traces_row};
@@ -12,13 +12,14 @@ use crate::graph_texts::GraphTexts;
 use crate::path_texts::PathTexts;
 use crate::slack_texts::SlackTexts;
 use crate::trace_texts::{TraceTexts, print_days};
+use kept_books::KeptBook;
 use mystery_io::Sink;
-use named_books::KeptBook;
 use session_rules::SessionPart;
 use std::alloc::Global;
 use std::thread::Threads;
 use text_rows::laws::part_calls_follow;
 use text_rows::{Field, PrintFault, RowBuffer, print_row};
+use worker_limit::WorkerLimit;
 
 /// Counts the traces of a book.
 fn count_traces(book: &KeptBook) -> u64
@@ -51,7 +52,7 @@ fn print_header<S: Sink>(
 
 /// Prints a header of this word and the parts of all traces of a book.
 fn print_whole<R: Threads + Sync, S: Sink, K: TraceTexts>(
-    rt: &R,
+    workers: &WorkerLimit<'_, R>,
     alloc: Global,
     book: &KeptBook,
     word: &str,
@@ -65,18 +66,18 @@ fn print_whole<R: Threads + Sync, S: Sink, K: TraceTexts>(
 {
     part_calls_follow::<S, SessionPart>();
     print_header(sink, buffer, word, book)?;
-    print_days(rt, alloc, book, texts, sink, buffer)
+    print_days(workers, alloc, book, texts, sink, buffer)
 }
 
 /// Prints the critical path of each trace of a book: a header with the number of traces, then the
 /// paths, by day and within a day in the order in which the traces were taken. Times are in
 /// nanoseconds.
 ///
-/// Texts are made by all processors, a chunk of traces at a time, and those of a chunk are printed
+/// Texts are made by the workers, a chunk of traces at a time, and those of a chunk are printed
 /// before the next are made. After an error a prefix of the text was printed, and nothing is said
 /// of the buffer.
 pub fn print_paths<R: Threads + Sync, S: Sink>(
-    rt: &R,
+    workers: &WorkerLimit<'_, R>,
     alloc: Global,
     book: &KeptBook,
     sink: &mut S,
@@ -87,13 +88,13 @@ pub fn print_paths<R: Threads + Sync, S: Sink>(
         (Header (codes "paths") (length kept) ∷ map (PathOf kept) kept) buffer.old buffer.new }
     ensures counted { S.faults sink.new ≡ print_faults result (S.faults sink.old) }
 {
-    print_whole(rt, alloc, book, "paths", &PathTexts, sink, buffer)
+    print_whole(workers, alloc, book, "paths", &PathTexts, sink, buffer)
 }
 
 /// Prints the longest length of each trace of a book and the slacks of its segments, as
 /// `print_paths` prints paths.
 pub fn print_slacks<R: Threads + Sync, S: Sink>(
-    rt: &R,
+    workers: &WorkerLimit<'_, R>,
     alloc: Global,
     book: &KeptBook,
     sink: &mut S,
@@ -104,13 +105,13 @@ pub fn print_slacks<R: Threads + Sync, S: Sink>(
         (Header (codes "slack") (length kept) ∷ map (SlacksOf kept) kept) buffer.old buffer.new }
     ensures counted { S.faults sink.new ≡ print_faults result (S.faults sink.old) }
 {
-    print_whole(rt, alloc, book, "slack", &SlackTexts, sink, buffer)
+    print_whole(workers, alloc, book, "slack", &SlackTexts, sink, buffer)
 }
 
 /// Prints the transitive reduction of the graph of each trace of a book, as `print_paths` prints
 /// paths.
 pub fn print_graphs<R: Threads + Sync, S: Sink>(
-    rt: &R,
+    workers: &WorkerLimit<'_, R>,
     alloc: Global,
     book: &KeptBook,
     sink: &mut S,
@@ -121,5 +122,5 @@ pub fn print_graphs<R: Threads + Sync, S: Sink>(
         (Header (codes "graph") (length kept) ∷ map (GraphOf kept) kept) buffer.old buffer.new }
     ensures counted { S.faults sink.new ≡ print_faults result (S.faults sink.old) }
 {
-    print_whole(rt, alloc, book, "graph", &GraphTexts, sink, buffer)
+    print_whole(workers, alloc, book, "graph", &GraphTexts, sink, buffer)
 }

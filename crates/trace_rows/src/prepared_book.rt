@@ -1,6 +1,6 @@
 use crate::book_lists::list_exclusions;
+use kept_books::KeptBook;
 use model_meet::Exclusions;
-use named_books::KeptBook;
 use segment_names::Catalogue;
 use std::alloc::{AllocError, Global};
 use trace_graph::{OrderedGraph, graph_by};
@@ -15,7 +15,7 @@ pub(crate) struct PreparedBook<'a> {
 }
 
 impl<'a> std::marker::Model for PreparedBook<'a> {
-    ghost use Rattle.named_books.specs.KeptBooks.{KeptState};
+    ghost use Rattle.kept_books.specs.KeptBooks.{KeptState};
     ghost use Rattle.trace_rows.specs.inner.PreparedBooks.{AreExclusionsOf};
 
     ghost Value = { KeptState };
@@ -27,10 +27,10 @@ impl<'a> std::marker::Model for PreparedBook<'a> {
 
 impl<'a> PreparedBook<'a> {
     ghost use Rattle.std.specs.Prelude.{◌≡◌, IfOk, length};
-    ghost use Rattle.named_books.specs.KeptBooks.{traces_in};
+    ghost use Rattle.kept_books.specs.KeptBooks.{traces_in};
     ghost use Rattle.refute_tests.specs.Clearing.{HaveNamesBelow};
     ghost use Rattle.segment_names.specs.Limits.{IsKept};
-    ghost use Rattle.trace_graph.specs.TraceGraphs.{IsTraceGraph};
+    ghost use Rattle.trace_rules.specs.TraceGraphs.{IsTraceGraph};
     ghost use Rattle.trace_rows.specs.inner.NumberedTraces.{IsNumbered};
     ghost use Rattle.trace_types.specs.Parts.{by_number};
     ghost use Rattle.weighted_dag.specs.Graphs.{IsGraph};

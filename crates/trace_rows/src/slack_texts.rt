@@ -9,7 +9,7 @@ use crate::numbered_trace::NumberedTrace;
 use crate::prepared_book::PreparedBook;
 use crate::trace_texts::TraceTexts;
 use crate::vertex_rows::{VertexRows, print_first};
-use kept_books::laws::graph_is_shown;
+use book_laws::laws::graph_is_shown;
 use mystery_io::Sink;
 use session_rules::SessionPart;
 use slack::{SlackTable, longest_and_slacks};

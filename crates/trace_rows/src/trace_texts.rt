@@ -1,7 +1,7 @@
 ghost use Rattle.std.specs.Prelude.{◌≡◌, ◌∷◌, [], List, IfOk, length, map};
 ghost use Rattle.std.specs.Borrow.{Bor};
 ghost use Rattle.std.specs.List.{All};
-ghost use Rattle.named_books.specs.KeptBooks.{KeptState, traces_in};
+ghost use Rattle.kept_books.specs.KeptBooks.{KeptState, traces_in};
 ghost use Rattle.refute_tests.specs.Clearing.{HaveNamesBelow};
 ghost use Rattle.session_rules.specs.KeptTraces.{Kept};
 ghost use Rattle.session_rules.specs.Parts.{Part};
@@ -14,8 +14,8 @@ ghost use Rattle.trace_types.specs.declared.named_trace.NamedTrace.{NamedTrace};
 use crate::book_lists::list_traces;
 use crate::chunks::{Piece, chunk_length, cut_pieces};
 use crate::prepared_book::PreparedBook;
+use kept_books::KeptBook;
 use mystery_io::Sink;
-use named_books::KeptBook;
 use rayon::prelude::*;
 use session_rules::SessionPart;
 use std::alloc::{AllocError, Global};
@@ -23,6 +23,7 @@ use std::thread::Threads;
 use text_rows::laws::{flush_ends_parts, part_calls_follow, parts_follow};
 use text_rows::{PrintFault, RowBuffer, TextSink, flush, print_texts};
 use trace_types::NamedTrace;
+use worker_limit::WorkerLimit;
 
 /// A kind of texts of traces. What a text tells of a trace is computed before any of it is printed.
 pub(crate) trait TraceTexts: Sync {
@@ -113,10 +114,10 @@ fn make_text<K: TraceTexts>(
     Ok(sink.into_bytes())
 }
 
-/// Makes a text of the parts of each piece of traces, by all processors. The only error is that
+/// Makes a text of the parts of each piece of traces, by the workers. The only error is that
 /// memory ran out.
 fn make_texts<R: Threads + Sync, K: TraceTexts>(
-    rt: &R,
+    workers: &WorkerLimit<'_, R>,
     alloc: Global,
     book: &PreparedBook<'_>,
     texts: &K,
@@ -131,7 +132,7 @@ fn make_texts<R: Threads + Sync, K: TraceTexts>(
     parts_follow::<SessionPart>();
     let made: Result<Vec<Vec<u8>>, AllocError> = pieces
         .par_iter()
-        .with_min_len(1)
+        .with_min_len(workers.piece_length(pieces.len(), 1))
         .map(
             |piece: &Piece<'_>| -> Result<Vec<u8>, AllocError>
                 requires { All (λ (t : Bor NamedTrace).
@@ -142,14 +143,14 @@ fn make_texts<R: Threads + Sync, K: TraceTexts>(
                     text.items) }
             { make_text(alloc, book, texts, piece.traces) },
         )
-        .collect(rt, alloc)?;
+        .collect(workers.runtime, alloc)?;
     made
 }
 
-/// Prints the parts of these traces, in order. Where they make several pieces, all processors make
+/// Prints the parts of these traces, in order. Where they make several pieces, the workers make
 /// the texts first.
 fn print_chunk<R: Threads + Sync, S: Sink, K: TraceTexts>(
-    rt: &R,
+    workers: &WorkerLimit<'_, R>,
     alloc: Global,
     book: &PreparedBook<'_>,
     texts: &K,
@@ -166,17 +167,17 @@ fn print_chunk<R: Threads + Sync, S: Sink, K: TraceTexts>(
 {
     parts_follow::<SessionPart>();
     let pieces = cut_pieces(alloc, traces)?;
-    if pieces.len() < 2 {
+    if pieces.len() < 2 || workers.most < 2 {
         return print_in_turn(alloc, book, texts, traces, sink, buffer);
     }
-    let made = make_texts(rt, alloc, book, texts, &pieces)?;
+    let made = make_texts(workers, alloc, book, texts, &pieces)?;
     print_texts(sink, buffer, &made)
 }
 
 /// Prints the parts of these traces, in order, a chunk at a time. The texts of a chunk are freed
 /// before those of the next are made.
 pub(crate) fn print_each<R: Threads + Sync, S: Sink, K: TraceTexts>(
-    rt: &R,
+    workers: &WorkerLimit<'_, R>,
     alloc: Global,
     book: &PreparedBook<'_>,
     texts: &K,
@@ -196,7 +197,7 @@ pub(crate) fn print_each<R: Threads + Sync, S: Sink, K: TraceTexts>(
     let mut at = 0;
     'chunks: while at < traces.len() {
         let end = at + chunk_length(&traces[at..]);
-        print_chunk(rt, alloc, book, texts, &traces[at..end], sink, buffer)?;
+        print_chunk(workers, alloc, book, texts, &traces[at..end], sink, buffer)?;
         at = end;
     }
     Ok(())
@@ -204,7 +205,7 @@ pub(crate) fn print_each<R: Threads + Sync, S: Sink, K: TraceTexts>(
 
 /// Prints the parts of all traces of a book, by day and within a day in order.
 pub(crate) fn print_days<R: Threads + Sync, S: Sink, K: TraceTexts>(
-    rt: &R,
+    workers: &WorkerLimit<'_, R>,
     alloc: Global,
     book: &KeptBook,
     texts: &K,
@@ -218,5 +219,5 @@ pub(crate) fn print_days<R: Threads + Sync, S: Sink, K: TraceTexts>(
     parts_follow::<SessionPart>();
     let traces = list_traces(alloc, book)?;
     let prepared = PreparedBook::of(alloc, book)?;
-    print_each(rt, alloc, &prepared, texts, &traces, sink, buffer)
+    print_each(workers, alloc, &prepared, texts, &traces, sink, buffer)
 }

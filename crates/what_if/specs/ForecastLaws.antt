@@ -1,7 +1,7 @@
 -- What weights that are not greater do to the longest length of a graph.
 use Rattle.std.specs.Prelude.{◌≡◌, ◌≢◌, ℕ, ◌+◌, ◌-◌, ◌<◌, ◌≤◌, List, length, slice_index, sum_by, All}
 use Rattle.std.specs.List.{range_with_len}
-use Rattle.trace_graph.specs.TraceGraphs.{HasVertices}
+use Rattle.trace_rules.specs.TraceGraphs.{HasVertices}
 use Rattle.trace_types.specs.declared.named_segment.NamedSegment.{NamedSegment}
 use Rattle.trace_types.specs.declared.named_trace.NamedTrace.{NamedTrace}
 use Rattle.trace_types.specs.Parts.{by_number}

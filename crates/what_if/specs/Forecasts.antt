@@ -1,12 +1,13 @@
 -- How long a trace's critical path would be if segments of some names took less time. This is the
 -- project's own. Times are in nanoseconds.
-use Rattle.std.specs.Prelude.{◌≡◌, ℕ, ◌*◌, ◌/◌, ◌<◌, ◌≤◌, ◌==◌, if◌then◌else◌, List, [], ◌∷◌, length, All}
+use Rattle.std.specs.Prelude.{◌≡◌, ℕ, ◌*◌, ◌/◌, ◌<◌, ◌==◌, if◌then◌else◌, List, [], ◌∷◌, length}
+use Rattle.std.specs.Prelude.{All}
 use Rattle.std.specs.Prelude.{slice_get, slice_index, Some}
+use Rattle.trace_rules.specs.declared.forecast.Forecast.{Forecast}
 use Rattle.trace_types.specs.declared.named_segment.NamedSegment.{NamedSegment}
 use Rattle.weighted_dag.specs.Chains.{IsLongestLength}
 use Rattle.weighted_dag.specs.Graphs.{Graph, order_of, with_weights}
 use Rattle.what_if.specs.declared.change.Change.{Change}
-use Rattle.what_if.specs.declared.forecast.Forecast.{Forecast}
 
 -- how long a segment of this name would take that now takes so long, rounded down; of changes of
 -- one name the first holds, and a name without a change keeps its time

@@ -3,10 +3,8 @@
 #![tactic(auto)]
 
 mod change;
-mod forecast;
 pub mod laws;
 mod prediction;
 
 pub use change::{Change, are_no_greater};
-pub use forecast::Forecast;
 pub use prediction::predict;

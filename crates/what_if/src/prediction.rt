@@ -2,9 +2,10 @@ ghost use Rattle.std.specs.Prelude.{◌≡◌, ◌*◌, ◌/◌, All, IfOk};
 ghost use Rattle.what_if.specs.Forecasts.{AreChanged, HasSegments, IsForecast, changed_time};
 ghost use Rattle.what_if.specs.ForecastLaws.{IsNoGreater};
 
-use crate::{Change, Forecast};
+use crate::Change;
 use std::alloc::{AllocError, Global};
 use trace_graph::OrderedGraph;
+use trace_rules::Forecast;
 use trace_types::{NamedSegment, NamedTrace};
 use weighted_dag::longest_length;
 

@@ -1,6 +1,6 @@
 -- What naming the traces of a batch does to the catalogue.
 use Rattle.std.specs.Prelude.{◌≡◌, ℕ, ◌≤◌, ◌++◌, ◌∷◌, [], List, length, map, take, ⊤}
-use Rattle.kept_books.specs.Shown.{AreShown, IsShown}
+use Rattle.book_laws.specs.Shown.{AreShown, IsShown}
 use Rattle.segment_names.specs.Known.{Known, with_traces}
 use Rattle.segment_names.specs.Limits.{Fits, IsKept, PassesLimit}
 use Rattle.segment_names.specs.Naming.{HasUnknown}

@@ -1,9 +1,9 @@
 -- A book shows the claims that the kept traces show: a statement that a law proves.
 use Rattle.std.specs.Prelude.{◌↔◌, List}
+use Rattle.book_laws.specs.Shown.{AreShown}
 use Rattle.certificates.specs.declared.claim.Claim.{Claim}
 use Rattle.counterexamples.specs.ShownClaims.{IsShownClaim}
 use Rattle.day_partitions.specs.Books.{BookState, IsBook, all_traces}
-use Rattle.kept_books.specs.Shown.{AreShown}
 use Rattle.segment_names.specs.Known.{Known}
 use Rattle.segment_names.specs.Limits.{IsKept}
 use Rattle.session_rules.specs.KeptTraces.{Kept}

@@ -4,7 +4,7 @@ use Rattle.counterexamples.specs.Findings.{StandsAt}
 use Rattle.counterexamples.specs.FirstRefuters.{AreFirstRefuters, FindingTable}
 use Rattle.counterexamples.specs.declared.finding.Finding.{Finding}
 use Rattle.day_partitions.specs.Books.{BookState, KeptDay}
-use Rattle.named_books.specs.KeptBooks.{IsKeptBook}
+use Rattle.kept_books.specs.KeptBooks.{IsKeptBook}
 use Rattle.segment_names.specs.Known.{Known}
 use Rattle.trace_types.specs.declared.named_trace.NamedTrace.{NamedTrace}
 use Rattle.certificate_rows.specs.declared.kind.Kind.{Kind}

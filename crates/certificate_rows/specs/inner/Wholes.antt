@@ -1,8 +1,8 @@
 -- A whole certificate by number, and what it is of the kept traces.
 use Rattle.std.specs.Prelude.{ℕ, ◌+◌, ◌<◌, List, ◌++◌, length}
+use Rattle.book_laws.specs.Shown.{AreShown}
 use Rattle.counterexamples.specs.FirstRefuters.{FindingTable}
 use Rattle.day_partitions.specs.Books.{BookState, KeptDay, all_traces}
-use Rattle.kept_books.specs.Shown.{AreShown}
 use Rattle.segment_names.specs.Known.{Known}
 use Rattle.session_rules.specs.CertificateTexts.{why_row}
 use Rattle.session_rules.specs.KeptTraces.{Kept}

@@ -3,10 +3,10 @@
 use Rattle.std.specs.Prelude.{◌≡◌, ℕ, ◌<◌, List, length, map, sum, All}
 use Rattle.trace_paths.specs.NameOrders.{number_cmp}
 use Rattle.trace_paths.specs.Tables.{list_at}
+use Rattle.trace_rules.specs.Numbers.{AreFigures}
 use Rattle.trace_types.specs.Listing.{ListsExactly}
 use Rattle.trace_types.specs.Segments.{SegmentName}
 use Rattle.latency_report.specs.declared.segment_row.SegmentRow.{SegmentRow}
-use Rattle.latency_report.specs.Numbers.{AreFigures}
 
 -- the row of a name, by the lists of the name
 pub record IsRowFrom (durations on_paths : List (List ℕ)) (row : SegmentRow) : Type 0 where

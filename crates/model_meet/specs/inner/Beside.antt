@@ -1,14 +1,14 @@
 -- The pairs that a turn of the count adds.
 use Rattle.std.specs.Prelude.{◌≡◌, ◌⊎◌, ℕ, ◌*◌, ◌<◌, ◌≤◌, List}
 use Rattle.std.specs.declared.cmp.Ordering.{Ordering}
-use Rattle.model_meet.specs.Counting.{CountsPairs, OrdersBelow}
-use Rattle.model_meet.specs.Pipes.{IsPipeline}
-use Rattle.model_meet.specs.RelationBits.{HasOrder, HasExclusion, HasPipe}
 use Rattle.refute_tests.specs.Survivors.{AreSurvivors}
+use Rattle.trace_rules.specs.Pipes.{IsPipeline}
 use Rattle.trace_types.specs.declared.named_trace.NamedTrace.{NamedTrace}
 use Rattle.trace_types.specs.Listing.{AreExactly}
 use Rattle.trace_types.specs.Parts.{by_number}
 use Rattle.trace_types.specs.Relations.{HappensBefore, ExcludesUnordered}
+use Rattle.model_meet.specs.Counting.{CountsPairs, OrdersBelow}
+use Rattle.model_meet.specs.RelationBits.{HasOrder, HasExclusion, HasPipe}
 
 -- one of the pair is this number, and the other is below the limit
 abbrev pub IsBeside : ℕ → ℕ → ℕ × ℕ → Type 0

@@ -1,6 +1,6 @@
 -- The jobs with which an input may end that no control line asks for.
 use Rattle.std.specs.Prelude.{◌≡◌}
-use Rattle.session.specs.Carrying.{IsReady, requests_in}
+use Rattle.session_rules.specs.ReadyJobs.{IsReady, requests_in}
 use Rattle.session_rules.specs.declared.job.Job.{Job}
 
 -- a session carries out the job, and it brings no request

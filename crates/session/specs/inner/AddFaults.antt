@@ -30,9 +30,7 @@ fault_of_sheets (sheets.TooManyDays back days) = Over (Days days)
 -- the fault of a job whose batch is not added
 abbrev pub fault_of_add : AddFault → CommandFault
 fault_of_add Memory = commands.Memory
-fault_of_add (Over (Names count)) = commands.TooManyNames count
-fault_of_add (Over (Tasks count)) = commands.TooManyTasks count
-fault_of_add (Over (Days count)) = commands.TooManyDays count
+fault_of_add (Over limit) = commands.Over limit
 
 -- memory ran out, or the add passes this limit
 abbrev pub HasAddCause : List Event → State → AddFault → Type 0

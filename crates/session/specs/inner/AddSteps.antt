@@ -1,11 +1,11 @@
 -- The steps of an add over a session: its names, then its days, and what is printed of both.
 use Rattle.std.specs.Prelude.{◌≡◌, ℕ, ◌+◌, ◌<◌, List, length, ⊤}
 use Rattle.batch_sheets.specs.declared.recording.DayLines.{DayLines}
+use Rattle.book_laws.specs.BookLaws.{AreSheetsOf}
+use Rattle.book_laws.specs.Shown.{AreShown}
 use Rattle.day_partitions.specs.Batches.{HasRoomFor, new_days, with_all}
 use Rattle.day_partitions.specs.Books.{BookState, IsBook}
 use Rattle.day_partitions.specs.declared.dated_sheet.DatedSheet.{DatedSheet}
-use Rattle.kept_books.specs.BookLaws.{AreSheetsOf}
-use Rattle.kept_books.specs.Shown.{AreShown}
 use Rattle.segment_names.specs.Limits.{IsKept, PassesLimit}
 use Rattle.segment_names.specs.declared.name_fault.NameFault.{NameFault}
 use Rattle.session_rules.specs.Parts.{IsPart, Part}

@@ -2,18 +2,18 @@
 use Rattle.std.specs.Prelude.{◌≡◌, ℕ, ◌+◌, ◌-◌, ◌/◌, ◌^◌, ◌<◌, ◌≤◌, List, [], ◌∷◌, ◌++◌, length, map, take, drop}
 use Rattle.std.specs.List.{All, AllPairs, flat_map}
 use Rattle.refute_tests.specs.Clearing.{HaveNamesBelow}
+use Rattle.trace_rules.specs.Halving.{first_part, shares_of}
+use Rattle.trace_rules.specs.WatchMarks.{watch_counts}
+use Rattle.trace_rules.specs.declared.watch_line.WatchLine.{WatchLine}
 use Rattle.trace_types.specs.declared.named_trace.NamedTrace.{NamedTrace}
 use Rattle.word_rows.specs.declared.views.Reading.{Reading}
 use Rattle.word_rows.specs.Changes.{readings_from}
 use Rattle.word_rows.specs.Words.{AreWords}
 use Rattle.word_rule.specs.Histories.{KnowsMore}
 use Rattle.word_rule.specs.Holdings.{Holding}
-use Rattle.trace_pass.specs.Halving.{first_part, shares_of}
 use Rattle.trace_pass.specs.States.{HasStopped, IsOfRecorder, RecorderState, RecordingState}
 use Rattle.trace_pass.specs.inner.Parts.{HasRows, PartState, recording_of, rest_of, with_recorded}
 use Rattle.trace_pass.specs.Counts.{IsAtLeastRefutedCount, zeros}
-use Rattle.trace_pass.specs.Watch.{watch_counts}
-use Rattle.trace_pass.specs.declared.watch_lines.WatchLine.{WatchLine}
 
 -- the workers from this one on, one for each share of the recording, may offer these traces
 pub record CanOffer (recorder : RecorderState) (recording : RecordingState)

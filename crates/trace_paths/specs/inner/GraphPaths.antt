@@ -1,7 +1,7 @@
 -- The path of a graph whose vertices stand for segments.
 use Rattle.std.specs.Prelude.{ℕ, List}
 use Rattle.std.specs.List.{AllZip}
-use Rattle.trace_paths.specs.CriticalPaths.{StandsFor}
+use Rattle.trace_rules.specs.CriticalPaths.{StandsFor}
 use Rattle.weighted_dag.specs.Chains.{IsLongest, NoLongestIsBefore}
 use Rattle.weighted_dag.specs.Graphs.{Graph}
 

@@ -1,9 +1,9 @@
 -- What is computed of a trace of a book before its part is printed.
 use Rattle.std.specs.Prelude.{◌≡◌, ℕ, ◌↔◌, List, length, slice_index}
 use Rattle.std.specs.List.{EachIndex}
-use Rattle.trace_graph.specs.TraceGraphs.{IsTraceGraph}
+use Rattle.trace_rules.specs.TraceGraphs.{IsTraceGraph}
 use Rattle.trace_rows.specs.inner.NumberedTraces.{IsNumbered}
-use Rattle.named_books.specs.KeptBooks.{KeptState, traces_in}
+use Rattle.kept_books.specs.KeptBooks.{KeptState, traces_in}
 use Rattle.trace_types.specs.Parts.{by_number}
 use Rattle.trace_types.specs.declared.named_trace.NamedTrace.{NamedTrace}
 use Rattle.weighted_dag.specs.Chains.{IsChain, IsLongestLength, NoLongestIsBefore, NoneIsLonger}

@@ -2,7 +2,7 @@
 use Rattle.std.specs.Prelude.{◌≡◌, length}
 use Rattle.model_meet.specs.ModelStates.{ModelState}
 use Rattle.refute_tests.specs.Survivors.{AreSurvivors}
-use Rattle.named_books.specs.KeptBooks.{KeptState, traces_in}
+use Rattle.kept_books.specs.KeptBooks.{KeptState, traces_in}
 
 -- the model has as many names as the book, and its words are what the book's traces leave
 pub record AreExclusionsOf (b : KeptState) (model : ModelState) : Type 0 where

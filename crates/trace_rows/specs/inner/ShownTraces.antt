@@ -1,11 +1,11 @@
 -- What is printed of the kept traces that a book and a catalogue show.
 use Rattle.std.specs.Prelude.{◌≡◌, ℕ, ◌<◌, List, ◌∷◌, length, map, Option, Result}
-use Rattle.named_books.specs.KeptBooks.{KeptState, traces_in}
+use Rattle.kept_books.specs.KeptBooks.{KeptState, traces_in}
 use Rattle.segment_names.specs.Known.{Known}
 use Rattle.session_rules.specs.KeptTraces.{Kept}
 use Rattle.session_rules.specs.Parts.{Header, IsPart, Part}
 use Rattle.session_rules.specs.TraceTexts.{name_of_vertex}
-use Rattle.kept_books.specs.Shown.{AreShown, IsShown}
+use Rattle.book_laws.specs.Shown.{AreShown, IsShown}
 use Rattle.text_rows.specs.TextsOfParts.{AreTexts, PrintsTexts}
 use Rattle.text_rows.specs.declared.print_fault.PrintFault.{PrintFault}
 use Rattle.trace_types.specs.declared.named_trace.NamedTrace.{NamedTrace}

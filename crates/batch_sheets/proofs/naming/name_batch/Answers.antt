@@ -1,5 +1,5 @@
 use Rattle.std.proofs.Common.{List, ◌++◌, map, sym, ap, ◌∙◌, subst}
-use Rattle.kept_books.specs.Shown.{AreShown}
+use Rattle.book_laws.specs.Shown.{AreShown}
 use Rattle.session_rules.specs.KeptTraces.{Kept, kept_with}
 use Rattle.trace_types.specs.declared.named_trace.NamedTrace.{NamedTrace}
 use Rattle.batch_sheets.specs.Named.{cut_trace}

@@ -1,6 +1,6 @@
 use Rattle.std.proofs.Common.{◌≡◌, ◌∷◌, [], sym, subst}
 use Rattle.std.proofs.lemmas.Result.{err_from_is_err_and}
-use Rattle.kept_books.specs.Shown.{IsShown}
+use Rattle.book_laws.specs.Shown.{IsShown}
 use Rattle.segment_names.specs.Known.{Known}
 use Rattle.segment_names.specs.Limits.{HasCause, PassesLimit}
 use Rattle.segment_names.specs.Naming.{HasUnknown}

@@ -1,7 +1,7 @@
 use Rattle.std.proofs.Common.{◌≡◌, ◌+◌, ◌≤◌, Bool, List}
 use Rattle.std.specs.List.{AllZip}
-use Rattle.kept_books.specs.Shown.{AreShown}
-use Rattle.named_books.specs.KeptBooks.{traces_in}
+use Rattle.book_laws.specs.Shown.{AreShown}
+use Rattle.kept_books.specs.KeptBooks.{traces_in}
 use Rattle.session_rules.specs.KeptTraces.{Kept}
 use Rattle.session_rules.specs.Refutations.{IsVerdict}
 use Rattle.session_rules.specs.Sessions.{verify_parts}

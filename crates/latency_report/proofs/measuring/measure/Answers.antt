@@ -1,5 +1,5 @@
 use Rattle.std.proofs.Common.{◌-◌, ◌/◌, length, refl}
-use Rattle.latency_report.specs.Numbers.{IsMedian}
+use Rattle.trace_rules.specs.Numbers.{IsMedian}
 use Rattle.latency_report.proofs.MedianLemmas.{median_from_split, or_zero}
 use Rattle.latency_report.proofs.measuring.measure.Goals as goal
 

@@ -2,7 +2,7 @@ use Rattle.std.proofs.Common.{◌≡◌, ◌≤◌, ◌<◌, ◌+◌, ◌*◌, �
 use Rattle.std.specs.Prelude.{sum}
 use Rattle.std.proofs.lemmas.List.{take_more}
 use Rattle.std.proofs.lemmas.List.Sums.{sum_by_more}
-use Rattle.latency_report.specs.Numbers.{IsGreatest, OrZero}
+use Rattle.trace_rules.specs.Numbers.{IsGreatest, OrZero}
 use Rattle.latency_report.proofs.MedianLemmas.{greatest_push, max_is}
 use Rattle.latency_report.proofs.measuring.sum_and_greatest.Goals as goal
 

@@ -1,6 +1,6 @@
 use Rattle.std.proofs.Common.{◌≡◌, ◌≤◌, ◌*◌, ◌^◌, take}
 use Rattle.std.specs.Prelude.{sum}
-use Rattle.latency_report.specs.Numbers.{IsGreatest, OrZero}
+use Rattle.trace_rules.specs.Numbers.{IsGreatest, OrZero}
 use Rattle.latency_report.proofs.measuring.sum_and_greatest.Given as goal
 
 abbrev pub invariant-numbers : goal.invariant-numbers

@@ -14,14 +14,15 @@ use Rattle.trace_types.specs.declared.named_trace.NamedTrace.{NamedTrace}
 use Rattle.trace_types.specs.Listing.{ListsExactly}
 use Rattle.trace_types.specs.NamedSegments.{number_of_name}
 use Rattle.trace_types.specs.Parts.{by_number, segments_of}
-use Rattle.trace_paths.specs.CriticalPaths.{IsCriticalPath, IsNamedPath, IsPathUnder}
-use Rattle.trace_paths.specs.Durations.{path_length}
+use Rattle.trace_rules.specs.CriticalPaths.{IsCriticalPath}
+use Rattle.trace_paths.specs.NumberedPaths.{IsNamedPath, IsPathUnder}
+use Rattle.trace_rules.specs.Durations.{path_length}
 use Rattle.trace_paths.specs.NameOrders.{AreNamesOf, number_cmp}
 use Rattle.trace_paths.specs.Tables.{IsTableOf}
 use Rattle.latency_report.specs.declared.segment_row.SegmentRow.{SegmentRow}
 use Rattle.trace_paths.specs.Tables.{list_at}
-use Rattle.latency_report.specs.Numbers.{AreFigures}
-use Rattle.latency_report.specs.Reports.{IsRowOf}
+use Rattle.trace_rules.specs.Numbers.{AreFigures}
+use Rattle.trace_rules.specs.ReportRows.{AreFiguresOf}
 use Rattle.latency_report.proofs.ReportLemmas.{durations_tell, joined, latencies_shown, paths_are, paths_named, row_of, segments_at, segments_below, segments_shown, short_paths, short_traces, traces_at}
 use Rattle.latency_report.proofs.RowLemmas.{listed_as}
 use Rattle.latency_report.proofs.reporting.report.Goals as goal
@@ -101,7 +102,7 @@ returns-clause-reported g c =
           (subst (λ (l : List NamedSegment). ListsExactly (number_cmp known) (Contains (map number_of_name l)) (map (λ (r : SegmentRow). r.name) c.in_ok-rows.rows.items)) same
           (listed_as (number_cmp known) (λ n. 0 < length (list_at c.in_ok-durations.durations n)) (Contains (map number_of_name segments)) (map (λ (r : SegmentRow). r.name) c.in_ok-rows.rows.items)
           (durations_tell c.names-names.result segments c.in_ok-durations.durations c.in_ok-durations.ensures (segments_below c.names-names.result c.deref-2.result.now below)) listed));
-      rows = subst (All (λ (r : SegmentRow). IsRowOf by_number nat_eq traces paths r.name r)) (sym c.of.ensures)
+      rows = subst (All (λ (r : SegmentRow). AreFiguresOf by_number nat_eq traces paths r.name r.figures r.on_path r.on_path_sum)) (sym c.of.ensures)
           (λ k d lt. row_of c.names-names.result traces segments paths c.in_ok-durations.durations c.in_ok-on_paths.on_paths (get_or c.in_ok-rows.rows.items k d) same c.in_ok-durations.ensures
           (subst (λ (l : List (List NamedSegment)). IsTableOf c.names-names.result (joined l) c.in_ok-on_paths.on_paths) c.deref-3.ensures.value steps) named (rows.each k d lt));
     }

@@ -8,7 +8,7 @@ use Rattle.trace_paths.specs.NameOrders.{number_cmp}
 use Rattle.latency_report.specs.declared.segment_row.SegmentRow.{SegmentRow}
 use Rattle.latency_report.specs.inner.TableRows.{IsRowFrom}
 use Rattle.trace_paths.specs.Tables.{list_at}
-use Rattle.latency_report.specs.Numbers.{AreFigures}
+use Rattle.trace_rules.specs.Numbers.{AreFigures}
 use Rattle.latency_report.proofs.RowLemmas.{has_some, name_within, names_listed}
 use Rattle.latency_report.proofs.rows.make_rows.Goals as goal
 

@@ -1,6 +1,6 @@
 use Rattle.std.proofs.Common.{◌≡◌, map, take}
 use Rattle.std.specs.Prelude.{nat_lt}
-use Rattle.latency_report.specs.declared.figures.Figures.{Figures}
+use Rattle.trace_rules.specs.declared.figures.Figures.{Figures}
 use Rattle.latency_report.proofs.rows.mark.Given as goal
 
 abbrev pub invariant-figures : goal.invariant-figures

@@ -1,9 +1,9 @@
 use Rattle.std.proofs.Common.{◌≡◌, ◌⊎◌, ◌^◌, ◌<◌, ◌≤◌, ℕ, [], List, length, get_or, set, All, arith, sym, ap, ◌∙◌, subst, ⊎_elim, inl, inr}
 use Rattle.std.proofs.lemmas.Bool.{cases_lt}
 use Rattle.std.proofs.lemmas.List.{get_or-set_other, get_or-set_same, length_push, length-set}
-use Rattle.latency_report.specs.declared.figures.Figures.{Figures}
+use Rattle.trace_rules.specs.declared.figures.Figures.{Figures}
 use Rattle.trace_paths.specs.Tables.{list_at}
-use Rattle.latency_report.specs.Numbers.{AreFigures}
+use Rattle.trace_rules.specs.Numbers.{AreFigures}
 use Rattle.latency_report.proofs.RowLemmas.{popped}
 use Rattle.latency_report.proofs.rows.measure_each.Goals as goal
 

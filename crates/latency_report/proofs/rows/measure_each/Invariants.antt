@@ -1,8 +1,8 @@
 use Rattle.std.proofs.Common.{◌≡◌, ◌≤◌, ◌<◌, ◌-◌, ℕ, length, get_or, map, take, vec_len}
 use Rattle.std.specs.declared.vec.Vec.{Vec}
-use Rattle.latency_report.specs.Numbers.{AreFigures}
+use Rattle.trace_rules.specs.Numbers.{AreFigures}
 use Rattle.trace_paths.specs.Tables.{list_at}
-use Rattle.latency_report.specs.declared.figures.Figures.{Figures}
+use Rattle.trace_rules.specs.declared.figures.Figures.{Figures}
 use Rattle.latency_report.proofs.RowLemmas.{shown}
 use Rattle.latency_report.proofs.rows.measure_each.Given as goal
 

@@ -1,6 +1,6 @@
 use Rattle.std.proofs.Common.{◌≡◌, ◌≤◌, ◌*◌, ◌^◌, take}
 use Rattle.std.specs.Prelude.{sum_by}
-use Rattle.trace_paths.specs.Durations.{path_length}
+use Rattle.trace_rules.specs.Durations.{path_length}
 use Rattle.trace_types.specs.Parts.{by_number}
 use Rattle.latency_report.proofs.tables.add_lengths.Given as goal
 

@@ -1,5 +1,5 @@
 use Rattle.std.proofs.Common.{◌≡◌, ◌≤◌, ◌*◌, ◌^◌, take}
-use Rattle.trace_paths.specs.Durations.{path_length}
+use Rattle.trace_rules.specs.Durations.{path_length}
 use Rattle.trace_types.specs.Parts.{by_number}
 use Rattle.latency_report.proofs.tables.length_of.Given as goal
 

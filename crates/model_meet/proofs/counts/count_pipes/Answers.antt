@@ -1,5 +1,5 @@
 use Rattle.std.proofs.Common.{refl, arith}
-use Rattle.model_meet.specs.Pipes.{IsPipeline}
+use Rattle.trace_rules.specs.Pipes.{IsPipeline}
 use Rattle.model_meet.specs.RelationBits.{HasPipe}
 use Rattle.trace_types.specs.Parts.{by_number}
 use Rattle.model_meet.proofs.LineLemmas.{below_begun, below_next}

@@ -1,8 +1,8 @@
 use Rattle.std.proofs.Common.{◌∙◌, All, ap, length, map, subst, sym}
 use Rattle.std.proofs.lemmas.Result.{err_from_is_err_and}
 use Rattle.batch_sheets.specs.Named.{cut_trace}
-use Rattle.kept_books.specs.Shown.{AreShown}
-use Rattle.named_books.specs.KeptBooks.{KeptState, under_catalogue}
+use Rattle.book_laws.specs.Shown.{AreShown}
+use Rattle.kept_books.specs.KeptBooks.{KeptState, under_catalogue}
 use Rattle.refute_tests.specs.Clearing.{HaveNamesBelow}
 use Rattle.segment_names.specs.Known.{Known, with_traces}
 use Rattle.session_rules.specs.KeptTraces.{kept_with}

@@ -1,6 +1,6 @@
 use Rattle.std.proofs.Common.{◌≡◌, ◌+◌, ◌-◌, ℕ, Bool, List, [], ◌∷◌, ◌++◌, length, IsPermutation, arith, refl, sym, ap, ◌∙◌, subst}
 use Rattle.std.specs.Prelude.{count_by}
-use Rattle.slow_tail.specs.SlowTraces.{IsFloor, slow_count, slow_marks, slow_of, with_indices}
+use Rattle.trace_rules.specs.SlowTraces.{IsFloor, slow_count, slow_marks, slow_of, with_indices}
 use Rattle.slow_tail.proofs.SlowLemmas.{IsFirst, Place, count_from_first, first_from_split, floor_from_first, length_places, marks_from_first, none_slow}
 use Rattle.slow_tail.proofs.marking.find_slow.Goals as goal
 

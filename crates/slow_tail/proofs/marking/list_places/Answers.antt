@@ -1,6 +1,6 @@
 use Rattle.std.proofs.Common.{◌≡◌, ◌+◌, ◌++◌, ◌∷◌, [], ℕ, List, length, get_or, take, arith, sym, ap, ◌∙◌}
 use Rattle.std.proofs.lemmas.List.{length-take-le, take_more}
-use Rattle.slow_tail.specs.SlowTraces.{with_indices}
+use Rattle.trace_rules.specs.SlowTraces.{with_indices}
 use Rattle.slow_tail.proofs.SlowLemmas.{Place, length_places, places_push}
 use Rattle.slow_tail.proofs.marking.list_places.Goals as goal
 

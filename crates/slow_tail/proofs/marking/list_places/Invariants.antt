@@ -1,5 +1,5 @@
 use Rattle.std.proofs.Common.{◌≡◌, take}
-use Rattle.slow_tail.specs.SlowTraces.{with_indices}
+use Rattle.trace_rules.specs.SlowTraces.{with_indices}
 use Rattle.slow_tail.proofs.marking.list_places.Given as goal
 
 abbrev pub invariant-latencies : goal.invariant-latencies

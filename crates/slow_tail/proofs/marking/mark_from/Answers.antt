@@ -1,6 +1,6 @@
 use Rattle.std.proofs.Common.{◌≡◌, ◌+◌, ◌++◌, ◌∷◌, [], ℕ, Bool, List, length, map, get_or, take, arith, sym, ap, ◌∙◌}
 use Rattle.std.proofs.lemmas.List.{length-map, length-take-le, map_push, take_more}
-use Rattle.slow_tail.specs.SlowTraces.{with_indices}
+use Rattle.trace_rules.specs.SlowTraces.{with_indices}
 use Rattle.slow_tail.proofs.SlowLemmas.{Place, at_most_is, length_places, not_before, places_push}
 use Rattle.slow_tail.proofs.marking.mark_from.Goals as goal
 

@@ -1,5 +1,5 @@
 use Rattle.std.proofs.Common.{◌≡◌, map, take}
-use Rattle.slow_tail.specs.SlowTraces.{with_indices}
+use Rattle.trace_rules.specs.SlowTraces.{with_indices}
 use Rattle.slow_tail.proofs.SlowLemmas.{not_before}
 use Rattle.slow_tail.proofs.marking.mark_from.Given as goal
 

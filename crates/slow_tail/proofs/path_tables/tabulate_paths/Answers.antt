@@ -3,7 +3,7 @@ use Rattle.std.specs.Prelude.{not}
 use Rattle.std.proofs.lemmas.List.{append-nil, take_all}
 use Rattle.trace_paths.specs.Tables.{IsTableOf}
 use Rattle.trace_types.specs.declared.named_segment.NamedSegment.{NamedSegment}
-use Rattle.slow_tail.specs.SlowTraces.{marked, unmarked}
+use Rattle.trace_rules.specs.SlowTraces.{marked, unmarked}
 use Rattle.slow_tail.proofs.MarkLemmas.{kept_more}
 use Rattle.slow_tail.proofs.PathLemmas.{joined, table_more}
 use Rattle.slow_tail.proofs.path_tables.tabulate_paths.Goals as goal

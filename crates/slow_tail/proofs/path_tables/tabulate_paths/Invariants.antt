@@ -1,6 +1,6 @@
 use Rattle.std.proofs.Common.{take}
 use Rattle.trace_paths.specs.Tables.{IsTableOf}
-use Rattle.slow_tail.specs.SlowTraces.{marked, unmarked}
+use Rattle.trace_rules.specs.SlowTraces.{marked, unmarked}
 use Rattle.slow_tail.proofs.PathLemmas.{joined}
 use Rattle.slow_tail.proofs.path_tables.tabulate_paths.Given as goal
 

@@ -1,7 +1,7 @@
 use Rattle.std.proofs.Common.{ℕ, List, IfOk, subst}
 use Rattle.model_meet.specs.RelationBits.{KeepsExclusion}
 use Rattle.refute_tests.specs.Survivors.{AreSurvivors}
-use Rattle.trace_graph.specs.TraceGraphs.{IsGraphBy, IsTraceGraph}
+use Rattle.trace_rules.specs.TraceGraphs.{IsGraphBy, IsTraceGraph}
 use Rattle.trace_types.specs.Parts.{by_number}
 use Rattle.trace_types.specs.declared.named_trace.NamedTrace.{NamedTrace}
 use Rattle.trace_graph.proofs.dependency_graph.graph_by.Goals as goal

@@ -4,7 +4,7 @@ use Rattle.trace_types.specs.declared.named_segment.NamedSegment.{NamedSegment}
 use Rattle.trace_types.specs.Parts.{by_number}
 use Rattle.weighted_dag.specs.Graphs.{Graph, IsGraph}
 use Rattle.model_meet.specs.RelationBits.{KeepsExclusion}
-use Rattle.trace_graph.specs.TraceGraphs.{HasVertices, IsGraphBy}
+use Rattle.trace_rules.specs.TraceGraphs.{HasVertices, IsGraphBy}
 use Rattle.trace_graph.specs.inner.Keys.{AreKeys, Key, duration_of, index_in, name_in}
 use Rattle.trace_graph.specs.inner.Successors.{AreKnown, AreLists}
 use Rattle.trace_graph.proofs.GraphLemmas.{few_keys, few_names, form_made, graph_made, names_known, vertices_made}

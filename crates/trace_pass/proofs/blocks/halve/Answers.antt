@@ -1,7 +1,7 @@
 use Rattle.std.proofs.Common.{◌≡◌, ◌-◌, ◌/◌, ◌<◌, ◌≤◌, ℕ, length, ap, sym, subst, ◌∙◌}
 use Rattle.word_rows.specs.Changes.{new_view}
 use Rattle.word_rule.specs.Holdings.{Holding, with_view}
-use Rattle.trace_pass.specs.Halving.{first_part}
+use Rattle.trace_rules.specs.Halving.{first_part}
 use Rattle.trace_pass.specs.inner.Parts.{PartState, recording_of, rest_of}
 use Rattle.trace_pass.specs.inner.Working.{AreHalves, CanOffer}
 use Rattle.trace_pass.proofs.PartLemmas.{halved}

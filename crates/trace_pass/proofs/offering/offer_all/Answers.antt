@@ -1,10 +1,10 @@
 use Rattle.std.proofs.Common.{rules, ◌≡◌, List, length, drop, ap, subst, sym, ◌∙◌}
 use Rattle.std.proofs.lemmas.List.{drop_at}
 use Rattle.word_rule.specs.Holdings.{Holding}
-use Rattle.trace_pass.specs.Halving.{shares_of}
+use Rattle.trace_rules.specs.Halving.{shares_of}
 use Rattle.trace_pass.specs.States.{RecordingState}
 use Rattle.trace_pass.specs.Watch.{HasWatched}
-use Rattle.trace_pass.specs.declared.watch_lines.WatchLine.{WatchLine}
+use Rattle.trace_rules.specs.declared.watch_line.WatchLine.{WatchLine}
 use Rattle.trace_pass.specs.inner.Parts.{PartState, part_of, rest_of}
 use Rattle.trace_pass.proofs.PartLemmas.{watched_part}
 use Rattle.trace_pass.proofs.offering.offer_all.Goals as goal

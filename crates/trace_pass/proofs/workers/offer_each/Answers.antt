@@ -5,7 +5,7 @@ use Rattle.trace_types.specs.declared.named_trace.NamedTrace.{NamedTrace}
 use Rattle.word_rows.specs.declared.views.Reading.{Reading}
 use Rattle.word_rows.specs.declared.views.View.{View}
 use Rattle.trace_pass.specs.States.{HasStopped}
-use Rattle.trace_pass.specs.declared.watch_lines.WatchLine.{WatchLine}
+use Rattle.trace_rules.specs.declared.watch_line.WatchLine.{WatchLine}
 use Rattle.trace_pass.specs.inner.Parts.{PartState, recording_of, rest_of}
 use Rattle.trace_pass.specs.inner.Working.{IsWatching}
 use Rattle.trace_pass.proofs.PartLemmas.{recorded_more, stopped, worked}

@@ -2,7 +2,7 @@ use Rattle.std.proofs.Common.{◌+◌, ◌<◌, refl, List, [], ◌∷◌, ◌++
 use Rattle.word_rows.specs.declared.views.Reading.{Reading}
 use Rattle.word_rows.specs.declared.views.View.{View}
 use Rattle.word_rows.specs.Changes.{readings_from}
-use Rattle.trace_pass.specs.declared.watch_lines.WatchLine.{WatchLine}
+use Rattle.trace_rules.specs.declared.watch_line.WatchLine.{WatchLine}
 use Rattle.trace_pass.specs.inner.Parts.{recording_of}
 use Rattle.trace_pass.specs.inner.Working.{IsWatching}
 use Rattle.trace_pass.proofs.WatchLemmas.{watching_more, watching_same}

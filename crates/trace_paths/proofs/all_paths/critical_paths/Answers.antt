@@ -2,7 +2,7 @@ use Rattle.std.proofs.Common.{IfOk, subst}
 use Rattle.std.specs.Borrow.{Bor}
 use Rattle.std.specs.List.{AllZip}
 use Rattle.model_meet.specs.ModelStates.{ModelState}
-use Rattle.trace_paths.specs.CriticalPaths.{IsPathUnder}
+use Rattle.trace_paths.specs.NumberedPaths.{IsPathUnder}
 use Rattle.trace_types.specs.declared.named_trace.NamedTrace.{NamedTrace}
 use Rattle.trace_paths.proofs.all_paths.critical_paths.Goals as goal
 

@@ -2,7 +2,8 @@ use Rattle.std.proofs.Common.{◌≡◌, ◌<◌, ℕ, List, length, All, sym, a
 use Rattle.std.specs.List.{AllZip}
 use Rattle.weighted_dag.specs.Graphs.{order_of}
 use Rattle.trace_types.specs.declared.named_segment.NamedSegment.{NamedSegment}
-use Rattle.trace_paths.specs.CriticalPaths.{IsNamedPath, StandsFor}
+use Rattle.trace_rules.specs.CriticalPaths.{StandsFor}
+use Rattle.trace_paths.specs.NumberedPaths.{IsNamedPath}
 use Rattle.trace_paths.specs.inner.GraphPaths.{IsPathIn}
 use Rattle.trace_paths.proofs.PathLemmas.{indices_within, named, vertices_within}
 use Rattle.trace_paths.proofs.critical.path_in.Goals as goal

@@ -3,7 +3,7 @@ use Rattle.std.specs.List.{AllZip}
 use Rattle.std.proofs.lemmas.List.{take_more, get_or_read}
 use Rattle.std.proofs.lemmas.Option.{slice_get-get_or}
 use Rattle.std.proofs.lemmas.Slice.Zip.{all_zipped_more}
-use Rattle.trace_paths.specs.CriticalPaths.{StandsFor}
+use Rattle.trace_rules.specs.CriticalPaths.{StandsFor}
 use Rattle.trace_paths.proofs.critical.segments_on.Goals as goal
 
 pub chain-preserved : goal.chain-preserved

@@ -1,6 +1,6 @@
 use Rattle.std.proofs.Common.{take}
 use Rattle.std.specs.List.{AllZip}
-use Rattle.trace_paths.specs.CriticalPaths.{StandsFor}
+use Rattle.trace_rules.specs.CriticalPaths.{StandsFor}
 use Rattle.trace_paths.proofs.critical.segments_on.Given as goal
 
 abbrev pub invariant-chain : goal.invariant-chain

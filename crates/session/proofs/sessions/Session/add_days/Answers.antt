@@ -2,8 +2,8 @@ use Rattle.std.proofs.Common.{◌≡◌, ◌^◌, ◌+◌, ◌<◌, ◌≤◌, �
 use Rattle.std.proofs.lemmas.Result.{err_from_is_err_and}
 use Rattle.day_partitions.specs.Batches.{with_all}
 use Rattle.day_partitions.specs.Books.{all_traces}
-use Rattle.kept_books.specs.Shown.{AreShown}
-use Rattle.named_books.specs.KeptBooks.{KeptState}
+use Rattle.book_laws.specs.Shown.{AreShown}
+use Rattle.kept_books.specs.KeptBooks.{KeptState}
 use Rattle.session.specs.Carrying.{kept_count}
 use Rattle.session.specs.SessionStates.{SessionState}
 use Rattle.session.specs.Sheets.{graced_by}

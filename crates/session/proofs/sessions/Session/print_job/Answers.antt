@@ -13,24 +13,24 @@ returns-in-Summary-clause-stepped g c =
 pub returns-in-WhatIf-clause-stepped : goal.returns-in-WhatIf-clause-stepped
 returns-in-WhatIf-clause-stepped g c =
     let change = c.in-WhatIf.change in
-    rw c.in-WhatIf.is (view_step g.S.Sink.written g.S.Sink.faults (WhatIf change) (forecast_parts change) (λ w s. (refl, refl)) _ _ c.self-in-WhatIf.view_is c.print_forecasts.result _ _ _ _
+    rw c.in-WhatIf.is (view_step g.S.Sink.written g.S.Sink.faults (WhatIf change) (forecast_parts change) (λ w s. (refl, refl)) _ _ c.self.view_is c.print_forecasts.result _ _ _ _
     c.print_forecasts.ensures.printed)
 
 pub returns-in-Tail-clause-stepped : goal.returns-in-Tail-clause-stepped
 returns-in-Tail-clause-stepped g c =
     let listed = c.names_are_listed.ensures in
-    rw c.in-Tail.is (view_step g.S.Sink.written g.S.Sink.faults Tail (λ (kept : List Kept). tail_parts kept (listed kept).0) (λ w s. (refl, ((listed s.kept).0, (listed s.kept).1, refl))) _ _ c.self-in-Tail.view_is c.print_tail.result _ _ _ _
+    rw c.in-Tail.is (view_step g.S.Sink.written g.S.Sink.faults Tail (λ (kept : List Kept). tail_parts kept (listed kept).0) (λ w s. (refl, ((listed s.kept).0, (listed s.kept).1, refl))) _ _ c.self.view_is c.print_tail.result _ _ _ _
     (λ kept shown. c.print_tail.ensures.printed kept shown (listed kept).0 (listed kept).1))
 
 pub returns-in-Why-clause-stepped : goal.returns-in-Why-clause-stepped
 returns-in-Why-clause-stepped g c =
     let listed = c.refutations_are_listed.ensures in
-    rw c.in-Why.is (view_step g.S.Sink.written g.S.Sink.faults Why (λ (kept : List Kept). why_parts kept (listed kept).0) (λ w s. (refl, ((listed s.kept).0, (listed s.kept).1, refl))) _ _ c.self-in-Why.view_is c.print_certificate.result _ _ _ _
+    rw c.in-Why.is (view_step g.S.Sink.written g.S.Sink.faults Why (λ (kept : List Kept). why_parts kept (listed kept).0) (λ w s. (refl, ((listed s.kept).0, (listed s.kept).1, refl))) _ _ c.self.view_is c.print_certificate.result _ _ _ _
     (λ kept shown. c.print_certificate.ensures.printed kept shown (listed kept).0 (listed kept).1))
 
 pub returns-in-Verify-clause-stepped : goal.returns-in-Verify-clause-stepped
 returns-in-Verify-clause-stepped g c =
     let claims = c.in-Verify.claims in
     let told = c.claims_have_verdicts.ensures in
-    rw c.in-Verify.is (view_step g.S.Sink.written g.S.Sink.faults (Verify claims) (λ (kept : List Kept). verify_parts claims (told kept claims).0) (λ w s. (refl, ((told s.kept claims).0, (told s.kept claims).1, refl))) _ _ c.self-in-Verify.view_is c.print_verdicts.result _ _ _ _
+    rw c.in-Verify.is (view_step g.S.Sink.written g.S.Sink.faults (Verify claims) (λ (kept : List Kept). verify_parts claims (told kept claims).0) (λ w s. (refl, ((told s.kept claims).0, (told s.kept claims).1, refl))) _ _ c.self.view_is c.print_verdicts.result _ _ _ _
     (λ kept shown. rw c.items.ensures at (c.print_verdicts.ensures.printed kept shown (told kept claims).0 (rw c.items.ensures (told kept claims).1))))

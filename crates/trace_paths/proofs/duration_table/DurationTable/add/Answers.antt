@@ -4,7 +4,7 @@ use Rattle.std.proofs.Math.Seq.{map-set_same}
 use Rattle.std.proofs.lemmas.List.{append_assoc, get_or-map, get_or_read, length-map, length-set, map-set, take_all, take_more}
 use Rattle.trace_types.specs.Parts.{by_number}
 use Rattle.trace_types.specs.declared.named_segment.NamedSegment.{NamedSegment}
-use Rattle.trace_paths.specs.Durations.{duration}
+use Rattle.trace_rules.specs.Durations.{duration}
 use Rattle.trace_paths.specs.Tables.{IsTableOf}
 use Rattle.trace_paths.proofs.TableLemmas.{shown, table_push}
 use Rattle.trace_paths.proofs.duration_table.DurationTable.add.Goals as goal

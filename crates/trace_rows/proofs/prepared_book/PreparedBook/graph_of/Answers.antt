@@ -1,6 +1,6 @@
 use Rattle.std.proofs.Common.{subst}
-use Rattle.trace_graph.specs.TraceGraphs.{IsTraceGraph}
-use Rattle.named_books.specs.KeptBooks.{KeptState, traces_in}
+use Rattle.trace_rules.specs.TraceGraphs.{IsTraceGraph}
+use Rattle.kept_books.specs.KeptBooks.{KeptState, traces_in}
 use Rattle.trace_types.specs.Parts.{by_number}
 use Rattle.trace_rows.proofs.BookLemmas.{numbered_graph}
 use Rattle.trace_rows.proofs.prepared_book.PreparedBook.graph_of.Goals as goal

@@ -1,0 +1,15 @@
+mod BookLemmas
+mod FoundLemmas
+mod GraphLemmas
+mod GrownLemmas
+mod HypothesisLemmas
+mod LawLemmas
+mod ListLemmas
+mod NameLemmas
+mod PastLemmas
+mod RefutedLemmas
+mod ShareLemmas
+mod SheetLemmas
+mod TakenLemmas
+mod WatchLawLemmas
+mod ZipLemmas

@@ -1,6 +1,0 @@
-mod BoundLemmas
-mod NumberLemmas
-mod PrintLemmas
-mod ShownLemmas
-mod TextLemmas
-mod ZipLemmas

@@ -1,5 +1,0 @@
-use Rattle.forecast_rows.proofs.ShownLemmas.{shown_forecast}
-use Rattle.forecast_rows.proofs.laws.forecast_is_shown.Goals as goal
-
-pub returns : goal.returns
-returns c = λ known traces kept t k change f fits all shown h. shown_forecast known traces kept t k change f c.graph_is_shown.ensures (c.numbering_is_one_to_one.ensures.matched known.names) fits all shown h

@@ -1,5 +1,0 @@
-pub mod EndingLaws
-pub mod JobTexts
-pub mod ReadyLaws
-pub mod Running
-pub mod WatchLaws

@@ -1,8 +1,0 @@
-use Rattle.kept_books.proofs.LawLemmas.{days_counted, sheets_show}
-use Rattle.kept_books.proofs.laws.sheets_show.Goals as goal
-
-pub returns-clause-shown : goal.returns-clause-shown
-returns-clause-shown c = sheets_show
-
-pub returns-clause-counted : goal.returns-clause-counted
-returns-clause-counted c = days_counted

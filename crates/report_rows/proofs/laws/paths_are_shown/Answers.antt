@@ -1,5 +1,0 @@
-use Rattle.report_rows.proofs.PathLemmas.{paths_shown}
-use Rattle.report_rows.proofs.laws.paths_are_shown.Goals as goal
-
-pub returns : goal.returns
-returns c = λ known traces kept paths fits shown are. paths_shown known (c.numbering_is_one_to_one.ensures.matched known.names) c.graph_is_shown.ensures fits traces kept shown paths are

@@ -1,3 +1,0 @@
-pub mod NumberedTexts
-pub mod ShownPaths
-pub mod ShownReports

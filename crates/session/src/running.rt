@@ -1,0 +1,38 @@
+ghost use Rattle.std.specs.Prelude.{◌≡◌, ◌<◌, ◌≤◌, OnOk, IfErr};
+ghost use Rattle.session.specs.Carrying.{command_faults};
+ghost use Rattle.session.specs.Running.{EndsIn, WritesWhole};
+ghost use Rattle.session_rules.specs.ReadyJobs.{AreReady};
+
+use crate::{CommandFault, Job, Session};
+use mystery_io::{Gate, Sink};
+use std::alloc::Global;
+use std::thread::Threads;
+
+/// Carries out jobs in order, from a session without traces, for 1 to 64 workers, and writes their
+/// text to `out`. At the first job that passes a limit, or that memory or a write fails in, it ends
+/// with that fault.
+pub fn run_jobs<R: Threads + Sync, S: Sink, G: Gate + Sync>(
+    rt: &R,
+    alloc: Global,
+    workers: u32,
+    jobs: Vec<Job>,
+    out: &mut S,
+    gate: &G,
+) -> Result<(), CommandFault>
+    requires some { 0 < workers }
+    requires most { workers ≤ 64 }
+    requires ready { AreReady jobs.items }
+    ensures whole { OnOk result
+        (WritesWhole workers jobs.items (S.written out.old) (S.written out.new)) }
+    ensures fault { IfErr result
+        (λ fault. EndsIn fault workers jobs.items (S.written out.old) (S.written out.new)) }
+    ensures counted { S.faults out.new ≡ command_faults result (S.faults out.old) }
+{
+    let Ok(mut session) = Session::new(alloc, workers) else {
+        return Err(CommandFault::Memory);
+    };
+    for job in jobs {
+        session = session.command(rt, job, out, gate)?;
+    }
+    Ok(())
+}

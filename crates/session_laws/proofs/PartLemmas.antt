@@ -1,0 +1,104 @@
+-- Each part has one text, but for the numbers of watch rows.
+use Rattle.std.proofs.Common.{◌≡◌, ℕ, List, [], ◌∷◌, length, map, sym, ◌∙◌, ap}
+use Rattle.std.specs.Cmp.{IsTotalOrder}
+use Rattle.std.specs.Cmp.Lexicographic.{slice_cmp}
+use Rattle.std.specs.Ordering.{nat_cmp}
+use Rattle.trace_rules.specs.Pipes.{IsPipeline}
+use Rattle.session_rules.specs.KeptTraces.{Kept, by_kept, day_of}
+use Rattle.session_rules.specs.ModelTexts.{AreModelFigures, Figures, IsModelHead, IsModelText, header_row, model_text}
+use Rattle.session_rules.specs.Parts.{AreWatchRows, Part, IsPart, Refusals, Watched, Dropped, KeptNewest, ModelOf, Header, PathOf, SlacksOf, GraphOf, ModelHead, ReportHead, LatenciesOf, SegmentOf, TailHead, TailOf, ForecastHead, ForecastOf, WhyHead, RefutedOf, Verdict, Verified}
+use Rattle.trace_paths.specs.PathLaws.{PathsAreOne}
+use Rattle.text_rows.specs.TextsOfParts.{AreTexts}
+use Rattle.trace_graph.specs.GraphLaws.{HasOneGraph}
+use Rattle.trace_types.specs.Listing.{CountsDistinct}
+use Rattle.trace_types.specs.NameOrder.{name_cmp, pair_cmp}
+use Rattle.trace_types.specs.Parts.{segments_of}
+use Rattle.trace_types.specs.Relations.{HappensBefore, ExcludesUnordered}
+use Rattle.trace_types.specs.Segments.{SegmentName, name_of, task_of}
+use Rattle.session_laws.specs.WatchLaws.{AreAlikeByPart, AreSameRows, IsAlike}
+use Rattle.session_laws.proofs.JobLemmas.{OneRisingList, one_listed}
+use Rattle.session_laws.proofs.CertificateTextLemmas.{refuted_one}
+use Rattle.session_laws.proofs.ForecastTextLemmas.{forecast_head_one, forecast_row_one}
+use Rattle.session_laws.proofs.ReportTextLemmas.{latencies_one, report_head_one, segment_one, tail_head_one, tail_one}
+use Rattle.session_laws.proofs.TraceTextLemmas.{graph_one, path_one, slacks_one}
+
+-- a list has one number of different elements
+abbrev pub OneCount : Type 0 → Type 0
+OneCount X = (n m : ℕ) (xs : List X) → CountsDistinct n xs → CountsDistinct m xs → n ≡ m
+
+-- what is cited of the crates below
+pub record OneTelling : Type 0 where
+  pub numbers : OneRisingList ℕ
+  pub names : OneRisingList (SegmentName × SegmentName)
+  pub tasks : OneRisingList (List ℕ × List ℕ)
+  pub days : OneCount ℕ
+  pub name_count : OneCount SegmentName
+  pub task_count : OneCount (List ℕ)
+  pub name_order : IsTotalOrder (pair_cmp name_cmp)
+  pub task_order : IsTotalOrder (pair_cmp (slice_cmp nat_cmp))
+  pub graphs : HasOneGraph by_kept
+  pub paths : PathsAreOne by_kept
+
+watch_one : (every workers day : ℕ) (traces : List Kept) (t u : List ℕ) → AreWatchRows every workers day traces t → AreWatchRows every workers day traces u → AreSameRows day t u
+watch_one every workers day traces t u h k = record { lines = h.lines; others = k.lines; text_is = h.text; other_is = k.text; marks = h.are.marks ∙ sym k.are.marks }
+
+module _ (told : OneTelling) where
+  figures_one : (kept : List Kept) (f g : Figures) → AreModelFigures kept f → AreModelFigures kept g → f ≡ g
+  figures_one kept f g h k =
+      ap (λ (x : ℕ). record { days = x; names = f.names; tasks = f.tasks; hb = f.hb; mx = f.mx; pipe = f.pipe }) days
+      ∙ ap (λ (x : ℕ). record { days = g.days; names = x; tasks = f.tasks; hb = f.hb; mx = f.mx; pipe = f.pipe }) names
+      ∙ ap (λ (x : ℕ). record { days = g.days; names = g.names; tasks = x; hb = f.hb; mx = f.mx; pipe = f.pipe }) tasks
+      ∙ ap (λ (x : List (SegmentName × SegmentName)). record { days = g.days; names = g.names; tasks = g.tasks; hb = x; mx = f.mx; pipe = f.pipe }) hb
+      ∙ ap (λ (x : List (SegmentName × SegmentName)). record { days = g.days; names = g.names; tasks = g.tasks; hb = g.hb; mx = x; pipe = f.pipe }) mx
+      ∙ ap (λ (x : List (List ℕ × List ℕ)). record { days = g.days; names = g.names; tasks = g.tasks; hb = g.hb; mx = g.mx; pipe = x }) pipe
+    where
+      days : f.days ≡ g.days
+      days = told.days f.days g.days (map day_of kept) h.days k.days
+
+      names : f.names ≡ g.names
+      names = told.name_count f.names g.names (map name_of (segments_of by_kept kept)) h.names k.names
+
+      tasks : f.tasks ≡ g.tasks
+      tasks = told.task_count f.tasks g.tasks (map task_of (segments_of by_kept kept)) h.tasks k.tasks
+
+      hb : f.hb ≡ g.hb
+      hb = one_listed told.names (pair_cmp name_cmp) (λ (pair : SegmentName × SegmentName). HappensBefore by_kept kept pair.0 pair.1) f.hb g.hb told.name_order h.hb k.hb
+
+      mx : f.mx ≡ g.mx
+      mx = one_listed told.names (pair_cmp name_cmp) (λ (pair : SegmentName × SegmentName). ExcludesUnordered by_kept name_cmp kept pair.0 pair.1) f.mx g.mx told.name_order h.mx k.mx
+
+      pipe : f.pipe ≡ g.pipe
+      pipe = one_listed told.tasks (pair_cmp (slice_cmp nat_cmp)) (λ (pair : List ℕ × List ℕ). IsPipeline by_kept kept pair.0 pair.1) f.pipe g.pipe told.task_order h.pipe k.pipe
+
+  model_one : (kept : List Kept) (t u : List ℕ) → IsModelText kept t → IsModelText kept u → t ≡ u
+  model_one kept t u h k = h.text ∙ ap (model_text (length kept)) (figures_one kept h.figures k.figures h.told k.told) ∙ sym k.text
+
+  model_head_one : (kept : List Kept) (t u : List ℕ) → IsModelHead kept t → IsModelHead kept u → t ≡ u
+  model_head_one kept t u h k = h.text ∙ ap (header_row (length kept)) (figures_one kept h.figures k.figures h.told k.told) ∙ sym k.text
+
+  pub part_one : (part : Part) (t u : List ℕ) → IsPart part t → IsPart part u → IsAlike part t u
+  part_one (Refusals refused) t u h k = h ∙ sym k
+  part_one (Watched every workers day traces) t u h k = watch_one every workers day traces t u h k
+  part_one (Dropped day count) t u h k = h ∙ sym k
+  part_one (KeptNewest days count) t u h k = h ∙ sym k
+  part_one (ModelOf kept) t u h k = model_one kept t u h k
+  part_one (Header word count) t u h k = h ∙ sym k
+  part_one (PathOf kept trace) t u h k = path_one told.graphs kept trace t u h k
+  part_one (SlacksOf kept trace) t u h k = slacks_one told.graphs kept trace t u h k
+  part_one (GraphOf kept trace) t u h k = graph_one told.graphs told.numbers kept trace t u h k
+  part_one (ModelHead kept) t u h k = model_head_one kept t u h k
+  part_one (ReportHead kept) t u h k = report_head_one told.paths kept t u h k
+  part_one (LatenciesOf kept) t u h k = latencies_one kept t u h k
+  part_one (SegmentOf kept name) t u h k = segment_one told.paths kept name t u h k
+  part_one (TailHead kept) t u h k = tail_head_one kept t u h k
+  part_one (TailOf kept name) t u h k = tail_one told.paths kept name t u h k
+  part_one (ForecastHead change kept) t u h k = forecast_head_one told.graphs change kept t u h k
+  part_one (ForecastOf change kept trace) t u h k = forecast_row_one told.graphs change kept trace t u h k
+  part_one (WhyHead traces refuted) t u h k = h ∙ sym k
+  part_one (RefutedOf kept matter) t u h k = refuted_one kept matter t u h k
+  part_one (Verdict verdict line) t u h k = h ∙ sym k
+  part_one (Verified shown claims) t u h k = h ∙ sym k
+
+  pub parts_one : (parts : List Part) (t u : List ℕ) → AreTexts IsPart parts t → AreTexts IsPart parts u → AreAlikeByPart parts t u
+  parts_one [] t u h k = (h, k)
+  parts_one (part ∷ parts) t u h k = (h.0, h.1, k.0, k.1, part_one part h.0 k.0 h.2 k.2, parts_one parts h.1 k.1 h.3 k.3, h.4, k.4)

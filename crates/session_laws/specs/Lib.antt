@@ -1,0 +1,3 @@
+pub mod EndingLaws
+pub mod ReadyLaws
+pub mod WatchLaws

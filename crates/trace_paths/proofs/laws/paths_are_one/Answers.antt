@@ -1,0 +1,5 @@
+use Rattle.trace_paths.proofs.OnePathLemmas.{paths_one}
+use Rattle.trace_paths.proofs.laws.paths_are_one.Goals as goal
+
+pub returns : goal.returns
+returns g c = λ p traces paths others all more. paths_one p (c.a_trace_has_one_graph.ensures p) traces paths others all more

@@ -1,0 +1,10 @@
+pub mod CriticalPaths
+pub mod Durations
+pub mod Halving
+pub mod Numbers
+pub mod Pipes
+pub mod ReportRows
+pub mod SlowTraces
+pub mod TraceGraphs
+pub mod VertexOrder
+pub mod WatchMarks

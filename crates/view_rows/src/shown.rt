@@ -1,0 +1,74 @@
+//! What is found by number is that of the kept traces by text, by laws of the crates below.
+ghost use Rattle.view_rows.specs.inner.Shown.{FoundIsShown};
+ghost use Rattle.view_rows.specs.inner.ShownForecasts.{ForecastIsShown};
+ghost use Rattle.view_rows.specs.inner.ShownPaths.{PathsAreShown};
+ghost use Rattle.view_rows.specs.inner.ShownReports.{NamesAreBelow, ReportIsShown, TailIsShown};
+
+use book_laws::laws::graph_is_shown;
+use session_rules::KeptTrace;
+use trace_types::laws::{
+    a_list_is_told_in_one_way, names_are_totally_ordered, numbering_is_one_to_one,
+    renamed_traces_leave_alike,
+};
+use trace_types::{NameText, NamedSegment, NamedTrace, Segment, Text};
+
+/// What is found of a book by number are the figures of the kept traces that it shows.
+pub(crate) fn found_is_shown()
+    ensures { FoundIsShown }
+{
+    numbering_is_one_to_one::<NameText>();
+    numbering_is_one_to_one::<Text>();
+    renamed_traces_leave_alike::<
+        NamedTrace,
+        NamedSegment,
+        u32,
+        u32,
+        u32,
+        KeptTrace,
+        Segment,
+        NameText,
+        Text,
+        Text,
+    >();
+}
+
+/// The critical paths of a book's traces show those of the kept traces.
+pub(crate) fn paths_are_shown()
+    ensures { PathsAreShown }
+{
+    graph_is_shown();
+    numbering_is_one_to_one::<NameText>();
+}
+
+/// The report on a book's traces gives the texts of the report on the kept traces.
+pub(crate) fn report_is_shown()
+    ensures { ReportIsShown }
+{
+    paths_are_shown();
+    numbering_is_one_to_one::<NameText>();
+    names_are_totally_ordered::<NameText>();
+    a_list_is_told_in_one_way::<NameText>();
+}
+
+/// The report on the slowest of a book's traces gives the texts of that on the kept traces.
+pub(crate) fn tail_is_shown()
+    ensures { TailIsShown }
+{
+    paths_are_shown();
+    numbering_is_one_to_one::<NameText>();
+    names_are_totally_ordered::<NameText>();
+    a_list_is_told_in_one_way::<NameText>();
+}
+
+/// The names of a book's traces are below its number of names.
+pub(crate) fn names_are_below()
+    ensures { NamesAreBelow }
+{}
+
+/// The forecast of a trace by number is that of the kept trace.
+pub(crate) fn forecast_is_shown()
+    ensures { ForecastIsShown }
+{
+    graph_is_shown();
+    numbering_is_one_to_one::<NameText>();
+}

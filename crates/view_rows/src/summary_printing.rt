@@ -1,0 +1,43 @@
+ghost use Rattle.std.specs.Prelude.{◌≡◌, List};
+ghost use Rattle.book_laws.specs.Shown.{AreShown};
+ghost use Rattle.kept_books.specs.KeptBooks.{traces_in};
+ghost use Rattle.session_rules.specs.KeptTraces.{Kept};
+ghost use Rattle.session_rules.specs.Parts.{IsPart};
+ghost use Rattle.session_rules.specs.Sessions.{summary_parts};
+ghost use Rattle.text_rows.specs.Printing.{print_faults};
+ghost use Rattle.text_rows.specs.TextsOfParts.{PrintsTexts};
+
+use crate::model_printing::print_model_head;
+use crate::report_printing::print_first_rows;
+use crate::shown::report_is_shown;
+use kept_books::KeptBook;
+use latency_report::report;
+use mystery_io::Sink;
+use session_rules::SessionPart;
+use std::alloc::Global;
+use std::thread::Threads;
+use text_rows::laws::{part_calls_follow, parts_follow};
+use text_rows::{PrintFault, RowBuffer};
+use worker_limit::WorkerLimit;
+
+/// Prints the first row of the model of the traces of a book and the first two rows of the report
+/// on them, as `print_report` prints a report.
+pub fn print_summary<R: Threads + Sync, S: Sink>(
+    workers: &WorkerLimit<'_, R>,
+    alloc: Global,
+    book: &KeptBook,
+    sink: &mut S,
+    buffer: &mut RowBuffer,
+) -> Result<(), PrintFault>
+    ensures printed { (kept : List Kept) → AreShown book.now.known (traces_in book.now) kept
+        → PrintsTexts S.written S.faults result sink.old sink.new IsPart
+        (summary_parts kept) buffer.old buffer.new }
+    ensures counted { S.faults sink.new ≡ print_faults result (S.faults sink.old) }
+{
+    parts_follow::<SessionPart>();
+    part_calls_follow::<S, SessionPart>();
+    report_is_shown();
+    let found = report(workers, alloc, book)?;
+    print_model_head(alloc, book, sink, buffer)?;
+    print_first_rows(sink, buffer, &found)
+}

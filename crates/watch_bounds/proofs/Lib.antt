@@ -1,6 +1,0 @@
-mod FoundLemmas
-mod HypothesisLemmas
-mod LawLemmas
-mod ListLemmas
-mod RefutedLemmas
-mod ShareLemmas

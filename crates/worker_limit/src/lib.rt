@@ -1,0 +1,8 @@
+//! A runtime with a limit on the threads that share one piece of work, as `--workers N` sets it.
+#![tactic(auto)]
+
+mod limit;
+#[cfg(test)]
+mod tests;
+
+pub use limit::WorkerLimit;
