@@ -1,0 +1,10 @@
+pub mod CarryLemmas
+pub mod CleaningLemmas
+pub mod GoodLemmas
+pub mod JudgingLemmas
+pub mod LawLemmas
+pub mod LineLemmas
+pub mod MessageLemmas
+pub mod ReadLemmas
+pub mod RunLemmas
+pub mod StepLemmas

@@ -1,0 +1,5 @@
+use Rattle.line_clean.proofs.LineLemmas.{last_alone}
+use Rattle.line_clean.proofs.line_feeds.last_line_feed.Goals as goal
+
+pub returns-clause-last : goal.returns-clause-last
+returns-clause-last c = last_alone c.args.bytes.now c.memrchr.result c.memrchr.ensures

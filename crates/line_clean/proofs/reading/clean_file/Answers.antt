@@ -1,0 +1,12 @@
+use Rattle.std.proofs.Common.{◌∙◌, [], ap, false, sym}
+use Rattle.mystery_io.specs.Readings.{after_open}
+use Rattle.line_clean.proofs.StepLemmas.{known_none}
+use Rattle.line_clean.proofs.reading.clean_file.Goals as goal
+
+pub returns-then-is_err-clause-stops : goal.returns-then-is_err-clause-stops
+returns-then-is_err-clause-stops g c = record {
+  bytes = [];
+  at_end = false;
+  given = c.open.ensures.given ∙ ap (after_open (g.F.Files.given c.args.files.now)) c.as_str.ensures;
+  prefix = record { count = 0; appended = sym (known_none (g.S.Sink.written c.args.out.now)) };
+}

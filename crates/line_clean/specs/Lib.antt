@@ -1,0 +1,5 @@
+pub mod CommandLines
+pub mod Lines
+pub mod Messages
+pub mod Runs
+pub mod inner

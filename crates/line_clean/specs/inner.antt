@@ -1,0 +1,4 @@
+pub mod Carrying
+pub mod FirstLines
+pub mod Judging
+pub mod Steps
