@@ -1,21 +1,23 @@
 use crate::running::{SETTING, Setting, expect};
 use std::test::Fail;
 
+const USAGE: &[u8] = b"usage: mystery clean FILE...\n";
+
+const OUTSIDE_THE_GRAMMAR: [&[&str]; 4] = [&[], &[""], &["f", ""], &["", "g"]];
+
 const ADD: &[u8] = b"{\"do\":\"add\"}\n";
 
 const TWICE: &[u8] = b"{\"do\":\"add\"}\n{\"do\":\"add\"}\n";
 
 #[test]
 fn arguments_outside_the_grammar_are_refused(rt: HostRuntime) -> Result<(), Fail> {
-    let table: [&[&str]; 4] = [&[], &[""], &["f", ""], &["", "g"]];
-    for words in table {
+    for words in OUTSIDE_THE_GRAMMAR {
         let setting = Setting {
             words,
             f: ADD,
             ..SETTING
         };
-        let usage = b"usage: mystery clean FILE...\n";
-        expect(&rt, rt.alloc(), setting, 2, b"", usage)?;
+        expect(&rt, rt.alloc(), setting, 2, b"", USAGE)?;
     }
     Ok(())
 }
