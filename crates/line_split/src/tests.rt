@@ -28,7 +28,7 @@ fn files_of(alloc: Global, files: &[(&str, &[u8])]) -> Result<Vec<MemFile>, Allo
 }
 
 /// An event line of request `r1`, which stands in part 0 of 2 under the seed `x`.
-const R1: &[u8] =
+const EVENT: &[u8] =
     b"{\"request\":\"r1\",\"machine\":\"m\",\"task\":\"t\",\"event\":\"e\",\"time\":1}\n";
 
 /// A blank line, one of `r3`, which stands in part 1, and one of `r1` without a line feed.
@@ -39,7 +39,7 @@ const MIXED: &[u8] =
 const CONTROL: &[u8] =
     b"{\"request\":\"r1\",\"machine\":\"m\",\"task\":\"t\",\"event\":\"e\",\"time\":1}\n{\"do\":\"add\"}\nnonsense\n";
 
-const FILES: [(&str, &[u8]); 3] = [("a", R1), ("b", MIXED), ("c", CONTROL)];
+const FILES: [(&str, &[u8]); 3] = [("a", EVENT), ("b", MIXED), ("c", CONTROL)];
 
 /// The files of parts 0 and 1 of `a` and `b`, and of their origins, with a grace of 5.
 const PARTS: [(&str, &[u8]); 4] = [
