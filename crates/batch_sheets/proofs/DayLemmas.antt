@@ -20,6 +20,7 @@ use Rattle.std.proofs.lemmas.Bool.{eq-eqb, ne_eqb, cond-true, cond-false, cases_
 use Rattle.std.proofs.lemmas.List.Elements.{All-nil, All-cons, All-head, All-tail, All-weaker, filter-append}
 use Rattle.trace_types.specs.declared.named_trace.NamedTrace.{NamedTrace}
 use Rattle.book_laws.specs.Shown.{named_on}
+use Rattle.trace_types.proofs.ComparingLemmas.{less_to}
 use Rattle.batch_sheets.specs.declared.days.DayTraces.{DayTraces}
 use Rattle.batch_sheets.specs.Splitting.{AreSplit, AreSplitSoFar, named_day, split_day}
 
@@ -39,10 +40,10 @@ others_stay named t (s ∷ ss) o h = All-cons (HasThose (named ++ t ∷ [])) s s
     (All-head (HasThose named) s ss h ∙ sym (on_another s.day named t (All-head (λ d. t.day ≢ d) s.day (map split_day ss) o)))
     (others_stay named t ss (All-tail (λ d. t.day ≢ d) s.day (map split_day ss) o) (All-tail (HasThose named) s ss h))
 
-heads : (x : ℕ) (xs : List ℕ) → AllPairs (λ x y. x ≢ y) (x ∷ xs) → All (λ y. x ≢ y) xs
+pub heads : (x : ℕ) (xs : List ℕ) → AllPairs (λ x y. x ≢ y) (x ∷ xs) → All (λ y. x ≢ y) xs
 heads x xs p k d l = p 0 (suc k) d (omega arith) (omega (arith, l))
 
-tails : (x : ℕ) (xs : List ℕ) → AllPairs (λ x y. x ≢ y) (x ∷ xs) → AllPairs (λ x y. x ≢ y) xs
+pub tails : (x : ℕ) (xs : List ℕ) → AllPairs (λ x y. x ≢ y) (x ∷ xs) → AllPairs (λ x y. x ≢ y) xs
 tails x xs p i j d l m = p (suc i) (suc j) d (omega (arith, l)) (omega (arith, m))
 
 day_at : (ss : List DayTraces) (i : ℕ) (d : DayTraces) (t : NamedTrace) → i < length ss → ((e : DayTraces) → (get_or ss i e).day ≡ t.day) → get_or (map split_day ss) i d.day ≡ t.day
@@ -89,9 +90,6 @@ is_less Less = Unit {0}
 is_less Equal = ⊥
 is_less Greater = ⊥
 
-below_is_less : (x y : ℕ) → x < y → nat_cmp x y ≡ Less
-below_is_less x y l = sym (nat_cmp_is x y Less l)
-
 pub less_differ : (x y : ℕ) → nat_cmp x y ≡ Less → x ≢ y
 less_differ x y e same = subst is_less (sym e ∙ sym (nat_cmp_is x y Equal same)) tt
 
@@ -110,7 +108,7 @@ days_listed traces i days sorted once le is moved rises made = rw made (record {
     all = is ∙ ap (map named_day) (take_all i traces le)
 
     All-pairs : (ds : List ℕ) → AllPairs (λ x y. x < y) ds → AllPairs (λ x y. nat_cmp x y ≡ Less) ds
-    All-pairs ds p j k d l m = below_is_less (get_or ds j d) (get_or ds k d) (p j k d l m)
+    All-pairs ds p j k d l m = less_to (get_or ds j d) (get_or ds k d) (p j k d l m)
 
 pub days_differ : (days : List ℕ) → AllPairs (λ x y. nat_cmp x y ≡ Less) days → AllPairs (λ x y. x ≢ y) days
 days_differ days p j k d l m = less_differ (get_or days j d) (get_or days k d) (p j k d l m)
@@ -149,16 +147,12 @@ days_rise days ss rising is i j d le l =
     ]
 
 -- ---- one item among others
-pub all_middle : {X : Type 0} (P : X → Type 0) (done rest : List X) (x : X) → All P (done ++ x ∷ rest) → P x
-all_middle P [] rest x h = All-head P x rest h
-all_middle P (d ∷ done) rest x h = all_middle P done rest x (All-tail P d (done ++ x ∷ rest) h)
-
 pub in_middle : (done rest : List NamedTrace) (t : NamedTrace) → Contains (map named_day (done ++ t ∷ rest)) t.day
 in_middle [] rest t = (0, omega arith, refl)
 in_middle (d ∷ done) rest t = let c = in_middle done rest t in (suc c.0, omega (arith, c.1), c.2)
 
 -- ---- no day is empty
-on_some : (d : ℕ) (named : List NamedTrace) → Contains (map named_day named) d → 0 < length (named_on d named)
+pub on_some : (d : ℕ) (named : List NamedTrace) → Contains (map named_day named) d → 0 < length (named_on d named)
 on_some d [] (k, l, e) = absurd (omega (arith, l))
 on_some d (t ∷ ts) (zero, l, e) = rw (cond-true (t.day == d) (t ∷ named_on d ts) (named_on d ts) (eq-eqb t.day d e)) (omega arith)
 on_some d (t ∷ ts) (suc k, l, e) =
@@ -198,7 +192,7 @@ one_day day named s own has h = record {
   each_list = All-cons (HasThose named) s [] (has ∙ kept_all day named h ∙ ap (λ d. named_on d named) (sym own)) (All-nil (HasThose named));
 }
 
-all_in : (xs : List NamedTrace) → All (λ (t : NamedTrace). Contains (map named_day xs) t.day) xs
+pub all_in : (xs : List NamedTrace) → All (λ (t : NamedTrace). Contains (map named_day xs) t.day) xs
 all_in xs k d l = (k, rw (length-map xs named_day) l, get_or-map named_day xs k d (get_or xs k d).day l)
 
 pub all_of_day : (day : ℕ) (named : List NamedTrace) → ListsExactly nat_cmp (Contains (map named_day named)) (day ∷ []) → All (λ (t : NamedTrace). t.day ≡ day) named

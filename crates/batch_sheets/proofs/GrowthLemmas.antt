@@ -1,11 +1,10 @@
 -- A catalogue that grows by traces, and the traces that are named by it.
-use Rattle.std.proofs.Common.{◌≡◌, ℕ, zero, suc, ◌+◌, ◌-◌, ◌<◌, ◌≤◌, inl, inr, Bool, true, ◌&&◌, List, [], ◌∷◌, ◌++◌, length, map, take, All, Contains, refl, sym, ap, ◌∙◌, subst, append-nil, append_assoc, arith}
+use Rattle.std.proofs.Common.{◌≡◌, ℕ, zero, suc, ◌+◌, ◌-◌, ◌<◌, ◌≤◌, inl, inr, Bool, true, List, [], ◌∷◌, ◌++◌, length, map, take, All, Contains, sym, ap, ◌∙◌, subst, append-nil, append_assoc, arith}
 use Rattle.std.proofs.Math.Seq.{take-append-add}
-use Rattle.std.proofs.lemmas.Bool.{and_parts, cases_lt}
+use Rattle.std.proofs.lemmas.Bool.{cases_lt}
 use Rattle.std.proofs.lemmas.Grind.{flat_map-append}
 use Rattle.std.proofs.lemmas.List.{length-append, map-append, take-append-le}
 use Rattle.std.proofs.lemmas.List.Elements.{All-nil, All-cons}
-use Rattle.std.proofs.lemmas.Slice.Eq.{bytes_eq-Decides}
 use Rattle.std.specs.List.{AllZip, enumerate_from, flat_map}
 use Rattle.std.specs.Str.{bytes_eq}
 use Rattle.book_laws.specs.BookLaws.{GrownShows}
@@ -19,29 +18,16 @@ use Rattle.session_rules.specs.KeptTraces.{Kept, by_kept, kept_with}
 use Rattle.trace_types.specs.Firsts.{firsts_of}
 use Rattle.trace_types.specs.Parts.{by_number}
 use Rattle.trace_types.specs.Renaming.{IsSegmentRenamed}
-use Rattle.trace_types.specs.Segments.{SegmentName, name_of, task_of}
+use Rattle.trace_types.specs.Segments.{name_of, task_of}
 use Rattle.trace_types.specs.declared.named_segment.NamedSegment.{NamedSegment}
 use Rattle.trace_types.specs.declared.named_trace.NamedTrace.{NamedTrace}
 use Rattle.trace_types.specs.declared.segment.Segment.{Segment}
 use Rattle.trace_types.specs.declared.trace.Trace.{Trace}
+use Rattle.trace_types.proofs.ComparingLemmas.{text_means, text_own}
+use Rattle.segment_names.proofs.TextLemmas.{name_means, name_own}
 use Rattle.batch_sheets.specs.inner.Growth.{AddsAndNames, AppendsNamed}
 use Rattle.batch_sheets.proofs.FirstLemmas.{firsts_again, firsts_there}
 use Rattle.batch_sheets.proofs.ZipLemmas.{zip_append}
-
-pub text_means : (x y : List ℕ) → bytes_eq x y ≡ true → x ≡ y
-text_means x y h = (bytes_eq-Decides x y).0 h
-
-pub text_own : (x : List ℕ) → bytes_eq x x ≡ true
-text_own x = (bytes_eq-Decides x x).1 refl
-
-pub name_means : (x y : SegmentName) → same_name x y ≡ true → x ≡ y
-name_means x y h =
-    let p = and_parts (bytes_eq x.0 y.0) (bytes_eq x.1 y.1 && bytes_eq x.2 y.2) h in
-    let q = and_parts (bytes_eq x.1 y.1) (bytes_eq x.2 y.2) p.1 in
-    λ k. (text_means x.0 y.0 p.0 k, text_means x.1 y.1 q.0 k, text_means x.2 y.2 q.1 k)
-
-pub name_own : (x : SegmentName) → same_name x x ≡ true
-name_own x = rw (text_own x.0, text_own x.1, text_own x.2) refl
 
 -- ---- a catalogue after traces
 

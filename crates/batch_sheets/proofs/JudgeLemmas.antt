@@ -12,12 +12,13 @@ use Rattle.segment_cut.specs.Faults.{IsTraceFault}
 use Rattle.segment_cut.specs.NumberedCuts.{NumberedCut}
 use Rattle.segment_cut.specs.declared.trace_fault.TraceFault.{TraceFault}
 use Rattle.session_rules.specs.declared.refused.Refused.{Refused}
+use Rattle.trace_types.proofs.ZipLemmas.{zip_push}
 use Rattle.batch_sheets.specs.declared.judging.JudgedTraces.{JudgedTraces}
 use Rattle.session_rules.specs.Batches.{IsJudged, AreJudged, valid_in, valid_of, refused_of}
 use Rattle.batch_sheets.specs.inner.Judging.{AreCut, AreJudgedSoFar, Judges}
 use Rattle.batch_sheets.specs.Named.{HasFewSegments, cut_trace}
 use Rattle.batch_sheets.proofs.CutLemmas.{traces_next}
-use Rattle.batch_sheets.proofs.ZipLemmas.{zip_append, zip_more}
+use Rattle.batch_sheets.proofs.ZipLemmas.{zip_append}
 
 -- ---- cut traces
 
@@ -84,7 +85,7 @@ so_far_next texts raws then raw old new is h s =
     subst (λ (l : List PlainTrace). AreJudgedSoFar texts l new) (sym is) (record {
       all = record {
         verdicts = vs ++ s.verdict ∷ [];
-        each = zip_more IsJudged raws vs raw s.verdict h.all.each s.judged;
+        each = zip_push IsJudged raws vs raw s.verdict h.all.each s.judged;
         valid_are = s.valid ∙ ap (λ (ts : List Trace). ts ++ valid_of (s.verdict ∷ [])) h.all.valid_are ∙ sym (filter_map-append valid_in vs (s.verdict ∷ []));
         refused_are = s.refused ∙ ap (λ (rs : List Refused). rs ++ refused_of (raw ∷ []) (s.verdict ∷ [])) h.all.refused_are ∙ sym (refused_join raws (raw ∷ []) vs (s.verdict ∷ []) h.all.each);
       };

@@ -1,5 +1,5 @@
 mod CutLemmas
-mod DayLemmas
+pub mod DayLemmas
 mod FirstLemmas
 mod GrowthLemmas
 mod JudgeLemmas

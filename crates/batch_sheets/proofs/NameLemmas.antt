@@ -16,8 +16,8 @@ use Rattle.segment_names.specs.Known.{Known, same_name, with_segments}
 use Rattle.segment_names.specs.Naming.{HasUnknown, IsNamed}
 use Rattle.session_rules.specs.KeptTraces.{by_kept, kept_with}
 use Rattle.book_laws.specs.Shown.{IsShown}
-use Rattle.batch_sheets.proofs.GrowthLemmas.{name_means, name_own}
-use Rattle.batch_sheets.proofs.ZipLemmas.{zip_weaker}
+use Rattle.segment_names.proofs.TextLemmas.{name_means, name_own}
+use Rattle.trace_types.proofs.MatchLemmas.{zip_map}
 
 -- a named trace with a grace is the trace that is kept with it
 pub graced : (known : Known) (named new : NamedTrace) (trace : Trace) (grace : ℕ) → IsNamed known named trace → named.request ≡ trace.request → named.day ≡ trace.day → named.latency ≡ trace.latency
@@ -27,7 +27,7 @@ graced known named new trace grace h request day latency own new_request new_day
     grace = sym own;
     elements = h.elements;
     one_to_one = h.one_to_one;
-    segments = rw same (zip_weaker (IsSegmentRenamed by_number by_text (enumerate_from 0 known.names) (enumerate_from 0 known.tasks) h.elements) (IsSegmentRenamed by_number by_kept (enumerate_from 0 known.names) (enumerate_from 0 known.tasks) h.elements)
+    segments = rw same (zip_map (IsSegmentRenamed by_number by_text (enumerate_from 0 known.names) (enumerate_from 0 known.tasks) h.elements) (IsSegmentRenamed by_number by_kept (enumerate_from 0 known.names) (enumerate_from 0 known.tasks) h.elements)
         (λ s x r. record { name = r.name; task = r.task; element = r.element; start = r.start; end = r.end }) named.segments trace.segments h.segments);
   };
   request = new_request ∙ request;

@@ -1,8 +1,7 @@
 -- The part of a list from one index up to another.
-use Rattle.std.proofs.Common.{◌≡◌, ℕ, zero, suc, ◌+◌, ◌-◌, ◌≤◌, List, [], ◌∷◌, ◌++◌, length, take, drop, slice_get, slice_range, Some, None, All, refl, ap, ◌∙◌, subst, arith}
+use Rattle.std.proofs.Common.{◌≡◌, ℕ, zero, suc, ◌+◌, ◌-◌, ◌≤◌, List, [], ◌∷◌, ◌++◌, length, take, drop, slice_get, slice_range, Some, None, refl, ap, ◌∙◌, arith}
 use Rattle.std.proofs.Math.Seq.{take-add}
 use Rattle.std.proofs.lemmas.List.{drop-drop, take_all}
-use Rattle.std.proofs.lemmas.Option.{get_or_from_slice_get, slice_get_within}
 
 -- two parts side by side
 pub range_join : {X : Type 0} (xs : List X) (start middle end : ℕ) → start ≤ middle → middle ≤ end → slice_range xs start end ≡ slice_range xs start middle ++ slice_range xs middle end
@@ -28,7 +27,3 @@ range_none xs start = let none : start - start ≡ 0 = omega arith in ap (λ (n 
 
 pub range_all : {X : Type 0} (xs : List X) (n : ℕ) → n ≡ length xs → slice_range xs 0 n ≡ xs
 range_all xs n is = let all : n - 0 ≡ n = omega arith in ap (λ (m : ℕ). take m xs) all ∙ take_all n xs (omega arith)
-
--- what holds of all holds of one
-pub all_there : {X : Type 0} (P : X → Type 0) (xs : List X) (i : ℕ) (x : X) → All P xs → slice_get xs i ≡ Some x → P x
-all_there P xs i x all e = subst P (get_or_from_slice_get xs i x x e) (all i x (slice_get_within xs i x e))

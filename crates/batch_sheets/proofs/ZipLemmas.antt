@@ -3,19 +3,6 @@ use Rattle.std.proofs.Common.{◌≡◌, ℕ, List, [], ◌∷◌, ◌++◌, tak
 use Rattle.std.proofs.lemmas.List.{take-append-drop}
 use Rattle.std.specs.List.{AllZip}
 
-pub zip_weaker : {X Y : Type 0} (R Q : X → Y → Type 0) → ((x : X) (y : Y) → R x y → Q x y) → (xs : List X) (ys : List Y) → AllZip R xs ys → AllZip Q xs ys
-zip_weaker R Q weaker [] [] z = z
-zip_weaker R Q weaker [] (y ∷ ys) z = absurd z
-zip_weaker R Q weaker (x ∷ xs) [] z = absurd z
-zip_weaker R Q weaker (x ∷ xs) (y ∷ ys) z = (weaker x y z.0, zip_weaker R Q weaker xs ys z.1)
-
--- one more of each
-pub zip_more : {A B : Type 0} (R : A → B → Type 0) (xs : List A) (ys : List B) (x : A) (y : B) → AllZip R xs ys → R x y → AllZip R (xs ++ x ∷ []) (ys ++ y ∷ [])
-zip_more R [] [] x y h r = (r, tt)
-zip_more R [] (b ∷ ys) x y h r = absurd h
-zip_more R (a ∷ xs) [] x y h r = absurd h
-zip_more R (a ∷ xs) (b ∷ ys) x y h r = (h.0, zip_more R xs ys x y h.1 r)
-
 -- two lists after two others
 pub zip_append : {A B : Type 0} (R : A → B → Type 0) (xs us : List A) (ys vs : List B) → AllZip R xs ys → AllZip R us vs → AllZip R (xs ++ us) (ys ++ vs)
 zip_append R [] us [] vs h r = r

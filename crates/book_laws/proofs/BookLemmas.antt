@@ -1,18 +1,15 @@
 -- The traces of all days of a book: by day, and what a drop, a keep and an add leave of them.
-use Rattle.std.proofs.Common.{◌≡◌, ◌≢◌, ℕ, zero, suc, ◌+◌, ◌-◌, ◌<◌, ◌≤◌, ◌⊎◌, inl, inr, Bool, true, false, not, ◌==◌, nat_lt, nat_eq, if◌then◌else◌, List, [], ◌∷◌, ◌++◌, length, map, filter, drop, All, AllPairs, Contains, refl, sym, ap, ◌∙◌, subst, append_assoc, arith}
+use Rattle.std.proofs.Common.{◌≡◌, ℕ, zero, suc, ◌-◌, ◌<◌, ◌≤◌, ◌⊎◌, inl, inr, Bool, true, false, not, ◌==◌, nat_lt, nat_eq, List, [], ◌∷◌, ◌++◌, length, map, filter, drop, All, refl, sym, ap, ◌∙◌, subst, arith}
 use Rattle.std.proofs.lemmas.Bool.{cases_eq, cases_lt, cases_order, eq-eqb, ne_eqb, lt-ltb, le-ltb, cond-true, cond-false, not_from_true, not_from_false}
 use Rattle.std.proofs.lemmas.List.{append-nil, map-append}
-use Rattle.std.proofs.lemmas.List.Elements.{All-nil, All-cons, All-head, All-tail, All-weaker, All-append, filter-append, All-contains}
-use Rattle.std.specs.List.{AllZip, flat_map}
+use Rattle.std.proofs.lemmas.List.Elements.{All-nil, All-cons, All-head, All-tail, All-weaker, All-append, filter-append}
 use Rattle.trace_types.specs.declared.named_trace.NamedTrace.{NamedTrace}
 use Rattle.trace_types.specs.Firsts.{firsts_of}
-use Rattle.day_partitions.specs.Books.{BookState, KeptDay, kept_day, all_traces, traces_kept_on, has_day, AreRising, HasTraces, AreOfDay, IsBook, with_day_traces, days_without, newest_days, with_added}
-use Rattle.day_partitions.specs.Batches.{with_all, new_days}
-use Rattle.day_partitions.specs.declared.dated_sheet.DatedSheet.{DatedSheet}
-use Rattle.book_laws.specs.Shown.{named_on}
-use Rattle.book_laws.specs.BookLaws.{AreSheetsOf}
+use Rattle.day_partitions.specs.Books.{BookState, KeptDay, kept_day, all_traces, traces_kept_on, AreRising, HasTraces, AreOfDay, IsBook, with_day_traces, days_without, newest_days}
+use Rattle.trace_types.proofs.ListingLemmas.{pairs_tail}
+use Rattle.day_partitions.proofs.DayLemmas.{with_below, with_same, with_above}
 use Rattle.book_laws.proofs.ZipLemmas.{filter_yes, filter_no, filter_all, filter_none, filter_same}
-use Rattle.book_laws.proofs.TakenLemmas.{put_all, has_key, Rises, filter_above, filter_put_all, one_rising, put_all_rises, put_all_before, put_all_behind, rises_append}
+use Rattle.book_laws.proofs.TakenLemmas.{put_all, has_key, Rises, filter_above, put_all_before, put_all_behind, rises_append}
 
 abbrev pub named_day : NamedTrace → ℕ
 named_day t = t.day
@@ -26,11 +23,8 @@ pub record AreDays (ks : List KeptDay) : Type 0 where
 pub book_days : (b : BookState) → IsBook b → AreDays b.days
 book_days b h = record { rising = h.rising; some = h.some; dated = h.dated }
 
-pairs_head : (k : KeptDay) (ks : List KeptDay) → AreRising (k ∷ ks) → All (λ (j : KeptDay). k.day < j.day) ks
+pub pairs_head : (k : KeptDay) (ks : List KeptDay) → AreRising (k ∷ ks) → All (λ (j : KeptDay). k.day < j.day) ks
 pairs_head k ks p i d l = p 0 (suc i) d (omega arith) (omega arith)
-
-pairs_tail : {X : Type 0} (R : X → X → Type 0) (x : X) (xs : List X) → AllPairs R (x ∷ xs) → AllPairs R xs
-pairs_tail R x xs p i j d l m = p (suc i) (suc j) d (omega arith) (omega arith)
 
 pairs_cons : (k : KeptDay) (ks : List KeptDay) → All (λ (j : KeptDay). k.day < j.day) ks → AreRising ks → AreRising (k ∷ ks)
 pairs_cons k ks h p zero zero d l m = absurd (omega arith)
@@ -47,11 +41,11 @@ IsDated k = AreOfDay k.day k.traces
 pub days_tail : (k : KeptDay) (ks : List KeptDay) → AreDays (k ∷ ks) → AreDays ks
 days_tail k ks h = record { rising = pairs_tail Rising k ks h.rising; some = All-tail HasTraces k ks h.some; dated = All-tail IsDated k ks h.dated }
 
-own_day : (k : KeptDay) (ks : List KeptDay) → AreDays (k ∷ ks) → AreOfDay k.day k.traces
+pub own_day : (k : KeptDay) (ks : List KeptDay) → AreDays (k ∷ ks) → AreOfDay k.day k.traces
 own_day k ks h = All-head IsDated k ks h.dated
 
 -- all traces of later days are of greater days
-above_all : (d : ℕ) (ks : List KeptDay) → All (λ (k : KeptDay). d < k.day) ks → All IsDated ks → All (λ (t : NamedTrace). d < t.day) (all_traces ks)
+pub above_all : (d : ℕ) (ks : List KeptDay) → All (λ (k : KeptDay). d < k.day) ks → All IsDated ks → All (λ (t : NamedTrace). d < t.day) (all_traces ks)
 above_all d [] h g = All-nil (λ (t : NamedTrace). d < t.day)
 above_all d (k ∷ ks) h g =
     let l = All-head (λ (j : KeptDay). d < j.day) k ks h in
@@ -196,15 +190,6 @@ with_cases d ts k ks = elim (cases_order k.day d) [
   | inr (inl low) ↦ inl low
   | inr (inr high) ↦ inr (inr high)
 ]
-
-pub with_below : (d : ℕ) (ts : List NamedTrace) (k : KeptDay) (ks : List KeptDay) → k.day < d → with_day_traces d ts (k ∷ ks) ≡ k ∷ with_day_traces d ts ks
-with_below d ts k ks l = cond-true (nat_lt k.day d) _ _ (lt-ltb k.day d l)
-
-pub with_same : (d : ℕ) (ts : List NamedTrace) (k : KeptDay) (ks : List KeptDay) → k.day ≡ d → with_day_traces d ts (k ∷ ks) ≡ kept_day d (k.traces ++ ts) ∷ ks
-with_same d ts k ks e = cond-false (nat_lt k.day d) _ _ (le-ltb k.day d (omega (arith, e))) ∙ cond-true (k.day == d) _ _ (eq-eqb k.day d e)
-
-pub with_above : (d : ℕ) (ts : List NamedTrace) (k : KeptDay) (ks : List KeptDay) → d < k.day → with_day_traces d ts (k ∷ ks) ≡ kept_day d ts ∷ k ∷ ks
-with_above d ts k ks l = cond-false (nat_lt k.day d) _ _ (le-ltb k.day d (omega (arith, l))) ∙ cond-false (k.day == d) _ _ (ne_eqb k.day d (λ e. omega (arith, l, e)))
 
 at_most_all : (d : ℕ) (ts : List NamedTrace) (e : ℕ) → AreOfDay e ts → e ≤ d → All (λ (t : NamedTrace). t.day ≤ d) ts
 at_most_all d ts e h l = All-weaker (λ (t : NamedTrace). t.day ≡ e) (λ (t : NamedTrace). t.day ≤ d) (λ t s. omega (arith, l, s)) ts h

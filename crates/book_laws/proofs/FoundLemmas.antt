@@ -6,7 +6,8 @@ use Rattle.trace_types.specs.Parts.{Parts}
 use Rattle.trace_types.specs.Pipelines.{HandlesAt, RefutesPipe, RefutesUnshared}
 use Rattle.trace_types.specs.Refuting.{HasBoth}
 use Rattle.trace_types.specs.Renaming.{IsSegmentRenamed, IsTraceRenamed}
-use Rattle.book_laws.proofs.ListLemmas.{at_index, partner, zip_flip}
+use Rattle.trace_types.proofs.MatchLemmas.{partner_at}
+use Rattle.book_laws.proofs.ListLemmas.{at_index, zip_flip}
 
 -- a segment of the trace has this name
 pub record HasName {A S N T E : Type 0} (p : Parts A S N T E) (trace : A) (a : N) : Type 0 where
@@ -50,22 +51,22 @@ module _ {A S N T E : Type 0} (p : Parts A S N T E) (trace : A) where
 module _ {A S N T E B X M U F : Type 0} (p : Parts A S N T E) (q : Parts B X M U F) (names : List (N × M)) (tasks : List (T × U)) (trace : A) (other : B) (m : IsTraceRenamed p q names tasks trace other) where
   pub name_to : (a : N) → HasName p trace a → (c : M) × Contains names (a, c)
   name_to a h =
-      let r = partner (IsSegmentRenamed p q names tasks m.elements) (p.segments trace) (q.segments other) m.segments h.index h.segment h.there in
+      let r = partner_at (IsSegmentRenamed p q names tasks m.elements) (p.segments trace) (q.segments other) m.segments h.index h.segment h.there in
       (q.name r.0, subst (λ (n : N). Contains names (n, q.name r.0)) h.named r.2.name)
 
   pub task_to : (t : T) → HasTask p trace t → (u : U) × Contains tasks (t, u)
   task_to t h =
-      let r = partner (IsSegmentRenamed p q names tasks m.elements) (p.segments trace) (q.segments other) m.segments h.index h.segment h.there in
+      let r = partner_at (IsSegmentRenamed p q names tasks m.elements) (p.segments trace) (q.segments other) m.segments h.index h.segment h.there in
       (q.task r.0, subst (λ (v : T). Contains tasks (v, q.task r.0)) h.tasked r.2.task)
 
   pub name_back : (c : M) → HasName q other c → (a : N) × Contains names (a, c)
   name_back c h =
-      let r = partner (λ (x : X) (s : S). IsSegmentRenamed p q names tasks m.elements s x) (q.segments other) (p.segments trace)
+      let r = partner_at (λ (x : X) (s : S). IsSegmentRenamed p q names tasks m.elements s x) (q.segments other) (p.segments trace)
       (zip_flip (IsSegmentRenamed p q names tasks m.elements) (p.segments trace) (q.segments other) m.segments) h.index h.segment h.there in
       (p.name r.0, subst (λ (n : M). Contains names (p.name r.0, n)) h.named r.2.name)
 
   pub task_back : (u : U) → HasTask q other u → (t : T) × Contains tasks (t, u)
   task_back u h =
-      let r = partner (λ (x : X) (s : S). IsSegmentRenamed p q names tasks m.elements s x) (q.segments other) (p.segments trace)
+      let r = partner_at (λ (x : X) (s : S). IsSegmentRenamed p q names tasks m.elements s x) (q.segments other) (p.segments trace)
       (zip_flip (IsSegmentRenamed p q names tasks m.elements) (p.segments trace) (q.segments other) m.segments) h.index h.segment h.there in
       (p.task r.0, subst (λ (v : U). Contains tasks (p.task r.0, v)) h.tasked r.2.task)

@@ -1,21 +1,21 @@
 -- A catalogue that has grown keeps the numbers of its names and tasks.
-use Rattle.std.proofs.Common.{◌≡◌, ◌≢◌, ℕ, zero, suc, ◌+◌, ◌<◌, inl, inr, Bool, true, false, not, ◌&&◌, List, [], ◌∷◌, ◌++◌, length, map, filter, Option, Some, None, All, AllPairs, Contains, refl, sym, ap, ◌∙◌, subst, arith}
-use Rattle.std.proofs.lemmas.Bool.{cases_Bool, and_parts, not_from_false}
-use Rattle.std.proofs.lemmas.List.Elements.{All-head, All-tail, All-weaker, filter-append, Contains-append_left}
-use Rattle.std.proofs.lemmas.Slice.Eq.{bytes_eq-Decides}
+use Rattle.std.proofs.Common.{◌≡◌, ◌≢◌, ℕ, suc, ◌+◌, inl, inr, Bool, true, false, not, List, [], ◌∷◌, ◌++◌, length, map, filter, All, AllPairs, Contains, refl, ap, ◌∙◌, arith}
+use Rattle.std.proofs.lemmas.Bool.{cases_Bool, not_from_false}
+use Rattle.std.proofs.lemmas.List.Elements.{All-weaker, filter-append, Contains-append_left}
 use Rattle.std.specs.Str.{bytes_eq}
-use Rattle.std.specs.List.{AllZip, enumerate_from, flat_map}
-use Rattle.trace_types.specs.declared.named_segment.NamedSegment.{NamedSegment}
+use Rattle.std.specs.List.{enumerate_from, flat_map}
 use Rattle.trace_types.specs.declared.named_trace.NamedTrace.{NamedTrace}
 use Rattle.trace_types.specs.declared.segment.Segment.{Segment}
 use Rattle.trace_types.specs.declared.trace.Trace.{Trace}
 use Rattle.trace_types.specs.Firsts.{firsts_of}
 use Rattle.trace_types.specs.Parts.{by_number}
-use Rattle.trace_types.specs.Renaming.{IsSegmentRenamed, IsTraceRenamed}
+use Rattle.trace_types.specs.Renaming.{IsSegmentRenamed}
 use Rattle.trace_types.specs.Segments.{SegmentName, name_of, task_of}
-use Rattle.segment_names.specs.Known.{Known, same_name, with_segments, with_traces}
+use Rattle.segment_names.specs.Known.{Known, same_name, with_traces}
 use Rattle.segment_names.specs.Limits.{IsKept}
 use Rattle.session_rules.specs.KeptTraces.{Kept, by_kept}
+use Rattle.trace_types.proofs.ComparingLemmas.{text_means}
+use Rattle.segment_names.proofs.TextLemmas.{name_means}
 use Rattle.book_laws.specs.Shown.{AreShown, IsShown}
 use Rattle.book_laws.proofs.ZipLemmas.{filter_all, zip_weaker}
 
@@ -35,15 +35,6 @@ module _ {X : Type 0} (same : X → X → Bool) (means : (x y : X) → same x y 
       let test : X → Bool = λ y. not (same x y) in
       let stay : filter test xs ≡ xs = filter_all test xs (All-weaker (λ y. x ≢ y) (λ y. test y ≡ true) (λ y o. not_from_false (same x y) (differ x y o)) xs others) in
       (filter test rest.0, ap (λ l. x ∷ filter test l) rest.1 ∙ ap (λ l. x ∷ l) (filter-append test xs rest.0) ∙ ap (λ l. x ∷ (l ++ filter test rest.0)) stay)
-
-text_means : (x y : List ℕ) → bytes_eq x y ≡ true → x ≡ y
-text_means x y h = (bytes_eq-Decides x y).0 h
-
-name_means : (x y : SegmentName) → same_name x y ≡ true → x ≡ y
-name_means x y h =
-    let p = and_parts (bytes_eq x.0 y.0) (bytes_eq x.1 y.1 && bytes_eq x.2 y.2) h in
-    let q = and_parts (bytes_eq x.1 y.1) (bytes_eq x.2 y.2) p.1 in
-    λ k. (text_means x.0 y.0 p.0 k, text_means x.1 y.1 q.0 k, text_means x.2 y.2 q.1 k)
 
 enumerate_append : {X : Type 0} (n : ℕ) (xs ys : List X) → enumerate_from n (xs ++ ys) ≡ enumerate_from n xs ++ enumerate_from (n + length xs) ys
 enumerate_append n [] ys = ap (λ m. enumerate_from m ys) (let z : n ≡ n + 0 = omega arith in z)

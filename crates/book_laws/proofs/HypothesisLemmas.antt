@@ -4,9 +4,8 @@ use Rattle.std.proofs.lemmas.Bool.{cases_order}
 use Rattle.std.proofs.lemmas.Option.{slice_get_within}
 use Rattle.std.specs.List.{slice_get}
 use Rattle.hypothesis_index.specs.declared.relation.Relation.{Relation}
-use Rattle.hypothesis_index.specs.declared.relation.Relation.TheVariants.{Before as BeforeNumbers, Exclusive as ExclusiveNumbers, Apart as ApartNumbers, Pipe as PipeNumbers, Unshared as UnsharedNumbers}
 use Rattle.session_rules.specs.Hypotheses.{Hypothesis, Before, Exclusive, Apart, Pipe, Unshared, IsSame, exchanged_hypothesis}
-use Rattle.book_laws.proofs.ListLemmas.{once, one_item}
+use Rattle.trace_types.proofs.ElementLemmas.{one_item, one_place}
 
 -- the pair is this one, in one order or the other
 abbrev IsSamePair : {X : Type 0} → X → X → X → X → Type 0
@@ -59,7 +58,7 @@ module _ {X : Type 0} (xs : List X) where
 
   module _ (differ : AllPairs (λ x y. x ≢ y) xs) where
     one_places : (k l m n : ℕ) (a b : X) → AreAt xs k l a b → AreAt xs m n a b → (k ≡ m) × (l ≡ n)
-    one_places k l m n a b h i = (once xs differ k m a h.first i.first, once xs differ l n b h.second i.second)
+    one_places k l m n a b h i = (one_place xs differ k m a h.first i.first, one_place xs differ l n b h.second i.second)
 
     either_places : (k l m n : ℕ) (a b : X) → AreEither xs k l a b → AreEither xs m n a b → (k ≡ m) × (l ≡ n)
     either_places k l m n a b h i =
@@ -68,10 +67,10 @@ module _ {X : Type 0} (xs : List X) where
         elim h.either [
           | inl e ↦ elim i.either [
             | inl f ↦ one_places k l m n a b e f
-            | inr f ↦ let s = once xs differ k n a e.first f.second in let t = once xs differ l m b e.second f.first in absurd (omega (arith, low, less, s, t))
+            | inr f ↦ let s = one_place xs differ k n a e.first f.second in let t = one_place xs differ l m b e.second f.first in absurd (omega (arith, low, less, s, t))
           ]
           | inr e ↦ elim i.either [
-            | inl f ↦ let s = once xs differ k n b e.first f.second in let t = once xs differ l m a e.second f.first in absurd (omega (arith, low, less, s, t))
+            | inl f ↦ let s = one_place xs differ k n b e.first f.second in let t = one_place xs differ l m a e.second f.first in absurd (omega (arith, low, less, s, t))
             | inr f ↦ one_places k l m n b a e f
           ]
         ]

@@ -1,17 +1,15 @@
 -- The laws, from what books and lists of kept traces do alike.
-use Rattle.std.proofs.Common.{◌≡◌, ℕ, ◌+◌, ◌<◌, Bool, not, ◌==◌, nat_lt, nat_le, nat_eq, if◌then◌else◌, List, [], ◌∷◌, length, map, filter, refl, sym, ap, ◌∙◌, subst, arith}
+use Rattle.std.proofs.Common.{◌≡◌, not, ◌==◌, nat_lt, nat_le, nat_eq, if◌then◌else◌, List, [], ◌∷◌, length, filter, refl, sym, ap, ◌∙◌}
 use Rattle.std.proofs.lemmas.List.{length-map}
-use Rattle.std.specs.List.{AllZip}
 use Rattle.trace_types.specs.declared.named_trace.NamedTrace.{NamedTrace}
 use Rattle.trace_types.specs.Firsts.{firsts_of}
-use Rattle.day_partitions.specs.Books.{BookState, IsBook, KeptDay, all_traces, traces_kept_on}
+use Rattle.day_partitions.specs.Books.{BookState, IsBook, KeptDay, all_traces}
 use Rattle.day_partitions.specs.Books as books
-use Rattle.day_partitions.specs.Batches.{with_all, new_days}
-use Rattle.day_partitions.specs.declared.dated_sheet.DatedSheet.{DatedSheet}
+use Rattle.day_partitions.specs.Batches.{with_all}
 use Rattle.segment_names.specs.Known.{Known}
-use Rattle.session_rules.specs.KeptTraces.{Kept, day_of, days_of, newest, taken_in, traces_on, with_taken, without_day}
+use Rattle.session_rules.specs.KeptTraces.{Kept, day_of, days_of, taken_in, traces_on, with_taken}
 use Rattle.book_laws.specs.Shown.{AreShown, IsShown}
-use Rattle.book_laws.specs.BookLaws.{AreSheetsOf, DropShows, NewestShow, SheetsShow, DaysAreCounted}
+use Rattle.book_laws.specs.BookLaws.{DropShows, NewestShow, SheetsShow, DaysAreCounted}
 use Rattle.book_laws.proofs.BookLemmas.{above, all_newest, all_of_day, all_without, book_days, days_are, days_in, is_new, named_day}
 use Rattle.book_laws.proofs.SheetLemmas.{are_of_days, count_days, with_all_days, with_sheets}
 use Rattle.book_laws.proofs.TakenLemmas.{put_all, put_in, zip_put_all}

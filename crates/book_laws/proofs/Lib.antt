@@ -1,6 +1,6 @@
-mod BookLemmas
+pub mod BookLemmas
 mod FoundLemmas
-mod GraphLemmas
+pub mod GraphLemmas
 mod GrownLemmas
 mod HypothesisLemmas
 mod LawLemmas
@@ -9,7 +9,7 @@ mod NameLemmas
 mod PastLemmas
 mod RefutedLemmas
 mod ShareLemmas
-mod SheetLemmas
+pub mod SheetLemmas
 mod TakenLemmas
 mod WatchLawLemmas
 mod ZipLemmas

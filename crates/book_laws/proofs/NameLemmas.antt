@@ -1,17 +1,12 @@
 -- The elements of a list can be listed in rising order, each once.
-use Rattle.std.proofs.Common.{◌≡◌, ◌⊎◌, ◌↔◌, ℕ, zero, suc, ◌<◌, List, [], ◌∷◌, length, refl, sym, ap, ◌∙◌, subst, ⊎_elim, inl, inr, arith, Ordering}
+use Rattle.std.proofs.Common.{◌≡◌, ◌⊎◌, ◌↔◌, zero, suc, ◌<◌, List, [], ◌∷◌, length, refl, sym, ap, ◌∙◌, subst, ⊎_elim, inl, inr, arith, Ordering}
 use Rattle.std.specs.declared.cmp.Ordering.TheVariants.{Less, Equal, Greater}
 use Rattle.std.specs.List.{All, AllPairs, Contains}
 use Rattle.std.specs.Cmp.{IsTotalOrder}
-use Rattle.std.specs.Cmp.Lexicographic.{slice_cmp}
-use Rattle.std.specs.Ordering.{is_eq, nat_cmp, ordering_reverse, ordering_then}
+use Rattle.std.specs.Ordering.{ordering_reverse}
 use Rattle.std.proofs.lemmas.List.Elements.{All-cons, All-nil, Contains-get_or}
 use Rattle.std.proofs.lemmas.List.Kept.{AllPairs-cons}
-use Rattle.std.proofs.lemmas.Map.Text.{is_eq-slice_cmp}
-use Rattle.std.proofs.lemmas.Slice.Eq.{bytes_eq-Decides}
 use Rattle.trace_types.specs.Listing.{ListsExactly}
-use Rattle.trace_types.specs.NameOrder.{name_cmp}
-use Rattle.trace_types.specs.Segments.{SegmentName}
 
 module _ {X : Type 0} where
   Contains-nil : (x : X) → Contains [] x → ⊥
@@ -106,20 +101,3 @@ module _ {X : Type 0} (cmp : X → X → Ordering) (total : IsTotalOrder cmp) (e
   pub listed : (xs : List X) → (ys : List X) × ListsExactly cmp (Contains xs) ys
   listed [] = ([], record { rising = pairs_nil (λ u v. cmp u v ≡ Less); exactly = λ z. (λ c. c, λ c. c) })
   listed (x ∷ xs) = let h = listed xs in list_more x xs h.0 h.1
-
-text_exact : (xs ys : List ℕ) → slice_cmp nat_cmp xs ys ≡ Equal → xs ≡ ys
-text_exact xs ys e = (bytes_eq-Decides xs ys).0 (sym (is_eq-slice_cmp xs ys) ∙ ap is_eq e)
-
-both_equal : (o p : Ordering) → ordering_then o p ≡ Equal → (o ≡ Equal) × (p ≡ Equal)
-both_equal Less p e = cc
-both_equal Equal p e = (refl, e)
-both_equal Greater p e = cc
-
-pub name_exact : (a b : SegmentName) → name_cmp a b ≡ Equal → a ≡ b
-name_exact a b e =
-    let t = both_equal (slice_cmp nat_cmp a.0 b.0) (ordering_then (slice_cmp nat_cmp a.1 b.1) (slice_cmp nat_cmp a.2 b.2)) e in
-    let u = both_equal (slice_cmp nat_cmp a.1 b.1) (slice_cmp nat_cmp a.2 b.2) t.1 in
-    let ts : a.0 ≡ b.0 = text_exact a.0 b.0 t.0 in
-    let ss : a.1 ≡ b.1 = text_exact a.1 b.1 u.0 in
-    let es : a.2 ≡ b.2 = text_exact a.2 b.2 u.1 in
-    λ k. (ts k, ss k, es k)

@@ -11,16 +11,15 @@ use Rattle.trace_types.specs.Segments.{SegmentName}
 use Rattle.hypothesis_index.specs.Places.{IsRelation}
 use Rattle.hypothesis_index.specs.Refuting as number
 use Rattle.hypothesis_index.specs.declared.relation.Relation.{Relation}
-use Rattle.hypothesis_index.specs.declared.relation.Relation.TheVariants.{Before as BeforeNumbers, Exclusive as ExclusiveNumbers, Apart as ApartNumbers, Pipe as PipeNumbers, Unshared as UnsharedNumbers}
 use Rattle.segment_names.specs.Known.{Known}
 use Rattle.segment_names.specs.Limits.{IsKept}
 use Rattle.session_rules.specs.Hypotheses.{Hypothesis, Before, Exclusive, Apart, Pipe, Unshared}
 use Rattle.session_rules.specs.Hypotheses as text
 use Rattle.session_rules.specs.KeptTraces.{Kept, by_kept}
+use Rattle.trace_types.proofs.ElementLemmas.{one_item, one_place}
 use Rattle.book_laws.specs.Shown.{IsShown}
 use Rattle.book_laws.proofs.FoundLemmas.{HasName, HasTask, both_named, name_back, name_to, pipe_tasked, task_back, task_to, unshared_tasked}
 use Rattle.book_laws.proofs.HypothesisLemmas.{AreEither, Stands, before, exclusive, apart, pipe, unshared, either_below, pick_pair}
-use Rattle.book_laws.proofs.ListLemmas.{once, one_item}
 
 -- what the laws say of a catalogue's numbers and of traces under them
 pub record HasLaws (known : Known) : Type 0 where
@@ -151,7 +150,7 @@ module _ (known : Known) (kept : IsKept known) (laws : HasLaws known) (trace : N
       let b = name_text known laws trace k shown n f.1 in (
         Before a.0 b.0,
         record { stands = before (record { first = a.2; second = b.2 }); relation = is },
-        ((λ e. is.0 (once known.names kept.names_differ m n b.0 (rw e at a.2) b.2)), ((alike known laws trace k shown).before m n a.0 b.0 a.1 b.1).0 h),
+        ((λ e. is.0 (one_place known.names kept.names_differ m n b.0 (rw e at a.2) b.2)), ((alike known laws trace k shown).before m n a.0 b.0 a.1 b.1).0 h),
       )
   to_text (ExclusiveNumbers m n) is h =
       let f = both_named by_number trace m n (λ s t. StartsEarly by_number trace s t × StartsEarly by_number trace t s) h in
@@ -159,7 +158,7 @@ module _ (known : Known) (kept : IsKept known) (laws : HasLaws known) (trace : N
       let b = name_text known laws trace k shown n f.1 in (
         Exclusive a.0 b.0,
         record { stands = exclusive (record { order = is.0; either = inl (record { first = a.2; second = b.2 }) }); relation = is },
-        ((λ e. lower m n is.0 (once known.names kept.names_differ m n b.0 (rw e at a.2) b.2)), ((alike known laws trace k shown).exclusive m n a.0 b.0 a.1 b.1).0 h),
+        ((λ e. lower m n is.0 (one_place known.names kept.names_differ m n b.0 (rw e at a.2) b.2)), ((alike known laws trace k shown).exclusive m n a.0 b.0 a.1 b.1).0 h),
       )
   to_text (ApartNumbers m n) is h =
       let f = both_named by_number trace m n (λ s t. Unit {0}) h in
@@ -167,7 +166,7 @@ module _ (known : Known) (kept : IsKept known) (laws : HasLaws known) (trace : N
       let b = name_text known laws trace k shown n f.1 in (
         Apart a.0 b.0,
         record { stands = apart (record { order = is.0; either = inl (record { first = a.2; second = b.2 }) }); relation = is },
-        ((λ e. lower m n is.0 (once known.names kept.names_differ m n b.0 (rw e at a.2) b.2)), ((alike known laws trace k shown).apart m n a.0 b.0 a.1 b.1).0 h),
+        ((λ e. lower m n is.0 (one_place known.names kept.names_differ m n b.0 (rw e at a.2) b.2)), ((alike known laws trace k shown).apart m n a.0 b.0 a.1 b.1).0 h),
       )
   to_text (PipeNumbers m n) is h =
       let f = pipe_tasked by_number trace m n h in
@@ -175,7 +174,7 @@ module _ (known : Known) (kept : IsKept known) (laws : HasLaws known) (trace : N
       let b = task_text known laws trace k shown n f.1 in (
         Pipe a.0 b.0,
         record { stands = pipe (record { first = a.2; second = b.2 }); relation = is },
-        ((λ e. is.0 (once known.tasks kept.tasks_differ m n b.0 (rw e at a.2) b.2)), ((alike known laws trace k shown).pipe m n a.0 b.0 a.1 b.1).0 h),
+        ((λ e. is.0 (one_place known.tasks kept.tasks_differ m n b.0 (rw e at a.2) b.2)), ((alike known laws trace k shown).pipe m n a.0 b.0 a.1 b.1).0 h),
       )
   to_text (UnsharedNumbers m n) is h =
       let f = unshared_tasked by_number trace m n h in
@@ -183,5 +182,5 @@ module _ (known : Known) (kept : IsKept known) (laws : HasLaws known) (trace : N
       let b = task_text known laws trace k shown n f.1 in (
         Unshared a.0 b.0,
         record { stands = unshared (record { order = is.0; either = inl (record { first = a.2; second = b.2 }) }); relation = is },
-        ((λ e. lower m n is.0 (once known.tasks kept.tasks_differ m n b.0 (rw e at a.2) b.2)), ((alike known laws trace k shown).unshared m n a.0 b.0 a.1 b.1).0 h),
+        ((λ e. lower m n is.0 (one_place known.tasks kept.tasks_differ m n b.0 (rw e at a.2) b.2)), ((alike known laws trace k shown).unshared m n a.0 b.0 a.1 b.1).0 h),
       )

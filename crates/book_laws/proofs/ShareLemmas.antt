@@ -1,16 +1,14 @@
 -- Shares by halving of two lists whose items stand in a relation place by place.
 use Rattle.std.proofs.Common.{◌≡◌, ℕ, zero, suc, ◌+◌, ◌-◌, ◌/◌, ◌<◌, ◌≤◌, inl, inr, Bool, true, false, List, [], ◌∷◌, ◌++◌, length, take, drop, map, refl, ap, ◌∙◌}
-use Rattle.std.proofs.lemmas.Bool.{cases_lt, le-ltb, lt-ltb}
+use Rattle.std.proofs.lemmas.Bool.{cases_lt, le-ltb}
 use Rattle.std.specs.List.{AllZip}
 use Rattle.trace_rules.specs.Halving.{first_part, halving, share_of, shares_of}
 use Rattle.trace_rules.specs.WatchMarks.{watch_counts, watch_marks}
 use Rattle.trace_types.specs.declared.named_trace.NamedTrace.{NamedTrace}
 use Rattle.session_rules.specs.KeptTraces.{Kept}
-use Rattle.book_laws.proofs.ListLemmas.{zip_append, zip_drop, zip_length, zip_or, zip_take}
-
-no_rounds : {T : Type 0} (workers : ℕ) (xs : List T) → halving zero workers xs ≡ xs ∷ []
-unfolding halving
-no_rounds workers xs = refl
+use Rattle.trace_types.proofs.ZipLemmas.{zip_length}
+use Rattle.trace_rules.proofs.HalvingLemmas.{no_rounds, halving_more}
+use Rattle.book_laws.proofs.ListLemmas.{zip_append, zip_drop, zip_or, zip_take}
 
 halving_one : {T : Type 0} (rounds workers : ℕ) (xs : List T) → workers ≤ 1 → halving (suc rounds) workers xs ≡ xs ∷ []
 unfolding halving
@@ -18,14 +16,6 @@ halving_one {T} rounds workers xs h = ap (λ (b : Bool). elim b as (λ _. List (
   | true ↦ halving rounds (workers / 2) (take (first_part (length xs) workers) xs) ++ halving rounds (workers - workers / 2) (drop (first_part (length xs) workers) xs)
   | false ↦ xs ∷ []
 ]) (le-ltb 1 workers h)
-
-halving_more : {T : Type 0} (rounds workers : ℕ) (xs : List T) → 1 < workers
-    → halving (suc rounds) workers xs ≡ halving rounds (workers / 2) (take (first_part (length xs) workers) xs) ++ halving rounds (workers - workers / 2) (drop (first_part (length xs) workers) xs)
-unfolding halving
-halving_more {T} rounds workers xs h = ap (λ (b : Bool). elim b as (λ _. List (List T)) [
-  | true ↦ halving rounds (workers / 2) (take (first_part (length xs) workers) xs) ++ halving rounds (workers - workers / 2) (drop (first_part (length xs) workers) xs)
-  | false ↦ xs ∷ []
-]) (lt-ltb 1 workers h)
 
 -- the two halves of so many items
 halving_at : {T : Type 0} (rounds workers n : ℕ) (xs : List T) → 1 < workers → length xs ≡ n

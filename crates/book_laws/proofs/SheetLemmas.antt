@@ -1,17 +1,18 @@
 -- The sheets of several days that are added to a book at once.
-use Rattle.std.proofs.Common.{◌≡◌, ◌≢◌, ℕ, zero, suc, ◌+◌, ◌<◌, ◌≤◌, ◌⊎◌, inl, inr, Bool, true, false, not, ◌==◌, ◌||◌, if◌then◌else◌, List, [], ◌∷◌, ◌++◌, length, map, filter, All, AllPairs, Contains, refl, sym, ap, ◌∙◌, subst, append_assoc, arith}
-use Rattle.std.proofs.lemmas.Bool.{cases_eq, cases_lt, cases_order, cases_Bool, eq-eqb, ne_eqb, cond-true, cond-false, not_from_true, not_from_false}
+use Rattle.std.proofs.Common.{◌≡◌, ◌≢◌, ℕ, zero, suc, ◌+◌, ◌<◌, ◌⊎◌, inl, inr, Bool, true, false, not, ◌==◌, ◌||◌, if◌then◌else◌, List, [], ◌∷◌, ◌++◌, length, map, filter, All, AllPairs, Contains, refl, sym, ap, ◌∙◌, subst, arith}
+use Rattle.std.proofs.lemmas.Bool.{cases_eq, eq-eqb, ne_eqb}
 use Rattle.std.proofs.lemmas.List.{append-nil}
 use Rattle.std.proofs.lemmas.List.Sums.{sum_by-cons}
-use Rattle.std.proofs.lemmas.List.Elements.{All-nil, All-cons, All-head, All-tail, All-weaker, All-filter, filter-append, Contains-append_right}
-use Rattle.std.specs.List.{flat_map, list_any, count_by}
+use Rattle.std.proofs.lemmas.List.Elements.{All-nil, All-cons, All-head, All-tail, All-weaker, filter-append}
+use Rattle.std.specs.List.{flat_map}
 use Rattle.trace_types.specs.declared.named_trace.NamedTrace.{NamedTrace}
-use Rattle.day_partitions.specs.Books.{BookState, KeptDay, kept_day, all_traces, has_day, AreOfDay, IsBook, with_day_traces, with_added}
+use Rattle.day_partitions.specs.Books.{BookState, KeptDay, all_traces, has_day, AreOfDay, with_day_traces, with_added}
 use Rattle.day_partitions.specs.Batches.{with_all, new_days}
 use Rattle.day_partitions.specs.declared.dated_sheet.DatedSheet.{DatedSheet}
+use Rattle.day_partitions.proofs.DayLemmas.{with_below, with_same, with_above, has_above}
 use Rattle.book_laws.specs.Shown.{named_on}
 use Rattle.book_laws.specs.BookLaws.{AreSheetsOf}
-use Rattle.book_laws.proofs.BookLemmas.{AreDays, named_day, with_puts, with_days, with_below, with_same, with_above, with_cases, days_tail, all_rise}
+use Rattle.book_laws.proofs.BookLemmas.{AreDays, named_day, with_puts, with_days, with_cases, days_tail, all_rise}
 use Rattle.book_laws.proofs.ZipLemmas.{filter_yes, filter_no, filter_all, filter_none}
 use Rattle.book_laws.proofs.TakenLemmas.{put_all, put_in, has_key, filter_put_all, one_rising, put_all_rises}
 
@@ -48,7 +49,7 @@ with_all_puts b (s ∷ ss) h g =
     ∙ sym (put_append s.sheet.traces (all_traces b.days) (traces_in ss))
 
 -- ---- sheets of some traces have of each day what these have
-named_of : (d : ℕ) (named : List NamedTrace) → AreOfDay d (named_on d named)
+pub named_of : (d : ℕ) (named : List NamedTrace) → AreOfDay d (named_on d named)
 named_of d [] = All-nil (λ (t : NamedTrace). t.day ≡ d)
 named_of d (t ∷ ts) = elim (cases_eq t.day d) [
   | inl is ↦ rw (filter_yes (λ (u : NamedTrace). u.day == d) t ts (eq-eqb t.day d is)) (All-cons (λ (u : NamedTrace). u.day ≡ d) t (named_on d ts) is (named_of d ts))
@@ -137,12 +138,6 @@ has_next e d ts (k ∷ ks) other =
 abbrev one_if : Bool → ℕ
 one_if b = if b then 0 else 1
 
-has_later : (d : ℕ) (ks : List KeptDay) → All (λ (k : KeptDay). d < k.day) ks → has_day ks d ≡ false
-has_later d [] h = refl
-has_later d (k ∷ ks) h =
-    let l = All-head (λ (j : KeptDay). d < j.day) k ks h in
-    ap (λ b. b || has_day ks d) (ne_eqb k.day d (λ e. omega (arith, l, e))) ∙ has_later d ks (All-tail (λ (j : KeptDay). d < j.day) k ks h)
-
 day_firsts : (k : KeptDay) (ks : List KeptDay) → AreDays (k ∷ ks) → All (λ (j : KeptDay). k.day < j.day) ks
 day_firsts k ks h i d l = h.rising 0 (suc i) d (omega arith) (omega arith)
 
@@ -164,7 +159,7 @@ length_with d ts (k ∷ ks) h =
           e ∙ (let z : suc (length ks) ≡ suc (length ks) + 0 = omega arith in z) ∙ ap (λ b. suc (length ks) + one_if b) (sym is)
       | inr (inr high) ↦
           let e = ap length (with_above d ts k ks high) in
-          let no : has_day (k ∷ ks) d ≡ false = has_later d (k ∷ ks) (All-cons (λ (j : KeptDay). d < j.day) k ks high (All-weaker (λ (j : KeptDay). k.day < j.day) (λ (j : KeptDay). d < j.day) (λ j l. omega (arith, high, l)) ks (day_firsts k ks h))) in
+          let no : has_day (k ∷ ks) d ≡ false = has_above d (k ∷ ks) (All-cons (λ (j : KeptDay). d < j.day) k ks high (All-weaker (λ (j : KeptDay). k.day < j.day) (λ (j : KeptDay). d < j.day) (λ j l. omega (arith, high, l)) ks (day_firsts k ks h))) in
           e ∙ (let z : suc (suc (length ks)) ≡ suc (length ks) + 1 = omega arith in z) ∙ ap (λ b. suc (length ks) + one_if b) (sym no)
     ]
 

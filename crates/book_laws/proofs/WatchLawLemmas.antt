@@ -18,9 +18,11 @@ use Rattle.session_rules.specs.Hypotheses.{Hypothesis, IsSame}
 use Rattle.session_rules.specs.Hypotheses as text
 use Rattle.session_rules.specs.KeptTraces.{Kept, by_kept}
 use Rattle.session_rules.specs.WatchLines as session
+use Rattle.trace_types.proofs.MatchLemmas.{partner_at}
+use Rattle.trace_types.proofs.ZipLemmas.{zip_length}
 use Rattle.book_laws.specs.Shown.{AreShown, IsShown}
 use Rattle.book_laws.proofs.HypothesisLemmas.{hypotheses_differ, relations_differ}
-use Rattle.book_laws.proofs.ListLemmas.{any_at, at_any, partner, zip_flip, zip_length, zip_pairs}
+use Rattle.book_laws.proofs.ListLemmas.{any_at, at_any, zip_flip, zip_pairs}
 use Rattle.book_laws.proofs.RefutedLemmas.{HasLaws, IsTold, to_number, to_text}
 use Rattle.book_laws.proofs.ShareLemmas.{same_marks, zip_firsts, zip_shares}
 
@@ -39,14 +41,14 @@ module _ (known : Known) (kept : IsKept known) (laws : HasLaws known) (ts : List
   number_of : (h : TextHypothesis) → IsRefutedText ks h → (r : Relation) × IsTold known h r × IsRefutedNumber ts r
   number_of h some =
       let k = at_any (text.RefutesHypothesis by_kept h) ks some in
-      let t = partner (λ (v : Kept) (w : NamedTrace). IsShown known w v) ks ts (zip_flip (IsShown known) ts ks shown) k.0 k.1 k.2 in
+      let t = partner_at (λ (v : Kept) (w : NamedTrace). IsShown known w v) ks ts (zip_flip (IsShown known) ts ks shown) k.0 k.1 k.2 in
       let r = to_number known kept laws t.0 k.1 t.2 h k.3 in
       (r.0, r.1, (r.1.relation, any_at (number.Refutes r.0) ts k.0 t.0 t.1 r.2))
 
   text_of : (r : Relation) → IsRefutedNumber ts r → (h : TextHypothesis) × IsTold known h r × IsRefutedText ks h
   text_of r some =
       let t = at_any (number.Refutes r) ts some.1 in
-      let k = partner (IsShown known) ts ks shown t.0 t.1 t.2 in
+      let k = partner_at (IsShown known) ts ks shown t.0 t.1 t.2 in
       let h = to_text known kept laws t.1 k.0 k.2 r some.0 t.3 in
       (h.0, h.1, any_at (text.RefutesHypothesis by_kept h.0) ks t.0 k.0 k.1 h.2)
 

@@ -1,11 +1,11 @@
 -- A printed row is read as the claim of its relation.
-use Rattle.std.proofs.Common.{◌≡◌, ◌⊎◌, ℕ, zero, suc, ◌^◌, ◌<◌, ◌==◌, ◌&&◌, ◌||◌, not, List, [], ◌∷◌, ◌++◌, Bool, true, false, Some, None, length, decimal, refl, ap, ◌∙◌, subst, inl, inr, codes}
-use Rattle.std.specs.Prelude.{All, nat_lt, slice_get, option_map, is_some, if◌then◌else◌}
+use Rattle.std.proofs.Common.{◌≡◌, ◌⊎◌, ℕ, ◌^◌, ◌<◌, ◌==◌, ◌&&◌, ◌||◌, not, List, [], ◌∷◌, ◌++◌, Bool, true, false, Some, None, length, decimal, refl, ap, ◌∙◌, subst, inl, inr, codes}
+use Rattle.std.specs.Prelude.{nat_lt, option_map, is_some, if◌then◌else◌}
 use Rattle.std.specs.List.{join_with_byte, list_any}
 use Rattle.std.specs.Option.{option_zip}
 use Rattle.std.specs.Str.{is_utf8}
 use Rattle.std.proofs.lemmas.Bool.{or_parts}
-use Rattle.std.proofs.lemmas.List.Elements.{All-contains, All-head, All-tail}
+use Rattle.std.proofs.lemmas.List.Elements.{All-contains}
 use Rattle.certificates.specs.Claims.{are_header_fields, claim_of_fields, claim_said, is_header}
 use Rattle.certificates.specs.Texts.{name_of_texts}
 use Rattle.certificates.specs.declared.claim.Claim.{Claim}
@@ -22,8 +22,10 @@ use Rattle.trace_types.specs.Refuting.{HasBoth}
 use Rattle.trace_types.specs.Segments as segments
 use Rattle.trace_types.specs.Segments.{SegmentName}
 use Rattle.trace_types.specs.declared.segment.Segment.{Segment}
+use Rattle.trace_types.proofs.ElementLemmas.{all_there}
+use Rattle.step_core.proofs.PlainLemmas.{of_number}
 use Rattle.certificate_laws.specs.Printable.{HasPrintableName, IsPrintable, IsPrintableText}
-use Rattle.certificate_laws.proofs.DecimalLemmas.{decimal_clean, number_back}
+use Rattle.certificate_laws.proofs.DecimalLemmas.{decimal_clean}
 use Rattle.certificate_laws.proofs.RowLemmas.{AreClean, IsClean, fields_back}
 
 -- ---- printable texts
@@ -51,11 +53,6 @@ ArePrintable (Pipe t u) = IsPrintableText t × IsPrintableText u
 
 -- ---- the relations that a printable trace refutes
 
-at_get : {X : Type 0} (P : X → Type 0) (xs : List X) (k : ℕ) (x : X) → All P xs → slice_get xs k ≡ Some x → P x
-at_get P [] k x h e = absurd (cc e)
-at_get P (y ∷ ys) zero x h e = let same : y ≡ x = cc in subst P same (All-head P y ys h)
-at_get P (y ∷ ys) (suc k) x h e = at_get P ys k x (All-tail P y ys h) e
-
 name_printable : (k : Kept) → IsPrintable k → (s : Segment) (a : SegmentName) → HasPrintableName s → segments.name_of s ≡ a → IsPrintableName a
 name_printable k p s a h e = subst IsPrintableName e (record { task = h.task; start = h.start; end = h.end })
 
@@ -66,7 +63,7 @@ both_printable k p a b R h = (
 )
 
 task_printable : (k : Kept) → IsPrintable k → (t e : List ℕ) (i : ℕ) (s : Segment) → HandlesAt by_kept k t e i s → IsPrintableText t
-task_printable k p t e i s h = subst IsPrintableText h.task (at_get HasPrintableName k.trace.segments i s p.names h.segment).task
+task_printable k p t e i s h = subst IsPrintableText h.task (all_there HasPrintableName k.trace.segments i s p.names h.segment).task
 
 tasks_printable : (k : Kept) → IsPrintable k → (t u : List ℕ) → TakesUnfinished by_kept t u k ⊎ TakesOutOfOrder by_kept t u k → IsPrintableText t × IsPrintableText u
 tasks_printable k p t u (inl h) = (
@@ -126,9 +123,9 @@ name_back a p =
 
 fields_said : (line : ℕ) (matter : Matter) (k : Kept) (index : ℕ) → ArePrintable matter → IsPrintable k → index < 2 ^ 32
     → claim_of_fields line (row_fields matter k index) ≡ Some (claim_for line matter k index)
-fields_said line (Before a b) k index h p few = rw (name_back a h.0, name_back b h.1, number_back (day_of k) p.day, number_back index few, p.request) refl
-fields_said line (Exclusive a b) k index h p few = rw (name_back a h.0, name_back b h.1, number_back (day_of k) p.day, number_back index few, p.request) refl
-fields_said line (Pipe t u) k index h p few = rw (h.0, h.1, number_back (day_of k) p.day, number_back index few, p.request) refl
+fields_said line (Before a b) k index h p few = rw (name_back a h.0, name_back b h.1, of_number (day_of k) p.day, of_number index few, p.request) refl
+fields_said line (Exclusive a b) k index h p few = rw (name_back a h.0, name_back b h.1, of_number (day_of k) p.day, of_number index few, p.request) refl
+fields_said line (Pipe t u) k index h p few = rw (h.0, h.1, of_number (day_of k) p.day, of_number index few, p.request) refl
 
 -- a row makes the claim that its relation is refuted by its trace
 pub row_said : (line : ℕ) (matter : Matter) (k : Kept) (index : ℕ) → ArePrintable matter → IsPrintable k → index < 2 ^ 32
@@ -147,8 +144,8 @@ header_clean traces refuted few less = (refl, (decimal_clean traces few, (decima
 
 pub header_read : (traces refuted : ℕ) → traces < 2 ^ 32 → refuted < 2 ^ 32 → is_header (join_with_byte 9 (header_fields traces refuted)) ≡ true
 header_read traces refuted few less =
-    let first = number_back traces few in
-    let second = number_back refuted less in
+    let first = of_number traces few in
+    let second = of_number refuted less in
     ap are_header_fields (fields_back (codes "why") (figure (codes "traces") traces ∷ figure (codes "refuted") refuted ∷ []) (header_clean traces refuted few less))
     ∙ (λ i. is_some (first i) && is_some (second i))
 

@@ -24,6 +24,7 @@ use Rattle.serde_json.specs.Data.{Data}
 use Rattle.serde_json.specs.Find.{as_object}
 use Rattle.trace_types.specs.Times.{latest_time}
 use Rattle.trace_types.specs.declared.event.Event as events
+use Rattle.trace_types.proofs.TruthLemmas.{four_fail}
 use Rattle.certificate_laws.specs.Printable.{IsPrintableText}
 use Rattle.certificate_laws.proofs.JsonLemmas.{IfThere, texts_utf8}
 
@@ -66,14 +67,6 @@ within unit most (Some t) le out = le_trans (mul-le-mul_left unit (ltb-false mos
 bounded_by : (nanos : Bool) (d : Data) → is_given (codes "nanos") d ≡ nanos → is_out_of_range d ≡ false → nanoseconds_in (time_unit_of d) * unwrap_or (number_at (time_name d) d) 0 ≤ latest_time
 bounded_by true d e out = rw e (within 1 4102444800000000000 (number_at (codes "nanos") d) (omega arith) (rw e at out))
 bounded_by false d e out = rw e (within 1000 4102444800000000 (number_at (codes "time") d) (omega arith) (rw e at out))
-
--- each of four fails a test
-four_fail : (a b c d : Bool) → (a || (b || (c || (d || false)))) ≡ false → (a ≡ false) × (b ≡ false) × (c ≡ false) × (d ≡ false)
-four_fail true b c d h = absurd (cc h)
-four_fail false true c d h = absurd (cc h)
-four_fail false false true d h = absurd (cc h)
-four_fail false false false true h = absurd (cc h)
-four_fail false false false false h = (refl, refl, refl, refl)
 
 -- so do the first four of six
 six_fail : (a b c d e f : Bool) → (a || (b || (c || (d || (e || (f || false)))))) ≡ false → (a ≡ false) × (b ≡ false) × (c ≡ false) × (d ≡ false)
@@ -130,7 +123,7 @@ numbered_good line = result_said line.0 (line_result line.0 line.1) (line_said l
 
 -- ---- all lines
 
-mapped : {X E : Type 0} (P : X → Type 0) (x : X) (rest : Result (List X) E) (xs : List X) → P x → ((ys : List X) → rest ≡ Ok ys → All P ys) → result_map_both (λ ys. x ∷ ys) (λ e. e) rest ≡ Ok xs → All P xs
+pub mapped : {X E : Type 0} (P : X → Type 0) (x : X) (rest : Result (List X) E) (xs : List X) → P x → ((ys : List X) → rest ≡ Ok ys → All P ys) → result_map_both (λ ys. x ∷ ys) (λ e. e) rest ≡ Ok xs → All P xs
 mapped P x (Err e) xs here more h = absurd (cc h)
 mapped P x (Ok ys) xs here more h = let same : x ∷ ys ≡ xs = cc in subst (All P) same (All-cons P x ys here (more ys refl))
 

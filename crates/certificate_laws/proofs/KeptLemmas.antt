@@ -15,11 +15,12 @@ use Rattle.session_rules.specs.declared.job.Job.{Job}
 use Rattle.session_rules.specs.declared.job.Job.TheVariants as jobs
 use Rattle.trace_types.specs.declared.event.Event.{Event}
 use Rattle.trace_types.specs.declared.trace.Trace.{Trace}
+use Rattle.trace_types.proofs.ShortLemmas.{filter-short}
 use Rattle.certificate_laws.specs.Printable.{IsPrintable}
 use Rattle.certificate_laws.specs.PrintableLaws.{IsControl, IsLastState}
 use Rattle.certificate_laws.proofs.EventLemmas.{IsGoodEvent, IsGoodLine, lines_good}
 use Rattle.certificate_laws.proofs.TakenLemmas.{all_taken, length-with_taken}
-use Rattle.certificate_laws.proofs.TraceLemmas.{IsPrintableTrace, no_more, valid_few, valid_printable}
+use Rattle.certificate_laws.proofs.TraceLemmas.{IsPrintableTrace, valid_few, valid_printable}
 
 -- ---- jobs
 
@@ -48,7 +49,7 @@ stay n m kept now h e le = record { printable = subst (All IsPrintable) (sym e) 
 left_out : (n m : ℕ) (p : Kept → Bool) (kept now : List Kept) → AreKept n kept → now ≡ filter p kept → n ≤ m → AreKept m now
 left_out n m p kept now h e le = record {
   printable = subst (All IsPrintable) (sym e) (All-filter p IsPrintable kept h.printable);
-  few = omega (arith, ap (λ (ks : List Kept). length ks) e, no_more p kept, h.few);
+  few = omega (arith, ap (λ (ks : List Kept). length ks) e, filter-short p kept, h.few);
 }
 
 added : (n : ℕ) (workers : ℕ) (events : List Event) (s next : State) (parts : List Part) → AreKept n s.kept → All IsGoodEvent events → Adds workers events s parts next → AreKept (n + length events) next.kept

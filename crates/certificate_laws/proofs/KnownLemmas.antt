@@ -1,11 +1,10 @@
 -- What a session knows: few names and few tasks, and those of all kept traces.
-use Rattle.std.proofs.Common.{◌≡◌, ℕ, zero, suc, ◌+◌, ◌*◌, ◌<◌, ◌≤◌, ◌&&◌, not, List, [], ◌∷◌, ◌++◌, Bool, true, length, map, take, refl, sym, subst, inl, inr, arith, length-append}
+use Rattle.std.proofs.Common.{◌≡◌, ℕ, zero, suc, ◌+◌, ◌*◌, ◌<◌, ◌≤◌, not, List, [], ◌∷◌, ◌++◌, Bool, length, map, take, refl, sym, subst, inl, inr, arith, length-append}
 use Rattle.std.specs.Prelude.{All, Contains, filter, flat_map, nat_lt, slice_index_or}
 use Rattle.std.specs.Str.{bytes_eq}
 use Rattle.std.proofs.Math.Seq.{take-length}
-use Rattle.std.proofs.lemmas.Bool.{and_parts, cases_lt}
+use Rattle.std.proofs.lemmas.Bool.{cases_lt}
 use Rattle.std.proofs.lemmas.List.Elements.{All-contains_itself, All-filter, All-map, All-nil, All-weaker, Contains-append_left, Contains-append_right, Contains-get_or}
-use Rattle.std.proofs.lemmas.Slice.Eq.{bytes_eq-Decides}
 use Rattle.event_lines.specs.declared.command.Command.{Command}
 use Rattle.event_lines.specs.declared.command.Command.TheVariants as commands
 use Rattle.event_lines.specs.declared.line.Line.{Line}
@@ -18,14 +17,17 @@ use Rattle.session_rules.specs.Sessions.{Adds, Commands, Does, Leads, State, fir
 use Rattle.session_rules.specs.declared.job.Job.{Job}
 use Rattle.session_rules.specs.declared.job.Job.TheVariants as jobs
 use Rattle.session_rules.specs.declared.limit.Limit.TheVariants.{Names, Tasks}
-use Rattle.trace_types.specs.Segments.{SegmentName, name_of, task_of}
+use Rattle.trace_types.specs.Segments.{name_of, task_of}
 use Rattle.trace_types.specs.declared.event.Event.{Event}
 use Rattle.trace_types.specs.declared.segment.Segment.{Segment}
 use Rattle.trace_types.specs.declared.trace.Trace.{Trace}
+use Rattle.trace_types.proofs.ComparingLemmas.{text_means}
+use Rattle.segment_names.proofs.TextLemmas.{name_means}
+use Rattle.trace_types.proofs.ElementLemmas.{contains_map, Contains-flat_map}
+use Rattle.trace_types.proofs.ShortLemmas.{firsts-short}
 use Rattle.certificate_laws.specs.PrintableLaws.{IsLastState}
-use Rattle.certificate_laws.proofs.ListLemmas.{contains_firsts, contains_flat_map, contains_map}
+use Rattle.certificate_laws.proofs.ListLemmas.{contains_firsts}
 use Rattle.certificate_laws.proofs.TakenLemmas.{all_taken}
-use Rattle.certificate_laws.proofs.TraceLemmas.{firsts_few}
 
 -- ---- names and tasks that are known
 
@@ -38,23 +40,14 @@ pub record IsKnownSegment (known : Known) (s : Segment) : Type 0 where
 abbrev pub IsKnownTrace : Known → Kept → Type 0
 IsKnownTrace known k = All (IsKnownSegment known) k.trace.segments
 
-text_exact : (xs ys : List ℕ) → bytes_eq xs ys ≡ true → xs ≡ ys
-text_exact xs ys e = (bytes_eq-Decides xs ys).0 e
-
-name_exact : (a b : SegmentName) → same_name a b ≡ true → a ≡ b
-name_exact a b e =
-    let p = and_parts (bytes_eq a.0 b.0) (bytes_eq a.1 b.1 && bytes_eq a.2 b.2) e in
-    let q = and_parts (bytes_eq a.1 b.1) (bytes_eq a.2 b.2) p.1 in
-    λ i. (text_exact a.0 b.0 p.0 i, text_exact a.1 b.1 q.0 i, text_exact a.2 b.2 q.1 i)
-
 module _ (known : Known) (valid : List Trace) where
   segments_in : List Segment
   segments_in = flat_map (λ (t : Trace). t.segments) valid
 
   still_known : (s : Segment) → IsKnownSegment known s → IsKnownSegment (with_traces known valid) s
   still_known s h = record {
-    name = contains_firsts same_name name_exact _ (name_of s) (Contains-append_left known.names _ (name_of s) h.name);
-    task = contains_firsts bytes_eq text_exact _ (task_of s) (Contains-append_left known.tasks _ (task_of s) h.task);
+    name = contains_firsts same_name name_means _ (name_of s) (Contains-append_left known.names _ (name_of s) h.name);
+    task = contains_firsts bytes_eq text_means _ (task_of s) (Contains-append_left known.tasks _ (task_of s) h.task);
   }
 
   trace_still_known : (k : Kept) → IsKnownTrace known k → IsKnownTrace (with_traces known valid) k
@@ -62,10 +55,10 @@ module _ (known : Known) (valid : List Trace) where
 
   now_known : (t : Trace) (s : Segment) → Contains valid t → Contains t.segments s → IsKnownSegment (with_traces known valid) s
   now_known t s c d =
-      let there = contains_flat_map (λ (u : Trace). u.segments) valid t s c d in
+      let there = Contains-flat_map (λ (u : Trace). u.segments) valid t s c d in
       record {
-        name = contains_firsts same_name name_exact _ (name_of s) (Contains-append_right known.names _ (name_of s) (contains_map name_of _ s there));
-        task = contains_firsts bytes_eq text_exact _ (task_of s) (Contains-append_right known.tasks _ (task_of s) (contains_map task_of _ s there));
+        name = contains_firsts same_name name_means _ (name_of s) (Contains-append_right known.names _ (name_of s) (contains_map name_of _ s there));
+        task = contains_firsts bytes_eq text_means _ (task_of s) (Contains-append_right known.tasks _ (task_of s) (contains_map task_of _ s there));
       }
 
   graced_known : (grace : ℕ) → All (IsKnownTrace (with_traces known valid)) (map (kept_with grace) valid)
@@ -80,7 +73,7 @@ module _ (known : Known) (valid : List Trace) (fits : Fits known) where
   none_fits =
       let names : length known.names ≤ 512 = fits.0 in
       let tasks : length known.tasks ≤ 64 = fits.1 in
-      (omega (arith, firsts_few same_name (known.names ++ []), length-append known.names []), omega (arith, firsts_few bytes_eq (known.tasks ++ []), length-append known.tasks []))
+      (omega (arith, firsts-short same_name (known.names ++ []), length-append known.names []), omega (arith, firsts-short bytes_eq (known.tasks ++ []), length-append known.tasks []))
 
   module _ (names : (count : ℕ) → PassesLimit known valid (TooManyNames count) → ⊥) (tasks : (count : ℕ) → PassesLimit known valid (TooManyTasks count) → ⊥) where
     one_fits : (k : ℕ) → k < length valid → ((j : ℕ) → j ≤ k → Fits (with_traces known (take j valid))) → Fits (with_traces known (take (k + 1) valid))

@@ -5,24 +5,14 @@ use Rattle.std.specs.Prelude.{AllPairs, Contains, filter, flat_map}
 use Rattle.std.specs.Cmp.{IsTotalOrder}
 use Rattle.std.specs.Ordering.{eq_by_cmp, is_eq}
 use Rattle.std.proofs.lemmas.Cmp.{eq_by_cmp_equiv}
-use Rattle.std.proofs.lemmas.List.{get_or-map, length-map}
-use Rattle.std.proofs.lemmas.List.Elements.{Contains-append_left, Contains-append_right}
+use Rattle.std.proofs.lemmas.List.{length-map}
 use Rattle.std.proofs.lemmas.List.Folds.{Any-from_list_any, list_any-from_Any}
 use Rattle.std.proofs.lemmas.Map.Keys.{IsDistinct-from_apart}
 use Rattle.std.proofs.lemmas.Map.Made.{length-le_from_is_member}
 use Rattle.trace_types.specs.Firsts.{firsts_of}
+use Rattle.trace_types.proofs.ElementLemmas.{contains_map, Contains-flat_map}
 
 -- ---- what stands in a list
-
-pub contains_map : {X Y : Type 0} (f : X → Y) (xs : List X) (x : X) → Contains xs x → Contains (map f xs) (f x)
-contains_map f xs x c =
-    let within : c.0 < length xs = c.1 in
-    (c.0, omega (arith, length-map xs f), get_or-map f xs c.0 x (f x) within ∙ ap f c.2)
-
-pub contains_flat_map : {X Y : Type 0} (f : X → List Y) (xs : List X) (x : X) (y : Y) → Contains xs x → Contains (f x) y → Contains (flat_map f xs) y
-contains_flat_map f [] x y (k, within, is) h = absurd (omega arith)
-contains_flat_map {X} f (z ∷ xs) x y (zero, within, is) h = Contains-append_left (f z) (flat_map f xs) y (subst (λ (w : X). Contains (f w) y) (sym is) h)
-contains_flat_map f (z ∷ xs) x y (suc k, within, is) h = Contains-append_right (f z) (flat_map f xs) y (contains_flat_map f xs x y (k, omega arith, is) h)
 
 contains_later : {X : Type 0} (keeps : Bool) (y : X) (xs : List X) (x : X) → Contains xs x → Contains (cond keeps (y ∷ xs) xs) x
 contains_later true y xs x c = let within : c.0 < length xs = c.1 in (suc c.0, omega arith, c.2)
@@ -49,7 +39,7 @@ abbrev pub pairs_of : {X Y : Type 0} → List X → List Y → List (X × Y)
 pairs_of xs ys = flat_map (λ x. map (λ y. (x, y)) ys) xs
 
 pub contains_pair : {X Y : Type 0} (xs : List X) (ys : List Y) (x : X) (y : Y) → Contains xs x → Contains ys y → Contains (pairs_of xs ys) (x, y)
-contains_pair {X} {Y} xs ys x y c d = contains_flat_map (λ (a : X). map (λ (b : Y). (a, b)) ys) xs x (x, y) c (contains_map (λ (b : Y). (x, b)) ys y d)
+contains_pair {X} {Y} xs ys x y c d = Contains-flat_map (λ (a : X). map (λ (b : Y). (a, b)) ys) xs x (x, y) c (contains_map (λ (b : Y). (x, b)) ys y d)
 
 -- ---- how long a list is
 

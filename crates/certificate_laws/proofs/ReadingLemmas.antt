@@ -6,7 +6,7 @@ use Rattle.std.specs.Option.{option_map_or}
 use Rattle.std.specs.Result.{result_map_both}
 use Rattle.std.proofs.lemmas.Bool.{cond-true, eq-eqb}
 use Rattle.std.proofs.lemmas.List.Filters.{length-filter_both}
-use Rattle.std.proofs.lemmas.List.Elements.{All-cons, All-head, All-nil, All-tail, filter-append}
+use Rattle.std.proofs.lemmas.List.Elements.{All-cons, All-nil, filter-append}
 use Rattle.certificates.specs.Certificates.{certificate_of_lines, certificate_said, claims_of_lines, numbered_claim}
 use Rattle.certificates.specs.Claims.{claim_said, is_header}
 use Rattle.certificates.specs.declared.claim.Claim.{Claim}
@@ -18,6 +18,7 @@ use Rattle.session_rules.specs.KeptTraces.{Kept, day_of, is_of_day, traces_on}
 use Rattle.session_rules.specs.Parts.{IsPart, RefutedOf}
 use Rattle.session_rules.specs.Refutations.{IsFirstToRefute, IsClaimShown, Refutations, RefutesMatter, matters_of}
 use Rattle.text_rows.specs.TextsOfParts.{AreTexts}
+use Rattle.trace_types.proofs.ElementLemmas.{all_middle}
 use Rattle.certificate_laws.specs.Printable.{IsPrintable}
 use Rattle.certificate_laws.specs.ReadingLaws.{AreClaimsOf, IsCertificate, IsClaimOf}
 use Rattle.certificate_laws.proofs.ClaimLemmas.{ArePrintable, claim_for, header_clean, header_fields, header_not_blank, header_read, matter_printable, row_clean, row_fields, row_not_blank, row_said}
@@ -28,10 +29,6 @@ use Rattle.certificate_laws.proofs.RowLemmas.{row_cut}
 get_after : {X : Type 0} (xs ys : List X) (x : X) → slice_get (xs ++ x ∷ ys) (length xs) ≡ Some x
 get_after [] ys x = refl
 get_after (z ∷ xs) ys x = get_after xs ys x
-
-last_all : {X : Type 0} (P : X → Type 0) (xs ys : List X) (x : X) → All P (xs ++ x ∷ ys) → P x
-last_all P [] ys x h = All-head P x ys h
-last_all P (z ∷ xs) ys x h = last_all P xs ys x (All-tail P z (xs ++ x ∷ ys) h)
 
 module _ (kept : List Kept) (matter : Matter) (k : Kept) (index : ℕ) (first : IsFirstToRefute kept matter k index) where
   -- it is at its index among those of its day
@@ -53,7 +50,7 @@ module _ (kept : List Kept) (matter : Matter) (k : Kept) (index : ℕ) (first : 
 
   -- it is one of the traces
   holds_of : (P : Kept → Type 0) → All P kept → P k
-  holds_of P h = last_all P first.before first.after k (subst (All P) first.split h)
+  holds_of P h = all_middle P first.before first.after k (subst (All P) first.split h)
 
 claim_shown : (kept : List Kept) (line : ℕ × Matter) (claim : Claim) → IsClaimOf kept line claim → IsClaimShown kept claim
 claim_shown kept line claim c = record {

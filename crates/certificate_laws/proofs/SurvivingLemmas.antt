@@ -3,12 +3,9 @@ use Rattle.std.proofs.Common.{◌≡◌, ◌≢◌, ℕ, ◌<◌, List, length, 
 use Rattle.std.specs.declared.cmp.Ordering.TheVariants.{Less, Equal, Greater}
 use Rattle.std.specs.Prelude.{Contains, slice_index_or}
 use Rattle.std.specs.Cmp.{IsTotalOrder}
-use Rattle.std.specs.Cmp.Lexicographic.{slice_cmp}
-use Rattle.std.specs.Ordering.{is_eq, nat_cmp, ordering_reverse, ordering_then}
+use Rattle.std.specs.Ordering.{ordering_reverse}
 use Rattle.std.proofs.lemmas.List.{get_or_default}
 use Rattle.std.proofs.lemmas.List.Elements.{Contains-append_left, Contains-append_right}
-use Rattle.std.proofs.lemmas.Map.Text.{is_eq-slice_cmp}
-use Rattle.std.proofs.lemmas.Slice.Eq.{bytes_eq-Decides}
 use Rattle.certificates.specs.declared.matter.Matter.{Matter}
 use Rattle.certificates.specs.declared.matter.Matter.TheVariants.{Before, Exclusive, Pipe}
 use Rattle.session_rules.specs.KeptTraces.{Kept}
@@ -16,27 +13,11 @@ use Rattle.session_rules.specs.Refutations.{AreRefutations, Refutations, Refutes
 use Rattle.trace_types.specs.NameOrder.{name_cmp}
 use Rattle.trace_types.specs.Segments.{SegmentName}
 use Rattle.trace_types.specs.Surviving.{IsRefuted, Survives}
+use Rattle.trace_types.proofs.ComparingLemmas.{name_exact}
+use Rattle.trace_types.proofs.ElementLemmas.{contains_map}
 use Rattle.certificate_laws.specs.SurvivingLaws.{HasNoLine}
-use Rattle.certificate_laws.proofs.ListLemmas.{contains_map}
 
 -- ---- names in order
-
-text_exact : (xs ys : List ℕ) → slice_cmp nat_cmp xs ys ≡ Equal → xs ≡ ys
-text_exact xs ys e = (bytes_eq-Decides xs ys).0 (sym (is_eq-slice_cmp xs ys) ∙ ap is_eq e)
-
-both_equal : (o p : Ordering) → ordering_then o p ≡ Equal → (o ≡ Equal) × (p ≡ Equal)
-both_equal Less p e = absurd (cc e)
-both_equal Equal p e = (refl, e)
-both_equal Greater p e = absurd (cc e)
-
-name_exact : (a b : SegmentName) → name_cmp a b ≡ Equal → a ≡ b
-name_exact a b e =
-    let t = both_equal (slice_cmp nat_cmp a.0 b.0) (ordering_then (slice_cmp nat_cmp a.1 b.1) (slice_cmp nat_cmp a.2 b.2)) e in
-    let u = both_equal (slice_cmp nat_cmp a.1 b.1) (slice_cmp nat_cmp a.2 b.2) t.1 in
-    let tasks : a.0 ≡ b.0 = text_exact a.0 b.0 t.0 in
-    let starts : a.1 ≡ b.1 = text_exact a.1 b.1 u.0 in
-    let ends : a.2 ≡ b.2 = text_exact a.2 b.2 u.1 in
-    λ i. (tasks i, starts i, ends i)
 
 -- ---- lists of relations
 

@@ -1,10 +1,9 @@
 -- The valid traces of a batch of good events are printable.
-use Rattle.std.proofs.Common.{ℕ, ◌<◌, ◌≤◌, not, List, [], ◌∷◌, Bool, refl, Result, Ok, Err, length, map, sym, subst, arith}
-use Rattle.std.specs.Prelude.{All, ℤ, filter}
+use Rattle.std.proofs.Common.{ℕ, ◌<◌, ◌≤◌, List, [], ◌∷◌, Result, Ok, Err, length, map, sym, subst, arith}
+use Rattle.std.specs.Prelude.{All, ℤ}
 use Rattle.std.specs.List.{AllZip}
 use Rattle.std.specs.Str.{bytes_eq}
 use Rattle.std.proofs.lemmas.List.{length-map}
-use Rattle.std.proofs.lemmas.List.Filters.{length-filter_both}
 use Rattle.std.proofs.lemmas.List.Elements.{All-cons, All-filter, All-get_or, All-head, All-nil, All-tail}
 use Rattle.segment_cut.specs.Cutting.{IsCut, IsSegment}
 use Rattle.segment_cut.specs.Neighbours.{AreNeighbours}
@@ -13,11 +12,12 @@ use Rattle.session_rules.specs.Batches.{IsJudged, valid_of}
 use Rattle.session_rules.specs.KeptTraces.{kept_with}
 use Rattle.trace_types.specs.Batch.{PlainTrace, is_of_request, requests_of, trace_of, traces_of}
 use Rattle.trace_types.specs.Events.{event_name_at, task_at, time_at}
-use Rattle.trace_types.specs.Firsts.{firsts_of}
 use Rattle.trace_types.specs.Times.{latest_time}
 use Rattle.trace_types.specs.declared.event.Event.{Event}
 use Rattle.trace_types.specs.declared.segment.Segment.{Segment}
 use Rattle.trace_types.specs.declared.trace.Trace.{Trace}
+use Rattle.trace_types.proofs.ElementLemmas.{mapped_all}
+use Rattle.trace_types.proofs.ShortLemmas.{firsts-short, firsts_all}
 use Rattle.certificate_laws.specs.Printable.{HasPrintableName, IsPrintable, IsPrintableText}
 use Rattle.certificate_laws.proofs.EventLemmas.{IsGoodEvent}
 
@@ -27,16 +27,6 @@ record IsGoodTrace (raw : PlainTrace) : Type 0 where
   events : All IsGoodEvent raw.events
 
 -- ---- the traces of a batch
-
-firsts_all : {X : Type 0} (P : X → Type 0) (same : X → X → Bool) (xs : List X) → All P xs → All P (firsts_of same xs)
-firsts_all P same [] h = All-nil P
-firsts_all P same (x ∷ xs) h =
-    All-cons P x (filter (λ y. not (same x y)) (firsts_of same xs)) (All-head P x xs h)
-    (All-filter (λ y. not (same x y)) P (firsts_of same xs) (firsts_all P same xs (All-tail P x xs h)))
-
-mapped_all : {X Y : Type 0} (P : X → Type 0) (Q : Y → Type 0) (f : X → Y) (xs : List X) → ((x : X) → P x → Q (f x)) → All P xs → All Q (map f xs)
-mapped_all P Q f [] each h = All-nil Q
-mapped_all P Q f (x ∷ xs) each h = All-cons Q (f x) (map f xs) (each x (All-head P x xs h)) (mapped_all P Q f xs each (All-tail P x xs h))
 
 traces_good : (batch : List Event) → All IsGoodEvent batch → All IsGoodTrace (traces_of batch)
 traces_good batch h =
@@ -97,15 +87,8 @@ valid_printable batch verdicts h each = valid_by (traces_of batch) verdicts (tra
 
 -- ---- how many there are
 
-pub no_more : {X : Type 0} (p : X → Bool) (xs : List X) → length (filter p xs) ≤ length xs
-no_more p xs = omega (arith, length-filter_both p (λ x. not (p x)) (λ x. refl) xs)
-
-pub firsts_few : {X : Type 0} (same : X → X → Bool) (xs : List X) → length (firsts_of same xs) ≤ length xs
-firsts_few same [] = omega arith
-firsts_few same (x ∷ xs) = omega (arith, firsts_few same xs, no_more (λ y. not (same x y)) (firsts_of same xs))
-
 traces_few : (batch : List Event) → length (traces_of batch) ≤ length batch
-traces_few batch = omega (arith, length-map (requests_of batch) (trace_of batch), firsts_few bytes_eq (map (λ (e : Event). e.request) batch), length-map batch (λ (e : Event). e.request))
+traces_few batch = omega (arith, length-map (requests_of batch) (trace_of batch), firsts-short bytes_eq (map (λ (e : Event). e.request) batch), length-map batch (λ (e : Event). e.request))
 
 judged_few : (raws : List PlainTrace) (verdicts : List (Result Trace TraceFault)) → AllZip IsJudged raws verdicts → length (valid_of verdicts) ≤ length raws
 judged_few [] [] each = omega arith

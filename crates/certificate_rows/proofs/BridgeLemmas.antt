@@ -1,8 +1,7 @@
 -- Relations by number and by text: a trace by numbers refutes what the kept trace refutes.
 use Rattle.std.proofs.Common.{◌≡◌, ◌≢◌, ◌↔◌, ℕ, ◌<◌, ◌≤◌, min, max, Some, List, sym, ap, ◌∙◌, subst, ⊎_elim, arith}
-use Rattle.std.specs.List.{AllPairs, Contains, enumerate_from, slice_get}
+use Rattle.std.specs.List.{Contains, enumerate_from, slice_get}
 use Rattle.std.proofs.lemmas.Bool.{cases_lt}
-use Rattle.std.proofs.lemmas.Option.{get_or_from_slice_get, same_Some, slice_get_within}
 use Rattle.certificates.specs.declared.matter.Matter.{Matter}
 use Rattle.certificates.specs.declared.matter.Matter.TheVariants.{Before, Exclusive, Pipe}
 use Rattle.counterexamples.specs.ShownClaims.{relation_between}
@@ -21,23 +20,8 @@ use Rattle.trace_types.specs.Segments.{SegmentName, name_of, task_of}
 use Rattle.trace_types.specs.declared.named_segment.NamedSegment.{NamedSegment}
 use Rattle.trace_types.specs.declared.named_trace.NamedTrace.{NamedTrace}
 use Rattle.trace_types.specs.declared.segment.Segment.{Segment}
+use Rattle.trace_types.proofs.ElementLemmas.{one_item, one_place}
 use Rattle.certificate_rows.proofs.ElementLemmas.{Contains-from_get, zip_right}
-
--- what stands at one place is one
-pub one_text : {X : Type 0} (texts : List X) (k : ℕ) (x y : X) → slice_get texts k ≡ Some x → slice_get texts k ≡ Some y → x ≡ y
-one_text texts k x y p q = same_Some x y (sym p ∙ q)
-
--- in a list with nothing twice, what stands at two places is two
-pub one_place : {X : Type 0} (texts : List X) → AllPairs (λ x y. x ≢ y) texts → (a b : ℕ) (x : X) → slice_get texts a ≡ Some x → slice_get texts b ≡ Some x → a ≡ b
-one_place texts differ a b x p q =
-    let la = slice_get_within texts a x p in
-    let lb = slice_get_within texts b x q in
-    let ea = get_or_from_slice_get texts a x x p in
-    let eb = get_or_from_slice_get texts b x x q in
-    ⊎_elim
-    (λ (lt : a < b). absurd (differ a b x lt lb (ea ∙ sym eb)))
-    (λ (le : b ≤ a). ⊎_elim (λ (lt : b < a). absurd (differ b a x lt la (eb ∙ sym ea))) (λ (h : a ≤ b). let e : a ≡ b = omega arith in e) (cases_lt b a))
-    (cases_lt a b)
 
 -- the numbers of the two names or tasks
 abbrev pub AreNumbers : Known → Matter → ℕ → ℕ → Type 0
@@ -100,7 +84,7 @@ module _ (known : Known) (laws : AreLaws known) where
     task_number j x u element h = let s = segment_of x (Contains-from_get k.trace.segments j x h.segment) in (s.0.task, s.2 ∙ ap (λ (v : List ℕ). Some v) h.task)
 
     apart : {X : Type 0} (texts : List X) (m n : ℕ) (x y : X) → slice_get texts m ≡ Some x → slice_get texts n ≡ Some y → x ≢ y → m ≢ n
-    apart texts m n x y p q differ e = differ (one_text texts n x y (subst (λ (i : ℕ). slice_get texts i ≡ Some x) e p) q)
+    apart texts m n x y p q differ e = differ (one_item texts n x y (subst (λ (i : ℕ). slice_get texts i ≡ Some x) e p) q)
 
     pub refuted_numbers : (matter : Matter) → RefutesMatter matter k → (m : ℕ) × (n : ℕ) × AreNumbers known matter m n × (m ≢ n)
     refuted_numbers (Before a b) h =

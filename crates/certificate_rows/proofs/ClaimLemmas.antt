@@ -1,13 +1,11 @@
 -- A claim that a book's traces show, and that the kept traces show.
-use Rattle.std.proofs.Common.{◌≡◌, ◌≢◌, ◌↔◌, ℕ, ◌<◌, ◌==◌, nat_lt, ◌&&◌, inl, inr, Bool, true, false, cond, Option, Some, None, List, length, get_or, refl, sym, ap, ◌∙◌, subst, ⊎_elim, arith}
-use Rattle.std.specs.List.{AllPairs, position, position_or_len, slice_get}
+use Rattle.std.proofs.Common.{◌≡◌, ◌≢◌, ◌↔◌, ℕ, ◌==◌, inl, inr, Bool, true, cond, Option, Some, None, List, get_or, refl, sym, ap, ◌∙◌, subst}
+use Rattle.std.specs.List.{AllPairs, position, slice_get}
 use Rattle.std.specs.Option.{option_and_then, option_zip}
 use Rattle.std.specs.Str.{bytes_eq}
-use Rattle.std.proofs.lemmas.Bool.{and_from, and_parts, cases_eq, cases_order, cond-false, cond-true, eq-eqb, false≢true, lt-ltb, ne_eqb}
-use Rattle.std.proofs.lemmas.List.Sums.{fails_before_first}
+use Rattle.std.proofs.lemmas.Bool.{cases_eq, cond-false, cond-true, eq-eqb, false≢true, ne_eqb}
 use Rattle.std.proofs.lemmas.List.Quantifiers.{position-Some}
 use Rattle.std.proofs.lemmas.Option.{get_or_from_slice_get, none-some, same_Some, slice_get-get_or, slice_get_within}
-use Rattle.std.proofs.lemmas.Slice.Eq.{bytes_eq-Decides}
 use Rattle.certificates.specs.declared.claim.Claim.{Claim}
 use Rattle.certificates.specs.declared.matter.Matter.{Matter}
 use Rattle.certificates.specs.declared.matter.Matter.TheVariants.{Before, Exclusive, Pipe}
@@ -20,39 +18,15 @@ use Rattle.book_laws.specs.Shown.{AreShown}
 use Rattle.segment_names.specs.Known.{Known, name_number, same_name, task_number}
 use Rattle.session_rules.specs.KeptTraces.{Kept, is_of_day, traces_on}
 use Rattle.session_rules.specs.Refutations.{IsClaimShown}
-use Rattle.trace_types.specs.Segments.{SegmentName}
-use Rattle.certificate_rows.proofs.BridgeLemmas.{AreLaws, AreNumbers, one_place, refuted_numbers, refutes_alike}
-use Rattle.certificate_rows.proofs.DayLemmas.{all_of_day, book_days, is_of}
+use Rattle.trace_types.proofs.ComparingLemmas.{text_means, text_own}
+use Rattle.segment_names.proofs.TextLemmas.{name_means, name_own}
+use Rattle.trace_types.proofs.ElementLemmas.{one_place, none_passes}
+use Rattle.book_laws.proofs.BookLemmas.{book_days}
+use Rattle.certificate_rows.proofs.BridgeLemmas.{AreLaws, AreNumbers, refuted_numbers, refutes_alike}
+use Rattle.certificate_rows.proofs.DayLemmas.{all_of_day, is_of}
 use Rattle.certificate_rows.proofs.ElementLemmas.{zip_filter, zip_get_left, zip_get_right}
 
 -- ---- the number of a text
-name_means : (x y : SegmentName) → same_name x y ≡ true → x ≡ y
-name_means x y h =
-    let p = and_parts (bytes_eq x.0 y.0) (bytes_eq x.1 y.1 && bytes_eq x.2 y.2) h in
-    let q = and_parts (bytes_eq x.1 y.1) (bytes_eq x.2 y.2) p.1 in
-    let e0 = (bytes_eq-Decides x.0 y.0).0 p.0 in
-    let e1 = (bytes_eq-Decides x.1 y.1).0 q.0 in
-    let e2 = (bytes_eq-Decides x.2 y.2).0 q.1 in
-    λ k. (e0 k, e1 k, e2 k)
-
-name_itself : (x : SegmentName) → same_name x x ≡ true
-name_itself x = and_from (bytes_eq x.0 x.0) (bytes_eq x.1 x.1 && bytes_eq x.2 x.2) ((bytes_eq-Decides x.0 x.0).1 refl) (and_from (bytes_eq x.1 x.1) (bytes_eq x.2 x.2) ((bytes_eq-Decides x.1 x.1).1 refl) ((bytes_eq-Decides x.2 x.2).1 refl))
-
-text_means : (x y : List ℕ) → bytes_eq x y ≡ true → x ≡ y
-text_means x y h = (bytes_eq-Decides x y).0 h
-
-text_itself : (x : List ℕ) → bytes_eq x x ≡ true
-text_itself x = (bytes_eq-Decides x x).1 refl
-
-none_passes : {X : Type 0} (p : X → Bool) (xs : List X) → position p xs ≡ None → (k : ℕ) (d : X) → k < length xs → p (get_or xs k d) ≡ false
-none_passes p xs none k d h = ⊎_elim
-    (λ (e : position_or_len p xs ≡ length xs). fails_before_first p xs k d (omega arith))
-    (⊎_elim
-    (λ (l : position_or_len p xs < length xs). let t : nat_lt (position_or_len p xs) (length xs) ≡ true = lt-ltb (position_or_len p xs) (length xs) l in
-    absurd (let s : Some (position_or_len p xs) ≡ None = sym (ap (λ (b : Bool). cond b (Some (position_or_len p xs)) None) t) ∙ none in cc))
-    (λ (l : length xs < position_or_len p xs). fails_before_first p xs k d (omega arith)))
-    (cases_order (position_or_len p xs) (length xs))
-
 -- a position is that of the text, and a text that stands in a list has a position
 module _ {X : Type 0} (same : X → X → Bool) (means : (x y : X) → same x y ≡ true → x ≡ y) (itself : (x : X) → same x x ≡ true) (texts : List X) where
   place_told : (x : X) (k : ℕ) → position (same x) texts ≡ Some k → slice_get texts k ≡ Some x
@@ -82,14 +56,14 @@ both_found o p m n e f = rw (e, f) refl
 
 module _ (known : Known) (laws : AreLaws known) where
   numbers_told : (matter : Matter) (m n : ℕ) → matter_numbers known matter ≡ Some (m, n) → AreNumbers known matter m n
-  numbers_told (Before a b) m n e = let s = both_told (name_number known a) (name_number known b) m n e in (place_told same_name name_means name_itself known.names a m s.0, place_told same_name name_means name_itself known.names b n s.1)
-  numbers_told (Exclusive a b) m n e = let s = both_told (name_number known a) (name_number known b) m n e in (place_told same_name name_means name_itself known.names a m s.0, place_told same_name name_means name_itself known.names b n s.1)
-  numbers_told (Pipe a b) m n e = let s = both_told (task_number known a) (task_number known b) m n e in (place_told bytes_eq text_means text_itself known.tasks a m s.0, place_told bytes_eq text_means text_itself known.tasks b n s.1)
+  numbers_told (Before a b) m n e = let s = both_told (name_number known a) (name_number known b) m n e in (place_told same_name name_means name_own known.names a m s.0, place_told same_name name_means name_own known.names b n s.1)
+  numbers_told (Exclusive a b) m n e = let s = both_told (name_number known a) (name_number known b) m n e in (place_told same_name name_means name_own known.names a m s.0, place_told same_name name_means name_own known.names b n s.1)
+  numbers_told (Pipe a b) m n e = let s = both_told (task_number known a) (task_number known b) m n e in (place_told bytes_eq text_means text_own known.tasks a m s.0, place_told bytes_eq text_means text_own known.tasks b n s.1)
 
   numbers_found : (matter : Matter) (m n : ℕ) → AreNumbers known matter m n → matter_numbers known matter ≡ Some (m, n)
-  numbers_found (Before a b) m n at = both_found (name_number known a) (name_number known b) m n (place_found same_name name_means name_itself known.names laws.fits.names_differ a m at.0) (place_found same_name name_means name_itself known.names laws.fits.names_differ b n at.1)
-  numbers_found (Exclusive a b) m n at = both_found (name_number known a) (name_number known b) m n (place_found same_name name_means name_itself known.names laws.fits.names_differ a m at.0) (place_found same_name name_means name_itself known.names laws.fits.names_differ b n at.1)
-  numbers_found (Pipe a b) m n at = both_found (task_number known a) (task_number known b) m n (place_found bytes_eq text_means text_itself known.tasks laws.fits.tasks_differ a m at.0) (place_found bytes_eq text_means text_itself known.tasks laws.fits.tasks_differ b n at.1)
+  numbers_found (Before a b) m n at = both_found (name_number known a) (name_number known b) m n (place_found same_name name_means name_own known.names laws.fits.names_differ a m at.0) (place_found same_name name_means name_own known.names laws.fits.names_differ b n at.1)
+  numbers_found (Exclusive a b) m n at = both_found (name_number known a) (name_number known b) m n (place_found same_name name_means name_own known.names laws.fits.names_differ a m at.0) (place_found same_name name_means name_own known.names laws.fits.names_differ b n at.1)
+  numbers_found (Pipe a b) m n at = both_found (task_number known a) (task_number known b) m n (place_found bytes_eq text_means text_own known.tasks laws.fits.tasks_differ a m at.0) (place_found bytes_eq text_means text_own known.tasks laws.fits.tasks_differ b n at.1)
 
   -- the relation of a matter, and the numbers of its two
   record IsNumbered (matter : Matter) (r : Relation) : Type 0 where

@@ -3,33 +3,23 @@ use Rattle.std.proofs.Common.{◌≡◌, ℕ, zero, suc, ◌<◌, ◌≤◌, Boo
 use Rattle.std.specs.List.{slice_get}
 use Rattle.std.proofs.lemmas.Bool.{cases_eq, cond-false, cond-true, eq-eqb, ne_eqb}
 use Rattle.std.proofs.lemmas.List.{append-nil, length-take-le}
-use Rattle.std.proofs.lemmas.List.Elements.{All-nil, All-head, All-tail, All-weaker, All-append, All-contains, All-take, Contains-append_cases, Contains-get_or, filter-append}
+use Rattle.std.proofs.lemmas.List.Elements.{All-tail, All-weaker, All-contains, All-take, Contains-append_cases, Contains-get_or, filter-append}
 use Rattle.std.proofs.lemmas.Option.{same_Some, slice_get_within}
 use Rattle.counterexamples.specs.Findings.{StandsAt, StandsBefore}
 use Rattle.counterexamples.specs.declared.finding.Finding.{Finding}
-use Rattle.day_partitions.specs.Books.{AreOfDay, AreRising, BookState, IsBook, KeptDay, all_traces, traces_kept_on}
+use Rattle.day_partitions.specs.Books.{AreOfDay, AreRising, KeptDay, all_traces, traces_kept_on}
 use Rattle.trace_types.specs.declared.named_trace.NamedTrace.{NamedTrace}
-use Rattle.certificate_rows.proofs.ElementLemmas.{Contains-from_get, before_place, filter_all, filter_none, from_flat_map, get_from_Contains, get_from_take}
+use Rattle.trace_types.proofs.ElementLemmas.{from_flat_map}
+use Rattle.book_laws.proofs.BookLemmas.{pairs_head, days_tail, own_day, above_all}
+use Rattle.certificate_rows.proofs.ElementLemmas.{Contains-from_get, before_place, filter_all, filter_none, get_from_Contains, get_from_take}
 
 -- days that rise, each with traces of that day
 pub record AreDays (ks : List KeptDay) : Type 0 where
   pub rising : AreRising ks
   pub dated : All (λ (k : KeptDay). AreOfDay k.day k.traces) ks
 
-pub book_days : (b : BookState) → IsBook b → AreDays b.days
-book_days b h = record { rising = h.rising; dated = h.dated }
-
 abbrev IsDated : KeptDay → Type 0
 IsDated k = AreOfDay k.day k.traces
-
-days_tail : (k : KeptDay) (ks : List KeptDay) → AreDays (k ∷ ks) → AreDays ks
-days_tail k ks h = record { rising = λ i j d l m. h.rising (suc i) (suc j) d (omega arith) (omega arith); dated = All-tail IsDated k ks h.dated }
-
-pairs_head : (k : KeptDay) (ks : List KeptDay) → AreRising (k ∷ ks) → All (λ (j : KeptDay). k.day < j.day) ks
-pairs_head k ks p i d l = p 0 (suc i) d (omega arith) (omega arith)
-
-own_day : (k : KeptDay) (ks : List KeptDay) → AreDays (k ∷ ks) → AreOfDay k.day k.traces
-own_day k ks h = All-head IsDated k ks h.dated
 
 -- the test of a day
 abbrev pub is_of : ℕ → NamedTrace → Bool
@@ -40,15 +30,6 @@ of_day d e ts h is = filter_all (is_of d) ts (All-weaker (λ (t : NamedTrace). t
 
 not_of_day : (d : ℕ) (ts : List NamedTrace) → All (λ (t : NamedTrace). t.day ≡ d → ⊥) ts → filter (is_of d) ts ≡ []
 not_of_day d ts h = filter_none (is_of d) ts (All-weaker (λ (t : NamedTrace). t.day ≡ d → ⊥) (λ (t : NamedTrace). is_of d t ≡ false) (λ t n. ne_eqb t.day d n) ts h)
-
--- all traces of later days are of greater days
-above_all : (d : ℕ) (ks : List KeptDay) → All (λ (k : KeptDay). d < k.day) ks → All IsDated ks → All (λ (t : NamedTrace). d < t.day) (all_traces ks)
-above_all d [] h g = All-nil (λ (t : NamedTrace). d < t.day)
-above_all d (k ∷ ks) h g =
-    let l = All-head (λ (j : KeptDay). d < j.day) k ks h in
-    All-append (λ (t : NamedTrace). d < t.day) k.traces (all_traces ks)
-    (All-weaker (λ (t : NamedTrace). t.day ≡ k.day) (λ (t : NamedTrace). d < t.day) (λ t e. omega (arith, l, e)) k.traces (All-head IsDated k ks g))
-    (above_all d ks (All-tail (λ (j : KeptDay). d < j.day) k ks h) (All-tail IsDated k ks g))
 
 -- the traces of a day
 pub all_of_day : (d : ℕ) (ks : List KeptDay) → AreDays ks → filter (is_of d) (all_traces ks) ≡ traces_kept_on ks d

@@ -17,7 +17,7 @@ use Rattle.trace_types.specs.Pipelines.{EndsAt, HandlesAt, StartsAt, StartsInOrd
 use Rattle.trace_types.specs.Refuting.{HasBoth, StartsEarly}
 use Rattle.trace_types.specs.Segments.{SegmentName, name_of, task_of}
 use Rattle.trace_types.specs.declared.segment.Segment.{Segment}
-use Rattle.certificate_rows.proofs.BridgeLemmas.{one_text}
+use Rattle.trace_types.proofs.ElementLemmas.{one_item}
 use Rattle.certificate_rows.proofs.ElementLemmas.{Contains-cons, Contains-from_get, Contains-here, Contains-nil, cons_cases}
 
 -- a fact is decided: it holds, or it does not
@@ -186,14 +186,14 @@ module _ (k : Kept) where
       let low = a.first j r b.handles in
       let high = b.first i s a.handles in
       let same : i ≡ j = omega arith in
-      (same, one_text k.trace.segments j s r (subst (λ (n : ℕ). slice_get k.trace.segments n ≡ Some s) same a.handles.segment) b.handles.segment)
+      (same, one_item k.trace.segments j s r (subst (λ (n : ℕ). slice_get k.trace.segments n ≡ Some s) same a.handles.segment) b.handles.segment)
 
   one_end : (t e : List ℕ) (i j : ℕ) (s r : Segment) → EndsAt by_kept k t e i s → EndsAt by_kept k t e j r → (i ≡ j) × (s ≡ r)
   one_end t e i j s r a b =
       let low = a.last j r b.handles in
       let high = b.last i s a.handles in
       let same : i ≡ j = omega arith in
-      (same, one_text k.trace.segments j s r (subst (λ (n : ℕ). slice_get k.trace.segments n ≡ Some s) same a.handles.segment) b.handles.segment)
+      (same, one_item k.trace.segments j s r (subst (λ (n : ℕ). slice_get k.trace.segments n ≡ Some s) same a.handles.segment) b.handles.segment)
 
   -- u starts on this element too early
   record TakesEarly (t u e : List ℕ) : Type 0 where

@@ -1,9 +1,9 @@
 -- The elements of lists that are made of others.
 use Rattle.std.proofs.Common.{◌≡◌, ◌⊎◌, ℕ, zero, suc, ◌+◌, ◌-◌, ◌<◌, ◌≤◌, Bool, true, false, Some, List, [], ◌∷◌, ◌++◌, length, get_or, take, map, filter, refl, sym, ap, ◌∙◌, subst, inl, inr, ⊎_elim, arith}
-use Rattle.std.specs.List.{All, AllPairs, AllZip, Contains, flat_map, slice_get}
+use Rattle.std.specs.List.{All, AllPairs, AllZip, Contains, slice_get}
 use Rattle.std.proofs.lemmas.Bool.{cases_Bool, cases_lt, cond-false, cond-true, false≢true}
 use Rattle.std.proofs.lemmas.List.{get_or_append_left, get_or-append_right, get_or-map, get_or-take, length-append, length-map, length-take}
-use Rattle.std.proofs.lemmas.List.Elements.{All-head, All-tail, Contains-append_left, Contains-append_right, Contains-append_cases, Contains-get_or}
+use Rattle.std.proofs.lemmas.List.Elements.{All-head, All-tail, Contains-get_or}
 use Rattle.std.proofs.lemmas.Option.{slice_get_within, slice_get-get_or, get_or_from_slice_get}
 
 module _ {X : Type 0} where
@@ -99,23 +99,6 @@ module _ {X : Type 0} where
   ]
 
 -- ---- maps, and lists joined end to end
-map_at : {X Y : Type 0} (f : X → Y) (xs : List X) (x : X) (y : Y) (k : ℕ) → k < length xs → get_or xs k x ≡ x → f x ≡ y → Contains (map f xs) y
-map_at f [] x y k lt same e = absurd (omega arith)
-map_at f (z ∷ xs) x y zero lt same e = (0, omega arith, ap f same ∙ e)
-map_at f (z ∷ xs) x y (suc k) lt same e = Contains-cons (f z) (map f xs) y (map_at f xs x y k (omega arith) same e)
-
-pub Contains-map : {X Y : Type 0} (f : X → Y) (xs : List X) (x : X) (y : Y) → Contains xs x → f x ≡ y → Contains (map f xs) y
-Contains-map f xs x y c e = map_at f xs x y c.0 c.1 c.2 e
-
-from_map_at : {X Y : Type 0} (f : X → Y) (xs : List X) (y : Y) (k : ℕ) → k < length (map f xs) → get_or (map f xs) k y ≡ y → (x : X) × Contains xs x × (f x ≡ y)
-from_map_at f [] y k lt e = absurd (omega arith)
-from_map_at f (x ∷ xs) y zero lt e = (x, (0, omega arith, refl), e)
-from_map_at f (x ∷ xs) y (suc k) lt e = let r = from_map_at f xs y k (omega arith) e in (r.0, Contains-cons x xs r.0 r.1, r.2)
-
--- an element of a map comes from one
-pub from_map : {X Y : Type 0} (f : X → Y) (xs : List X) (y : Y) → Contains (map f xs) y → (x : X) × Contains xs x × (f x ≡ y)
-from_map f xs y c = from_map_at f xs y c.0 c.1 c.2
-
 pub pairs_map : {X Y : Type 0} (f : X → Y) (R : Y → Y → Type 0) (xs : List X) → AllPairs (λ x y. R (f x) (f y)) xs → AllPairs R (map f xs)
 pairs_map f R [] p = pairs_nil R
 pairs_map {X} {Y} f R (x ∷ xs) p = λ i j d lt inside.
@@ -123,26 +106,6 @@ pairs_map {X} {Y} f R (x ∷ xs) p = λ i j d lt inside.
     let ei = get_or-map f (x ∷ xs) i x d (omega arith) in
     let ej = get_or-map f (x ∷ xs) j x d within in
     subst (λ (v : Y). R v (get_or (map f (x ∷ xs)) j d)) (sym ei) (subst (λ (v : Y). R (f (get_or (x ∷ xs) i x)) v) (sym ej) (p i j x lt within))
-
-pub map_twice : {X Y Z : Type 0} (f : Y → Z) (g : X → Y) (xs : List X) → map f (map g xs) ≡ map (λ x. f (g x)) xs
-map_twice f g [] = refl
-map_twice {Z = Z} f g (x ∷ xs) = ap (λ (l : List Z). f (g x) ∷ l) (map_twice f g xs)
-
-flat_map_at : {X Y : Type 0} (f : X → List Y) (xs : List X) (x : X) (y : Y) (k : ℕ) → k < length xs → get_or xs k x ≡ x → Contains (f x) y → Contains (flat_map f xs) y
-flat_map_at f [] x y k lt same c = absurd (omega arith)
-flat_map_at f (z ∷ xs) x y zero lt same c = Contains-append_left (f z) (flat_map f xs) y (subst (λ v. Contains (f v) y) (sym same) c)
-flat_map_at f (z ∷ xs) x y (suc k) lt same c = Contains-append_right (f z) (flat_map f xs) y (flat_map_at f xs x y k (omega arith) same c)
-
-pub Contains-flat_map : {X Y : Type 0} (f : X → List Y) (xs : List X) (x : X) (y : Y) → Contains xs x → Contains (f x) y → Contains (flat_map f xs) y
-Contains-flat_map f xs x y c d = flat_map_at f xs x y c.0 c.1 c.2 d
-
--- an element of lists joined end to end is in one of them
-pub from_flat_map : {X Y : Type 0} (f : X → List Y) (xs : List X) (y : Y) → Contains (flat_map f xs) y → (x : X) × Contains xs x × Contains (f x) y
-from_flat_map f [] y c = absurd (Contains-nil y c)
-from_flat_map f (x ∷ xs) y c = ⊎_elim
-    (λ (d : Contains (f x) y). (x, (0, omega arith, refl), d))
-    (λ (d : Contains (flat_map f xs) y). let r = from_flat_map f xs y d in (r.0, Contains-cons x xs r.0 r.1, r.2))
-    (Contains-append_cases (f x) (flat_map f xs) y c)
 
 -- ---- two lists, index by index
 module _ {A B : Type 0} (R : A → B → Type 0) where

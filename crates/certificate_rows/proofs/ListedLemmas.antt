@@ -5,7 +5,7 @@ use Rattle.std.specs.declared.cmp.Ordering.TheVariants.{Less, Equal, Greater}
 use Rattle.std.specs.List.{All, AllPairs, Contains, flat_map}
 use Rattle.std.specs.Cmp.{IsTotalOrder}
 use Rattle.std.specs.Cmp.Lexicographic.{slice_cmp}
-use Rattle.std.specs.Ordering.{nat_cmp, ordering_reverse, ordering_then}
+use Rattle.std.specs.Ordering.{nat_cmp, ordering_reverse}
 use Rattle.std.proofs.lemmas.List.Elements.{All-cons, All-nil, Contains-get_or}
 use Rattle.std.proofs.lemmas.List.Kept.{AllPairs-cons}
 use Rattle.certificates.specs.declared.matter.Matter.{Matter}
@@ -19,10 +19,11 @@ use Rattle.trace_types.specs.Pipelines.{TakesOutOfOrder, TakesUnfinished}
 use Rattle.trace_types.specs.Segments.{SegmentName, name_of, task_of}
 use Rattle.trace_types.specs.Surviving.{IsRefuted}
 use Rattle.trace_types.specs.declared.segment.Segment.{Segment}
+use Rattle.trace_types.proofs.ComparingLemmas.{both_equal, text_exact, name_exact, text_total}
+use Rattle.trace_types.proofs.ListingLemmas.{name_total, pair_total}
+use Rattle.trace_types.proofs.ElementLemmas.{Contains-map, Contains-flat_map}
 use Rattle.certificate_rows.proofs.DecideLemmas.{IsDecided, decided_and, decided_like, less_decided, refutes_decided, some_decided}
-use Rattle.certificate_rows.proofs.ElementLemmas.{Contains-cons, Contains-flat_map, Contains-from_get, Contains-here, Contains-map, Contains-nil, cons_cases, head_before, pairs_nil, pairs_tail}
-use Rattle.certificate_rows.proofs.OrderLemmas.{name_exact, name_total, text_exact, text_total}
-use Rattle.certificate_rows.proofs.WholeLemmas.{pair_total}
+use Rattle.certificate_rows.proofs.ElementLemmas.{Contains-cons, Contains-from_get, Contains-here, Contains-nil, cons_cases, head_before, pairs_nil, pairs_tail}
 
 -- ---- the elements of a list, in rising order and each once
 all_contained : {X : Type 0} (P : X → Type 0) (xs : List X) → ((z : X) → Contains xs z → P z) → All P xs
@@ -114,11 +115,6 @@ module _ {X : Type 0} (cmp : X → X → Ordering) (total : IsTotalOrder cmp) (e
         (h.0, record { rising = h.1.rising; exactly = λ z. ((λ c. ((h.1.exactly z).0 c).1), (λ p. (h.1.exactly z).1 (within z p, p))) })
 
 -- ---- pairs
-both_equal : (o p : Ordering) → ordering_then o p ≡ Equal → (o ≡ Equal) × (p ≡ Equal)
-both_equal Less p e = cc
-both_equal Equal p e = (refl, e)
-both_equal Greater p e = cc
-
 pair_exact : {X : Type 0} (cmp : X → X → Ordering) → ((x y : X) → cmp x y ≡ Equal → x ≡ y) → (p q : X × X) → pair_cmp cmp p q ≡ Equal → p ≡ q
 pair_exact cmp exact p q e =
     let t = both_equal (cmp p.0 q.0) (cmp p.1 q.1) e in

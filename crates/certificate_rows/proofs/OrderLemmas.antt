@@ -2,50 +2,22 @@
 use Rattle.std.proofs.Common.{◌≡◌, ◌≢◌, ℕ, ◌+◌, ◌<◌, ◌≤◌, false, eqb, List, [], ◌∷◌, ◌++◌, map, length, get_or, slice_get, Some, All, AllPairs, Contains, arith, refl, sym, ap, ◌∙◌, subst, ⊎_elim}
 use Rattle.std.specs.Borrow.{Bor}
 use Rattle.std.specs.Cmp.{IsTotalOrder}
-use Rattle.std.specs.Cmp.Lexicographic.{slice_cmp}
 use Rattle.std.specs.List.{IsDistinct}
 use Rattle.std.specs.List.Sorted.{IsPermutation, IsSorted}
-use Rattle.std.specs.Ordering.{nat_cmp, ordering_reverse, ordering_then, is_eq, is_lt}
+use Rattle.std.specs.Ordering.{nat_cmp, ordering_reverse, ordering_then, is_lt}
 use Rattle.std.specs.declared.cmp.Ordering.{Ordering}
 use Rattle.std.specs.declared.cmp.Ordering.TheVariants.{Less, Equal, Greater}
 use Rattle.std.proofs.lemmas.Bool.{cases_lt, false≢true}
 use Rattle.std.proofs.lemmas.Bool.Decides.{nat_tests}
-use Rattle.std.proofs.lemmas.Cmp.{nat_cmp_total, nat_list_cmp_total, then_total, on_total}
+use Rattle.std.proofs.lemmas.Cmp.{nat_cmp_total, then_total, on_total}
 use Rattle.std.proofs.lemmas.List.{get_or_append_left, get_or_push, length_push, get_or-map, length-map}
 use Rattle.std.proofs.lemmas.List.Elements.{All-nil, All-push, Contains-push, Contains-append_left, All-get_or}
 use Rattle.std.proofs.lemmas.List.Sorted.{All-permutation, Contains-permutation, IsPermutation-map, IsPermutation-sym, length_permutation, sorted_far, ranks_by}
 use Rattle.std.proofs.lemmas.Map.Keys.{IsDistinct-from_apart, IsDistinct-IsPermutation, apart_from_distinct}
-use Rattle.std.proofs.lemmas.Map.Text.{is_eq-slice_cmp}
 use Rattle.std.proofs.lemmas.Option.{slice_get_within, get_or_from_slice_get}
-use Rattle.std.proofs.lemmas.Slice.Eq.{bytes_eq-Decides}
 use Rattle.trace_types.specs.Listing.{ListsExactly}
-use Rattle.trace_types.specs.NameOrder.{name_cmp}
-use Rattle.trace_types.specs.Segments.{SegmentName}
 
 -- ---- the order of names and of texts
-pub name_total : IsTotalOrder name_cmp
-name_total = then_total (on_total (λ (n : SegmentName). n.0) nat_list_cmp_total) (then_total (on_total (λ (n : SegmentName). n.1) nat_list_cmp_total) (on_total (λ (n : SegmentName). n.2) nat_list_cmp_total))
-
-pub text_total : IsTotalOrder (slice_cmp nat_cmp)
-text_total = nat_list_cmp_total
-
-pub text_exact : (xs ys : List ℕ) → slice_cmp nat_cmp xs ys ≡ Equal → xs ≡ ys
-text_exact xs ys e = (bytes_eq-Decides xs ys).0 (sym (is_eq-slice_cmp xs ys) ∙ ap is_eq e)
-
-both_equal : (o p : Ordering) → ordering_then o p ≡ Equal → (o ≡ Equal) × (p ≡ Equal)
-both_equal Less p e = cc
-both_equal Equal p e = (refl, e)
-both_equal Greater p e = cc
-
-pub name_exact : (a b : SegmentName) → name_cmp a b ≡ Equal → a ≡ b
-name_exact a b e =
-    let t = both_equal (slice_cmp nat_cmp a.0 b.0) (ordering_then (slice_cmp nat_cmp a.1 b.1) (slice_cmp nat_cmp a.2 b.2)) e in
-    let u = both_equal (slice_cmp nat_cmp a.1 b.1) (slice_cmp nat_cmp a.2 b.2) t.1 in
-    let ts : a.0 ≡ b.0 = text_exact a.0 b.0 t.0 in
-    let ss : a.1 ≡ b.1 = text_exact a.1 b.1 u.0 in
-    let es : a.2 ≡ b.2 = text_exact a.2 b.2 u.1 in
-    λ k. (ts k, ss k, es k)
-
 -- ---- entries
 -- a text and its number
 abbrev pub Entry : Type 0 → Type 0

@@ -9,10 +9,11 @@ use Rattle.std.proofs.lemmas.List.Elements.{Contains-append_cases, Contains-appe
 use Rattle.std.proofs.lemmas.List.Kept.{AllPairs-filter}
 use Rattle.trace_types.specs.Listing.{ListsExactly}
 use Rattle.trace_types.specs.NameOrder.{pair_cmp}
+use Rattle.trace_types.proofs.ElementLemmas.{Contains-map, from_map}
 use Rattle.certificate_rows.specs.declared.kind.Kind.{Kind}
 use Rattle.certificate_rows.specs.declared.kind.Kind.TheVariants.{Before, Exclusive, Pipe}
 use Rattle.certificate_rows.specs.inner.Pairs.{pairs_with, pairs_of, seconds_of}
-use Rattle.certificate_rows.proofs.ElementLemmas.{Contains-cons, Contains-here, Contains-kept, Contains-map, Contains-nil, cons_cases, from_map, head_before, kept_Contains, pairs_append, pairs_map, pairs_nil, pairs_tail}
+use Rattle.certificate_rows.proofs.ElementLemmas.{Contains-cons, Contains-here, Contains-kept, Contains-nil, cons_cases, head_before, kept_Contains, pairs_append, pairs_map, pairs_nil, pairs_tail}
 
 module _ {X : Type 0} (cmp : X → X → Ordering) (total : IsTotalOrder cmp) (text : ℕ → X) where
   -- the text of the one number is less than that of the other

@@ -6,7 +6,6 @@ use Rattle.std.specs.Cmp.Lexicographic.{slice_cmp}
 use Rattle.std.specs.Ordering.{nat_cmp}
 use Rattle.std.specs.List.{AllPairs, slice_get}
 use Rattle.std.specs.Option.{is_some}
-use Rattle.std.proofs.lemmas.Cmp.{on_total, then_total}
 use Rattle.std.proofs.lemmas.List.{length-append, length-map, map-append}
 use Rattle.std.proofs.lemmas.List.Elements.{Contains-get_or}
 use Rattle.std.proofs.lemmas.Option.{get_or_from_slice_get, slice_get_within}
@@ -26,6 +25,9 @@ use Rattle.trace_types.specs.Listing.{ListsExactly}
 use Rattle.trace_types.specs.NameOrder.{name_cmp, pair_cmp}
 use Rattle.trace_types.specs.Segments.{SegmentName}
 use Rattle.trace_types.specs.Surviving.{IsRefuted}
+use Rattle.trace_types.proofs.ListingLemmas.{name_total, pair_total}
+use Rattle.trace_types.proofs.ComparingLemmas.{text_total}
+use Rattle.trace_types.proofs.ElementLemmas.{map_twice}
 use Rattle.certificate_rows.specs.declared.kind.Kind.{Kind}
 use Rattle.certificate_rows.specs.declared.kind.Kind.TheVariants.{Before, Exclusive, Pipe}
 use Rattle.certificate_rows.specs.inner.Numbered.{kind_count, kind_rows, numbered_name, numbered_task}
@@ -34,19 +36,14 @@ use Rattle.certificate_rows.specs.inner.Pairs.{pairs_of, refuted_pairs, refuter_
 use Rattle.certificate_rows.specs.inner.Sources.{HasRefuters}
 use Rattle.certificate_rows.specs.inner.Wholes.{certificate_text, refuted_count, refuted_rows}
 use Rattle.certificate_rows.proofs.BridgeLemmas.{AreLaws}
-use Rattle.certificate_rows.proofs.ElementLemmas.{map_twice, zip_length}
+use Rattle.certificate_rows.proofs.ElementLemmas.{zip_length}
 use Rattle.certificate_rows.proofs.FirstLemmas.{refuted_found, refuted_told, rows_told}
-use Rattle.certificate_rows.proofs.OrderLemmas.{name_total, text_total}
 use Rattle.certificate_rows.proofs.PairLemmas.{IsAsked, asked_to, pairs_listed, texts_of}
 
 -- a text of some parts and one of others are one of both
 texts_more : (ps qs : List Part) (a b : List ℕ) → AreTexts IsPart ps a → AreTexts IsPart qs b → AreTexts IsPart (ps ++ qs) (a ++ b)
 texts_more [] qs a b h k = rw h k
 texts_more (p ∷ ps) qs a b h k = (h.0, h.1 ++ b, h.2, texts_more ps qs h.1 b h.3 k, ap (λ t. t ++ b) h.4 ∙ append_assoc h.0 h.1 b)
-
--- pairs of what is ordered are ordered
-pub pair_total : {X : Type 0} (cmp : X → X → Ordering) → IsTotalOrder cmp → IsTotalOrder (pair_cmp cmp)
-pair_total {X} cmp total = then_total (on_total (λ (p : X × X). p.0) total) (on_total (λ (p : X × X). p.1) total)
 
 -- elements are listed in rising order in one way
 abbrev pub AreListedInOneWay : Type 0 → Type 0

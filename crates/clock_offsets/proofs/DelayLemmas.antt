@@ -5,26 +5,17 @@ use Rattle.std.specs.Map.{lookup}
 use Rattle.std.specs.Cmp.{IsTotalOrder}
 use Rattle.std.specs.Int.{int_min}
 use Rattle.std.specs.Prelude.{int_lt}
-use Rattle.std.specs.Ordering.{nat_cmp, is_eq, ordering_then}
-use Rattle.std.specs.declared.cmp.Ordering.{Ordering}
-use Rattle.std.specs.declared.cmp.Ordering.TheVariants.{Less, Equal, Greater}
+use Rattle.std.specs.Ordering.{nat_cmp}
 use Rattle.std.proofs.lemmas.Bool.{false≢true}
 use Rattle.std.proofs.lemmas.Cmp.{nat_cmp_total, tied_itself, then_total, on_total}
 use Rattle.std.proofs.lemmas.Int.{ints, clamps}
 use Rattle.std.proofs.lemmas.Map.Lookups.{exact_unsigned}
 use Rattle.trace_types.specs.declared.event.Event.{Event}
+use Rattle.trace_types.proofs.ComparingLemmas.{then_equal}
 use Rattle.clock_offsets.specs.declared.message.Message.{Message}
 use Rattle.clock_offsets.specs.inner.Links.{AreNumbers}
 use Rattle.clock_offsets.specs.inner.Delays.{IsEventAt, HasNoSender, IsReceived, HasDelay, way_cmp, least_in, AreLeast, AreLeastDelays}
 use Rattle.clock_offsets.proofs.MessageLemmas.{HasDelayTo, delay_more, now_of, delay_skip, delay_push}
-
--- ways that compare equal are equal
-then_equal : (o p : Ordering) → is_eq (ordering_then o p) ≡ true → (o ≡ Equal) × (p ≡ Equal)
-then_equal Less p h = absurd (false≢true h)
-then_equal Equal Less h = absurd (false≢true h)
-then_equal Equal Equal h = (refl, refl)
-then_equal Equal Greater h = absurd (false≢true h)
-then_equal Greater p h = absurd (false≢true h)
 
 pub way_exact : (v w a b : ℕ) → is_at (way_cmp (v, w)) (a, b) ≡ true → (v ≡ a) × (w ≡ b)
 way_exact v w a b h = let e = then_equal (nat_cmp v a) (nat_cmp w b) h in (exact_unsigned v a e.0, exact_unsigned w b e.1)

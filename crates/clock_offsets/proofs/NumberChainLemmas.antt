@@ -1,21 +1,18 @@
 -- The chains of a table of numbers: a number is found along its chain, and an entry is added at its head.
-use Rattle.std.proofs.Common.{◌≡◌, ◌≢◌, ℕ, zero, suc, ◌+◌, ◌<◌, ◌≤◌, Bool, true, false, cond, Option, Some, None, is_some, List, [], ◌∷◌, ◌++◌, length, get_or, set, take, map, reverse, arith, refl, sym, subst, ap, ◌∙◌, ⊎_elim, eqb, ◌&&◌}
+use Rattle.std.proofs.Common.{◌≡◌, ◌≢◌, ℕ, zero, suc, ◌+◌, ◌<◌, ◌≤◌, Bool, true, false, cond, Option, Some, None, is_some, List, [], ◌∷◌, ◌++◌, length, get_or, set, take, map, reverse, arith, refl, sym, subst, ap, ◌∙◌, ⊎_elim, eqb}
 use Rattle.std.specs.Cmp.Derive.{both_true}
 use Rattle.std.proofs.Math.Seq.{take-suc, take-length}
-use Rattle.std.proofs.lemmas.Bool.{cases_lt, cases_eq, eqb-true, eq-eqb, false≢true}
+use Rattle.std.proofs.lemmas.Bool.{cases_lt, cases_eq, eqb-true, eq-eqb}
 use Rattle.std.proofs.lemmas.List.{get_or-map, get_or_default, get_or_append_left, get_or_push, length_push, length-set, get_or-set_same, get_or-set_other, map-append, reverse-append}
+use Rattle.trace_types.proofs.TruthLemmas.{both_hold}
 use Rattle.clock_offsets.specs.declared.number_entry.NumberEntry.{NumberEntry}
 use Rattle.clock_offsets.specs.NumberPlaces.{NumberPlace, is_of, place_in, places_with}
 use Rattle.clock_offsets.specs.inner.Digests.{chain_of}
 use Rattle.clock_offsets.specs.inner.NumberChains.{mix_of, number_place, newest_first, own_chain, chain_at, older_at, IsTop, IsChained}
 
-both : (a b : Bool) → (a && b) ≡ true → (a ≡ true) × (b ≡ true)
-both true b e = (refl, e)
-both false b e = absurd (false≢true e)
-
 -- a place of a number of a group has both
 pub of_both : (g t : ℕ) (p : NumberPlace) → is_of g t p ≡ true → (p.group ≡ g) × (p.number ≡ t)
-of_both g t p e = let b = both (eqb p.group g) (eqb p.number t) e in (eqb-true p.group g b.0, eqb-true p.number t b.1)
+of_both g t p e = let b = both_hold (eqb p.group g) (eqb p.number t) e in (eqb-true p.group g b.0, eqb-true p.number t b.1)
 
 -- an entry of another chain is not of the number
 pub other_chain : (count d g t : ℕ) (x : NumberEntry) → d ≡ mix_of g t → (own_chain count x ≡ chain_of count d → ⊥) → (b : Bool) → is_of g t (number_place x) ≡ b → is_of g t (number_place x) ≡ false
@@ -164,11 +161,6 @@ pub place_added : (es : List NumberEntry) (x : NumberEntry) → place_in (newest
 place_added es x =
     ap (λ l. place_in l x.group x.number) (newest_more es x)
     ∙ ap (λ b. cond b (Some x.place) (place_in (newest_first es) x.group x.number)) (both_true (eq-eqb x.group x.group refl) (eq-eqb x.number x.number refl))
-
--- what is not empty has some
-pub some_unless_empty : (n : ℕ) → eqb n 0 ≡ false → 0 < n
-some_unless_empty zero e = absurd (false≢true (sym e))
-some_unless_empty (suc n) e = omega arith
 
 -- a table with no entries
 pub empty_table : (chains : List ℕ) → 0 < length chains → ((c : ℕ) → get_or chains c 0 ≡ 0) → IsChained chains []

@@ -10,8 +10,8 @@ use Rattle.trace_types.specs.Pipelines.{HandlesAt, RefutesUnshared, TakesUnfinis
 use Rattle.trace_types.specs.Refuting.{StartsEarly}
 use Rattle.trace_types.specs.declared.named_segment.NamedSegment.{NamedSegment}
 use Rattle.trace_types.specs.declared.named_trace.NamedTrace.{NamedTrace}
+use Rattle.refute_tests.proofs.ExactLemmas.{early_means, early_from}
 use Rattle.counterexamples.specs.inner.Ends.{Handles, IsEnd, IsStart, NeverHandles, SharesAt, TakesAt, TakesEarly, TakesEarlyAt}
-use Rattle.counterexamples.proofs.NameLemmas.{early_from, early_means}
 
 -- the segment at an index is one
 pub one_at : (trace : NamedTrace) (k l t u e f : ℕ) (s r : NamedSegment) → HandlesAt by_number trace t e k s → HandlesAt by_number trace u f l r → k ≡ l → s ≡ r

@@ -8,7 +8,6 @@ use Rattle.day_partitions.specs.Books.{BookState, KeptDay, all_traces}
 use Rattle.hypothesis_index.specs.Places.{IsRelation, NamesBelow, place_of, width_of}
 use Rattle.hypothesis_index.specs.Refuting.{Refutes}
 use Rattle.hypothesis_index.specs.declared.relation.Relation.{Relation}
-use Rattle.hypothesis_index.specs.declared.relation.Relation.TheVariants.{Before, Exclusive, Apart, Pipe, Unshared}
 use Rattle.pipeline_tests.specs.Rows.{IsWholeRow}
 use Rattle.trace_types.specs.Surviving.{Survives}
 use Rattle.trace_types.specs.declared.named_trace.NamedTrace.{NamedTrace}
@@ -28,14 +27,6 @@ PlacesDiffer = (r s : Relation) → IsRelation r → IsRelation s → place_of r
 
 abbrev pub PlacesFit : Type 0
 PlacesFit = (names : ℕ) (r : Relation) → names ≤ 512 → IsRelation r → NamesBelow names r → ((place_of r).word < width_of names) × ((place_of r).bit < 64)
-
--- all names are below 512
-pub all_below : (r : Relation) → IsRelation r → NamesBelow 512 r
-all_below (Before a b) is = (is.1, is.2)
-all_below (Exclusive a b) is = is.1
-all_below (Apart a b) is = is.1
-all_below (Pipe t u) is = tt
-all_below (Unshared t u) is = tt
 
 -- a whole row clears the place of a relation exactly where its trace refutes it
 row_tells : PlacesDiffer → (t : NamedTrace) (row : List Entry) → IsWholeRow t row → (r : Relation) → IsRelation r → (clears row (place_of r).word (place_of r).bit ≡ true) ↔ Refutes r t

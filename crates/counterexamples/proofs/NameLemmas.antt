@@ -1,25 +1,13 @@
 -- What a trace refutes of two names, by its segments with these names.
-use Rattle.std.proofs.Common.{◌≡◌, ◌≢◌, ℕ, ◌<◌, Bool, true, false, T, get_or, Contains, refl, sym, ap, ◌∙◌, subst, ⊎_elim, ◌⊎◌}
+use Rattle.std.proofs.Common.{◌≡◌, ◌≢◌, ℕ, ◌<◌, get_or, Contains, sym, ap, ◌∙◌, subst, ⊎_elim, ◌⊎◌}
 use Rattle.std.proofs.lemmas.Bool.{cases_order}
 use Rattle.std.proofs.lemmas.List.{get_or_default}
 use Rattle.std.proofs.lemmas.List.Elements.{All-contains}
-use Rattle.std.specs.Int.Signed.{lt_z_yes}
-use Rattle.refute_tests.specs.Clearing.{starts_early}
 use Rattle.trace_types.specs.Parts.{by_number}
-use Rattle.trace_types.specs.Refuting.{HasBoth, StartsEarly}
+use Rattle.trace_types.specs.Refuting.{HasBoth}
 use Rattle.trace_types.specs.declared.named_segment.NamedSegment.{NamedSegment}
 use Rattle.trace_types.specs.declared.named_trace.NamedTrace.{NamedTrace}
 use Rattle.counterexamples.specs.inner.Named.{AreOf, HasNone, HasNotBoth}
-
-pub early_means : (t : NamedTrace) (s u : NamedSegment) → starts_early t.grace u s ≡ true → StartsEarly by_number t u s
-early_means t s u h = lt_z_yes (subst T (sym h) tt)
-
-is_true : (b : Bool) → T b → b ≡ true
-is_true true h = refl
-is_true false h = absurd h
-
-pub early_from : (t : NamedTrace) (s u : NamedSegment) → StartsEarly by_number t u s → starts_early t.grace u s ≡ true
-early_from t s u h = is_true (starts_early t.grace u s) h.lt
 
 -- a trace that lacks a name has not both
 pub lacks_first : (trace : NamedTrace) (first second : ℕ) → HasNone trace first → HasNotBoth trace first second

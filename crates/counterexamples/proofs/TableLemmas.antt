@@ -1,14 +1,13 @@
 -- A table of first refuters: its bits, words and rows.
 use Rattle.std.proofs.Common.{◌≡◌, ℕ, zero, suc, ◌+◌, ◌-◌, ◌<◌, ◌≤◌, ◌^◌, min, bit_and, get_or, Bool, true, false, ◌&&◌, ◌||◌, ◌==◌, cond, List, [], ◌∷◌, length, replicate, Option, Some, None, arith, refl, sym, ap, ◌∙◌, subst, ⊎_elim, get_or-set_same, get_or-set_other, length-set}
 use Rattle.std.specs.Option.{option_or}
-use Rattle.std.specs.Prelude.{nat_lt, slice_get, slice_set}
+use Rattle.std.specs.Prelude.{slice_get, slice_set}
 use Rattle.std.specs.Int.{bit_at, bit_not, w64}
-use Rattle.std.proofs.lemmas.Bool.{cases_eq, cases_lt, eq-eqb, ltb-true, ne_eqb}
-use Rattle.std.proofs.lemmas.List.Folds.{list_all_at}
+use Rattle.std.proofs.lemmas.Bool.{cases_eq, cases_lt, eq-eqb, ne_eqb}
 use Rattle.std.proofs.lemmas.List.FromFn.{get_or-map-range_with_len}
 use Rattle.std.proofs.lemmas.Nat.Bits.{bit_at-lt, bit_at-zero, bit_at_and, bit_at_not, bit_at_ones}
 use Rattle.word_rows.specs.declared.entries.Entry.{Entry}
-use Rattle.word_rows.specs.Rows.{below, entry_clears}
+use Rattle.word_rows.specs.Rows.{entry_clears}
 use Rattle.counterexamples.specs.declared.finding.Finding.{Finding}
 use Rattle.counterexamples.specs.declared.word_refuters.WordRefuters.{WordRefuters}
 use Rattle.counterexamples.specs.inner.Tables.{AreChosen, finding_at, noted, noted_at, noted_bits, table_of}
@@ -95,14 +94,6 @@ pub word_left : (w : WordRefuters) → w.left ≡ 18446744073709551615 → (b : 
 word_left w full b h = let e : bit_at w.left b ≡ 1 = ap (λ (k : ℕ). bit_at k b) full ∙ bit_at_ones 64 b h in ap (λ (k : ℕ). cond (k == 1) None (Some (finding_at w.findings b))) e
 
 -- ---- the entries of a row, one after another
-
--- each entry's word is below the width of the row
-pub entry_below : (n : ℕ) (row : List Entry) (at : ℕ) (d : Entry) → below n row ≡ true → at < length row → (get_or row at d).word < n
-entry_below n row at d all inside = by (nat_lt (get_or row at d).word n) refl
-  where
-    by : (b : Bool) → nat_lt (get_or row at d).word n ≡ b → (get_or row at d).word < n
-    by true e = ltb-true (get_or row at d).word n e
-    by false e = absurd (let f : below n row ≡ false = list_all_at (λ (x : Entry). nat_lt x.word n) row at d inside e in let g : true ≡ false = sym all ∙ f in cc)
 
 slice_get_set_same : {X : Type 0} (xs : List X) (i : ℕ) (x : X) → i < length xs → slice_get (slice_set xs i x) i ≡ Some x
 slice_get_set_same [] i x h = absurd (omega arith)

@@ -8,15 +8,8 @@ use Rattle.std.proofs.lemmas.List.Elements.{All-contains, All-get_or, Contains-g
 use Rattle.std.proofs.lemmas.List.Sums.{sum_by-cons}
 use Rattle.weighted_dag.specs.Graphs.{Graph, IsGraph, IsEdge, order_of, weight_of, successors_of}
 use Rattle.weighted_dag.specs.Chains.{IsChain, chain_length, NoneIsLonger, IsLongest, IsLongestLength, IsBefore, IsLongestFrom}
+use Rattle.weighted_dag.proofs.LengthLemmas.{none_longer_than}
 use Rattle.critical_path.specs.inner.Walks.{IsFirstIndexOf, IsFirstLongest, IsFirstAfter}
-
--- no chain is longer than the longest length
-none_longer_than : (g : Graph) (n : ℕ) → IsLongestLength g n → NoneIsLonger g n
-none_longer_than g n top c h =
-    let best : IsLongest g top.0 = top.1 in
-    let is : chain_length g top.0 ≡ n = top.2 in
-    let up = best.none_longer c h in
-    omega arith
 
 module _ (g : Graph) (form : IsGraph g) (lengths : List ℕ) (n : ℕ) (longest : (v : ℕ) → v < order_of g → IsLongestFrom g v (get_or lengths v 0)) where
   -- a vertex weighs no more than the chains that begin with it are long

@@ -1,10 +1,13 @@
 -- Lists of days: one more, one less, the newest.
-use Rattle.std.proofs.Common.{◌≡◌, ◌≢◌, ℕ, zero, suc, ◌+◌, ◌<◌, ◌≤◌, inl, inr, Bool, true, false, ◌||◌, ◌==◌, nat_lt, cond, if◌then◌else◌, List, [], ◌∷◌, ◌++◌, length, get_or, set, insert, All, AllPairs, refl, sym, ap, ◌∙◌, subst, arith, length-append}
-use Rattle.std.proofs.lemmas.Bool.{cases_lt, cases_order, lt-ltb, le-ltb, eq-eqb, ne_eqb, cond-true, cond-false}
+use Rattle.std.proofs.Common.{◌≡◌, ◌≢◌, ℕ, zero, suc, ◌+◌, ◌<◌, ◌≤◌, inl, inr, Bool, true, false, ◌||◌, ◌==◌, nat_lt, cond, if◌then◌else◌, List, [], ◌∷◌, ◌++◌, length, get_or, set, insert, All, AllPairs, refl, sym, ap, ◌∙◌, subst, arith, length-append, not}
+use Rattle.std.proofs.lemmas.Bool.{cases_lt, cases_order, lt-ltb, le-ltb, eq-eqb, ne_eqb, cond-true, cond-false, cond_both}
 use Rattle.std.proofs.lemmas.List.Elements.{All-nil, All-cons, All-head, All-tail, All-weaker}
 use Rattle.std.specs.List.{prefix_len}
 use Rattle.trace_types.specs.declared.named_trace.NamedTrace.{NamedTrace}
-use Rattle.day_partitions.specs.Books.{KeptDay, kept_day, all_traces, has_day, AreRising, with_day_traces}
+use Rattle.std.specs.Prelude.{sum_by, if◌then◌else◌}
+use Rattle.std.proofs.lemmas.List.Concat.{length-flat_map}
+use Rattle.std.proofs.lemmas.List.Filters.{sum_by-filter_both}
+use Rattle.day_partitions.specs.Books.{KeptDay, kept_day, all_traces, has_day, AreRising, with_day_traces, days_without}
 
 -- ---- pairs of a list
 module _ {X : Type 0} (R : X → X → Type 0) where
@@ -177,3 +180,24 @@ count_with d ts (k ∷ ks) r = elim (cases_order k.day d) [
     more : (b : Bool) (n m : ℕ) → m ≡ cond b n (n + 1) → suc m ≡ cond b (suc n) (suc n + 1)
     more true n m e = ap suc e
     more false n m e = omega arith
+
+abbrev pub traces_in : KeptDay → ℕ
+traces_in k = length k.traces
+
+pub traces_sum : (ks : List KeptDay) → length (all_traces ks) ≡ sum_by traces_in ks
+traces_sum ks = length-flat_map (λ (k : KeptDay). k.traces) ks
+
+pub with_count : (day : ℕ) (ts : List NamedTrace) (ks : List KeptDay) → length (all_traces (with_day_traces day ts ks)) ≡ length (all_traces ks) + length ts
+with_count day ts [] = omega (arith, length-append ts [])
+with_count day ts (k ∷ ks) =
+    let P : List KeptDay → Type 0 = λ l. length (all_traces l) ≡ length (all_traces (k ∷ ks)) + length ts in
+    cond_both (nat_lt k.day day) (k ∷ with_day_traces day ts ks) (if k.day == day then kept_day day (k.traces ++ ts) ∷ ks else kept_day day ts ∷ k ∷ ks) P
+    (λ _. let h = with_count day ts ks in omega (arith, length-append k.traces (all_traces (with_day_traces day ts ks)), length-append k.traces (all_traces ks)))
+    (λ _. cond_both (k.day == day) (kept_day day (k.traces ++ ts) ∷ ks) (kept_day day ts ∷ k ∷ ks) P
+    (λ _. omega (arith, length-append (k.traces ++ ts) (all_traces ks), length-append k.traces ts, length-append k.traces (all_traces ks)))
+    (λ _. omega (arith, length-append ts (k.traces ++ all_traces ks), length-append k.traces (all_traces ks))))
+
+pub without_count : (day : ℕ) (ks : List KeptDay) → length (all_traces (days_without day ks)) ≤ length (all_traces ks)
+without_count day ks =
+    let both = sum_by-filter_both (λ (k : KeptDay). not (k.day == day)) (λ (k : KeptDay). not (not (k.day == day))) (λ _. refl) traces_in ks in
+    omega (arith, traces_sum (days_without day ks), traces_sum ks, both)

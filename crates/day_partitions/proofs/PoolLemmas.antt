@@ -1,13 +1,11 @@
 -- What a pool has once a row was written, taken or given back.
-use Rattle.std.proofs.Common.{◌≡◌, ◌≢◌, ℕ, ◌+◌, List, Option, Some, None, is_some, IsSome, refl, ap, sym, ◌∙◌, subst, inl, inr, ◌⊎◌, rules, arith}
-use Rattle.std.proofs.lemmas.Bool.{cases_eq, false≢true}
+use Rattle.std.proofs.Common.{◌≡◌, ◌≢◌, ℕ, ◌+◌, List, Some, None, IsSome, ap, sym, ◌∙◌, subst, inl, inr, ◌⊎◌, rules, arith}
+use Rattle.std.proofs.lemmas.Bool.{cases_eq}
 use Rattle.std.specs.Ordering.{nat_cmp}
 use Rattle.std.specs.FinMap.{FinMap, get, insert, remove, len, gets, empty_of_len, get-empty}
 use Rattle.row_pool.specs.Pools.{words_or_none}
-use Rattle.row_pool.specs.Pools.{Pool, LiveRows, IsLive, row_at, with_row}
-
-not_there : {X : Type 0} {o : Option X} → o ≡ None → IsSome o → ⊥
-not_there e there = Prim.search rules
+use Rattle.row_pool.specs.Pools.{Pool, IsLive, row_at}
+use Rattle.row_pool.proofs.MapLemmas.{not_there}
 
 module _ {X : Type 0} where
   pub get-insert_same : (m : FinMap nat_cmp X) (k : ℕ) (v : X) → get (insert m k v) k ≡ Some v
@@ -44,25 +42,5 @@ pub row_at-is : (p : Pool) (i : ℕ) (xs : List ℕ) → get p.rows i ≡ Some x
 unfolding row_at
 row_at-is p i xs e = ap words_or_none e
 
-pub row_at-same : (p : Pool) (i : ℕ) (xs : List ℕ) → row_at (with_row p i xs) i ≡ xs
-row_at-same p i xs = row_at-is (with_row p i xs) i xs (get-insert_same p.rows i xs)
-
-pub row_at-other : (p : Pool) (i : ℕ) (xs : List ℕ) (q : ℕ) → q ≢ i → row_at (with_row p i xs) q ≡ row_at p q
-row_at-other p i xs q other = row_at-kept p (with_row p i xs) q (get-insert_other p.rows i xs q other)
-
-pub live-insert_same : (m : LiveRows) (i : ℕ) (xs : List ℕ) → IsSome (get (insert m i xs) i)
-live-insert_same m i xs = subst (λ o. IsSome o) (sym (get-insert_same m i xs)) refl
-
-pub live-with : (p : Pool) (i : ℕ) (xs : List ℕ) (q : ℕ) → IsLive p q → IsLive (with_row p i xs) q
-live-with p i xs q live =
-    elim (cases_eq q i) [
-      | inl same ↦ subst (λ j. IsLive (with_row p i xs) j) (sym same) (live-insert_same p.rows i xs)
-      | inr other ↦ subst (λ o. IsSome o) (sym (get-insert_other p.rows i xs q other)) live
-    ]
-
 pub live-kept : (p q : Pool) (i : ℕ) → get q.rows i ≡ get p.rows i → IsLive p i → IsLive q i
 live-kept p q i e live = subst (λ o. IsSome o) (sym e) live
-
--- an id that was not live differs from one that was
-pub apart-new : (m : LiveRows) (i q : ℕ) → get m i ≡ None → IsSome (get m q) → q ≢ i
-apart-new m i q none live same = absurd (false≢true (ap is_some (sym none ∙ ap (get m) (sym same)) ∙ live))

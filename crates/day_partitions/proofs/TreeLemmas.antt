@@ -7,9 +7,9 @@ use Rattle.std.specs.Option.{option_map}
 use Rattle.std.specs.FinMap.{get}
 use Rattle.word_rows.specs.Words.{IsCommon}
 use Rattle.row_pool.specs.Pools.{Pool, row_at, with_row, with_row_taken, without_row}
+use Rattle.row_pool.proofs.CallerLemmas.{row_at-same}
 use Rattle.day_partitions.specs.inner.Trees.{TreeState, tree, IsMetLeaf, leaf_words}
 use Rattle.day_partitions.specs.inner.Nodes.{id_at, owns_row, AreRows, AreMetBut, ChangesInner, IsTree, leaf_rows, tree_of}
-use Rattle.day_partitions.proofs.PoolLemmas.{row_at-same}
 use Rattle.day_partitions.proofs.PlaceLemmas.{id_inner, own_inner}
 use Rattle.day_partitions.proofs.ClimbLemmas.{common_of, rows_with, row_stays}
 use Rattle.day_partitions.proofs.LeafLemmas.{KeepsRows, get_rows, leaves_stay, met_but, leaf_changed, filled, leaf_put, leaf_removed, other_row, swapped_nodes, swapped_leaves, swapped_leaf, swapped_other, swapped_mine, rows_swapped, id_there}

@@ -7,6 +7,7 @@ use Rattle.std.specs.Option.{option_map}
 use Rattle.std.specs.FinMap.{get}
 use Rattle.word_rows.specs.Words.{IsCommon, bit_of, full_words as full, widened_words as widened}
 use Rattle.row_pool.specs.Pools.{Pool, pool, IsLive, row_at, IsWider}
+use Rattle.trace_types.proofs.ElementLemmas.{map_same}
 use Rattle.day_partitions.specs.inner.Trees.{TreeState, tree, widened_tree}
 use Rattle.day_partitions.specs.inner.Nodes.{id_at, owns_row, AreMade, IsTree, leaf_rows, tree_of}
 use Rattle.day_partitions.proofs.PoolLemmas.{row_at-kept, row_at-is}
@@ -109,14 +110,6 @@ pub by_result : {A E : Type 0} (r : Result A E) (P Q R : Type 0) → (P → R) �
 by_result (Ok a) P Q R f g ok err = f ok
 by_result (Err e) P Q R f g ok err = g err
 
-pub on_ok : {A E : Type 0} (r : Result A E) (P Q : Type 0) → (P → Q) → OnOk r P → OnOk r Q
-on_ok (Ok a) P Q f h = f h
-on_ok (Err e) P Q f h = h
-
-pub on_err : {A E : Type 0} (r : Result A E) (P Q : Type 0) → (P → Q) → OnErr r P → OnErr r Q
-on_err (Ok a) P Q f h = h
-on_err (Err e) P Q f h = f h
-
 -- ---- other numbers of spare rows
 pub tree_spare : (p : Pool) (nodes : List ℕ) (ls : List (Option ℕ)) (s : ℕ) → IsTree p nodes ls → IsTree (pool p.width p.rows s) nodes ls
 tree_spare p nodes ls s t =
@@ -138,10 +131,6 @@ tree_spare p nodes ls s t =
 option_same : (f g : ℕ → List ℕ) → ((i : ℕ) → f i ≡ g i) → (o : Option ℕ) → option_map f o ≡ option_map g o
 option_same f g same None = refl
 option_same f g same (Some x) = ap Some (same x)
-
-map_same : {X Y : Type 0} (f g : X → Y) → ((x : X) → f x ≡ g x) → (xs : List X) → map f xs ≡ map g xs
-map_same f g same [] = refl
-map_same f g same (x ∷ xs) = ap (λ y. y ∷ map f xs) (same x) ∙ ap (λ ys. g x ∷ ys) (map_same f g same xs)
 
 pub leaves_spare : (p : Pool) (ls : List (Option ℕ)) (s : ℕ) → leaf_rows (pool p.width p.rows s) ls ≡ leaf_rows p ls
 leaves_spare p ls s = map_same _ _ (option_same _ _ (λ i. row_at-kept p (pool p.width p.rows s) i refl)) ls

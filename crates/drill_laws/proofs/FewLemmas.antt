@@ -4,15 +4,10 @@ use Rattle.std.specs.Prelude.{All, Contains, filter}
 use Rattle.std.specs.Bool.{Decides}
 use Rattle.std.specs.Cmp.{IsEquivalence, both_ways}
 use Rattle.std.specs.List.{AllByRecursion, IsDistinct}
-use Rattle.std.proofs.lemmas.List.Elements.{All-cons, All-contains, All-filter, All-head, All-nil, All-tail}
+use Rattle.std.proofs.lemmas.List.Elements.{All-contains}
 use Rattle.std.proofs.lemmas.Map.Made.{is_member-Decides, length-le_from_is_member}
 use Rattle.trace_types.specs.Firsts.{firsts_of}
-
-pub firsts_all : {X : Type 0} (P : X → Type 0) (same : X → X → Bool) (xs : List X) → All P xs → All P (firsts_of same xs)
-firsts_all P same [] h = All-nil P
-firsts_all P same (x ∷ xs) h =
-    All-cons P x (filter (λ y. not (same x y)) (firsts_of same xs)) (All-head P x xs h)
-    (All-filter (λ y. not (same x y)) P (firsts_of same xs) (firsts_all P same xs (All-tail P x xs h)))
+use Rattle.trace_types.proofs.ShortLemmas.{firsts_all}
 
 module _ {X : Type 0} (same : X → X → Bool) (exact : (x y : X) → Decides (same x y) (x ≡ y)) where
   equal : IsEquivalence same

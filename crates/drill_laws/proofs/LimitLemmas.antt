@@ -1,5 +1,5 @@
 -- The traces of a drill have few names and tasks, and are of few days.
-use Rattle.std.proofs.Common.{◌≡◌, ◌≢◌, ℕ, zero, suc, ◌+◌, ◌/◌, ◌<◌, ◌≤◌, ◌&&◌, List, [], ◌∷◌, ◌++◌, Bool, true, false, Result, Ok, Err, length, map, take, refl, sym, ap, subst, arith}
+use Rattle.std.proofs.Common.{◌≡◌, ◌≢◌, ℕ, zero, suc, ◌+◌, ◌/◌, ◌<◌, ◌≤◌, ◌&&◌, List, [], ◌∷◌, Bool, true, false, Result, Ok, Err, length, map, take, refl, sym, ap, subst, arith}
 use Rattle.std.specs.Prelude.{All, Contains, ℤ, flat_map, nat_eq, nat_le, if◌then◌else◌}
 use Rattle.std.specs.Bool.{Decides}
 use Rattle.std.specs.List.{AllZip, range_with_len}
@@ -22,6 +22,8 @@ use Rattle.trace_types.specs.Segments.{SegmentName, name_of, task_of}
 use Rattle.trace_types.specs.declared.event.Event.{Event}
 use Rattle.trace_types.specs.declared.segment.Segment.{Segment}
 use Rattle.trace_types.specs.declared.trace.Trace.{Trace}
+use Rattle.trace_types.proofs.ListingLemmas.{Contains-cons, cons_here}
+use Rattle.trace_types.proofs.ElementLemmas.{contains_map, Contains-flat_map, mapped_all}
 use Rattle.drill_laws.proofs.FewLemmas.{few_firsts}
 use Rattle.drill_laws.proofs.InputLemmas.{IsDrillEvent, event_pairs}
 
@@ -43,31 +45,6 @@ some_names = flat_map (λ (p : List ℕ × List ℕ). map (λ (q : List ℕ × L
 abbrev some_days : List ℕ
 some_days = 0 ∷ range_with_len 19800 20
 
-contains_here : {X : Type 0} (x : X) (xs : List X) → Contains (x ∷ xs) x
-contains_here x xs = (0, omega arith, refl)
-
-contains_later : {X : Type 0} (y : X) (xs : List X) (x : X) → Contains xs x → Contains (y ∷ xs) x
-contains_later y xs x (k, within, is) = (suc k, omega arith, is)
-
-contains_map : {X Y : Type 0} (f : X → Y) (xs : List X) (x : X) → Contains xs x → Contains (map f xs) (f x)
-contains_map f [] x (k, within, is) = absurd (omega arith)
-contains_map {X} {Y} f (y ∷ xs) x (zero, within, is) = subst (λ (z : Y). Contains (map f (y ∷ xs)) z) (ap f is) (contains_here (f y) (map f xs))
-contains_map f (y ∷ xs) x (suc k, within, is) = contains_later (f y) (map f xs) (f x) (contains_map f xs x (k, omega arith, is))
-
-contains_left : {X : Type 0} (xs ys : List X) (x : X) → Contains xs x → Contains (xs ++ ys) x
-contains_left [] ys x (k, within, is) = absurd (omega arith)
-contains_left {X} (y ∷ xs) ys x (zero, within, is) = subst (λ (z : X). Contains ((y ∷ xs) ++ ys) z) is (contains_here y (xs ++ ys))
-contains_left (y ∷ xs) ys x (suc k, within, is) = contains_later y (xs ++ ys) x (contains_left xs ys x (k, omega arith, is))
-
-contains_right : {X : Type 0} (xs ys : List X) (x : X) → Contains ys x → Contains (xs ++ ys) x
-contains_right [] ys x h = h
-contains_right (y ∷ xs) ys x h = contains_later y (xs ++ ys) x (contains_right xs ys x h)
-
-contains_flat_map : {X Y : Type 0} (f : X → List Y) (xs : List X) (x : X) (y : Y) → Contains xs x → Contains (f x) y → Contains (flat_map f xs) y
-contains_flat_map f [] x y (k, within, is) h = absurd (omega arith)
-contains_flat_map {X} f (z ∷ xs) x y (zero, within, is) h = contains_left (f z) (flat_map f xs) y (subst (λ (w : X). Contains (f w) y) (sym is) h)
-contains_flat_map f (z ∷ xs) x y (suc k, within, is) h = contains_right (f z) (flat_map f xs) y (contains_flat_map f xs x y (k, omega arith, is) h)
-
 not_same : (a d : ℕ) → nat_eq a d ≡ false → a ≢ d
 not_same a d f same = cc (f, eq-eqb a d same)
 
@@ -76,21 +53,21 @@ contains_range a zero d low high = absurd (omega arith)
 contains_range a (suc n) d low high = by (nat_eq a d) refl (contains_range (a + 1) n d)
   where
     by : (b : Bool) → nat_eq a d ≡ b → (a + 1 ≤ d → d < a + 1 + n → Contains (range_with_len (a + 1) n) d) → Contains (range_with_len a (suc n)) d
-    by true e later = subst (λ (m : ℕ). Contains (range_with_len a (suc n)) m) (eqb-true a d e) (contains_here a (range_with_len (a + 1) n))
-    by false e later = let ne : a ≢ d = not_same a d e in contains_later a (range_with_len (a + 1) n) d (later (omega arith) (omega arith))
+    by true e later = subst (λ (m : ℕ). Contains (range_with_len a (suc n)) m) (eqb-true a d e) (cons_here a (range_with_len (a + 1) n))
+    by false e later = let ne : a ≢ d = not_same a d e in Contains-cons a (range_with_len (a + 1) n) d (later (omega arith) (omega arith))
 
 -- ---- events
 
 pair_at : (events : List Event) (i : ℕ) → All IsDrillEvent events → Contains some_pairs (task_at events i, event_name_at events i)
-pair_at [] i h = contains_here ([], []) event_pairs
-pair_at (e ∷ events) zero h = contains_later ([], []) event_pairs (e.task, e.event) (All-head IsDrillEvent e events h).pair
+pair_at [] i h = cons_here ([], []) event_pairs
+pair_at (e ∷ events) zero h = Contains-cons ([], []) event_pairs (e.task, e.event) (All-head IsDrillEvent e events h).pair
 pair_at (e ∷ events) (suc i) h = pair_at events i (All-tail IsDrillEvent e events h)
 
 day_at : (events : List Event) → All IsDrillEvent events → Contains some_days (time_at events 0 / 86400000000000)
-day_at [] h = contains_here 0 (range_with_len 19800 20)
+day_at [] h = cons_here 0 (range_with_len 19800 20)
 day_at (e ∷ events) h =
     let good = All-head IsDrillEvent e events h in
-    contains_later 0 (range_with_len 19800 20) (e.time / 86400000000000) (contains_range 19800 20 (e.time / 86400000000000) (omega (arith, good.from)) (omega (arith, good.until)))
+    Contains-cons 0 (range_with_len 19800 20) (e.time / 86400000000000) (contains_range 19800 20 (e.time / 86400000000000) (omega (arith, good.from)) (omega (arith, good.until)))
 
 -- ---- segments and traces
 
@@ -110,7 +87,7 @@ segment_of_drill events times places s h is =
     let p : List ℕ × List ℕ = (task_at events places.0, event_name_at events places.0) in
     let q : List ℕ × List ℕ = (task_at events places.1, event_name_at events places.1) in
     record {
-      name = rw (is.task, is.start_event, is.end_event) (contains_flat_map (λ (x : List ℕ × List ℕ). map (λ (y : List ℕ × List ℕ). (x.0, x.1, y.1)) some_pairs) some_pairs p (p.0, p.1, q.1) first (contains_map (λ (y : List ℕ × List ℕ). (p.0, p.1, y.1)) some_pairs q second));
+      name = rw (is.task, is.start_event, is.end_event) (Contains-flat_map (λ (x : List ℕ × List ℕ). map (λ (y : List ℕ × List ℕ). (x.0, x.1, y.1)) some_pairs) some_pairs p (p.0, p.1, q.1) first (contains_map (λ (y : List ℕ × List ℕ). (p.0, p.1, y.1)) some_pairs q second));
       task = rw is.task (contains_map (λ (x : List ℕ × List ℕ). x.0) some_pairs p first);
     }
 
@@ -167,20 +144,16 @@ all_segments : (ts : List Trace) → All IsDrillTrace ts → All IsDrillSegment 
 all_segments [] h = All-nil IsDrillSegment
 all_segments (t ∷ ts) h = All-append IsDrillSegment t.segments (flat_map (λ (u : Trace). u.segments) ts) (All-head IsDrillTrace t ts h).segments (all_segments ts (All-tail IsDrillTrace t ts h))
 
-mapped : {X Y : Type 0} (P : X → Type 0) (Q : Y → Type 0) (f : X → Y) (xs : List X) → ((x : X) → P x → Q (f x)) → All P xs → All Q (map f xs)
-mapped P Q f [] each h = All-nil Q
-mapped P Q f (x ∷ xs) each h = All-cons Q (f x) (map f xs) (each x (All-head P x xs h)) (mapped P Q f xs each (All-tail P x xs h))
-
 taken : (n : ℕ) (ts : List Trace) → All IsDrillTrace ts → All IsDrillTrace (take n ts)
 taken zero ts h = All-nil IsDrillTrace
 taken (suc n) [] h = All-nil IsDrillTrace
 taken (suc n) (t ∷ ts) h = All-cons IsDrillTrace t (take n ts) (All-head IsDrillTrace t ts h) (taken n ts (All-tail IsDrillTrace t ts h))
 
 few_names : (ts : List Trace) → All IsDrillTrace ts → length (with_traces first_state.known ts).names ≤ 144
-few_names ts h = few_firsts same_name name_exact (map name_of (flat_map (λ (t : Trace). t.segments) ts)) some_names (mapped IsDrillSegment (Contains some_names) name_of _ (λ s g. g.name) (all_segments ts h))
+few_names ts h = few_firsts same_name name_exact (map name_of (flat_map (λ (t : Trace). t.segments) ts)) some_names (mapped_all IsDrillSegment (Contains some_names) name_of _ (λ s g. g.name) (all_segments ts h))
 
 few_tasks : (ts : List Trace) → All IsDrillTrace ts → length (with_traces first_state.known ts).tasks ≤ 12
-few_tasks ts h = few_firsts bytes_eq bytes_eq-Decides (map task_of (flat_map (λ (t : Trace). t.segments) ts)) some_tasks (mapped IsDrillSegment (Contains some_tasks) task_of _ (λ s g. g.task) (all_segments ts h))
+few_tasks ts h = few_firsts bytes_eq bytes_eq-Decides (map task_of (flat_map (λ (t : Trace). t.segments) ts)) some_tasks (mapped_all IsDrillSegment (Contains some_tasks) task_of _ (λ s g. g.task) (all_segments ts h))
 
 -- ---- days
 
@@ -200,8 +173,8 @@ module _ (P : Kept → Type 0) where
 few_days : (ts : List Trace) → All IsDrillTrace ts → length (days_of (kept_after first_state ts)) ≤ 21
 few_days ts h =
     let P : Kept → Type 0 = λ k. Contains some_days (day_of k) in
-    let kept = all_taken P [] (graced first_state ts) (All-nil P) (mapped IsDrillTrace P (kept_with 0) ts (λ t g. g.day) h) in
-    few_firsts nat_eq number_exact (map day_of (kept_after first_state ts)) some_days (mapped P (Contains some_days) day_of (kept_after first_state ts) (λ k g. g) kept)
+    let kept = all_taken P [] (graced first_state ts) (All-nil P) (mapped_all IsDrillTrace P (kept_with 0) ts (λ t g. g.day) h) in
+    few_firsts nat_eq number_exact (map day_of (kept_after first_state ts)) some_days (mapped_all P (Contains some_days) day_of (kept_after first_state ts) (λ k g. g) kept)
 
 -- ---- an add of a drill
 

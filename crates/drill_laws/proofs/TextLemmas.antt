@@ -1,21 +1,20 @@
 -- Texts that stand for themselves in a line of a drill.
-use Rattle.std.proofs.Common.{◌≡◌, ℕ, zero, suc, ◌≤◌, ◌<◌, ◌^◌, ◌==◌, ◌&&◌, ◌||◌, not, List, [], ◌∷◌, ◌++◌, Bool, true, false, length, decimal, refl, ap, ◌∙◌, arith, rules, eq-eqb}
+use Rattle.std.proofs.Common.{◌≡◌, ℕ, zero, suc, ◌≤◌, ◌<◌, ◌^◌, ◌==◌, ◌&&◌, ◌||◌, not, List, [], ◌∷◌, ◌++◌, Bool, true, false, length, decimal, refl, ap, ◌∙◌, arith, eq-eqb}
 use Rattle.std.specs.Prelude.{All, nat_le, nat_lt}
 use Rattle.std.specs.Char.{is_ascii_digit}
 use Rattle.std.specs.List.{list_all, list_any}
 use Rattle.std.specs.Str.{IsAscii, is_utf8}
-use Rattle.std.specs.Str.Parse.{digits_value}
 use Rattle.std.proofs.lemmas.Bool.{and_parts, or_from, leb-true, le-ltb, le-leb, ne_eqb}
 use Rattle.std.proofs.lemmas.Fmt.{digits_decimal, length-decimal-le}
 use Rattle.std.proofs.lemmas.List.Elements.{All-cons, All-nil}
 use Rattle.std.proofs.lemmas.List.Folds.{list_all-append}
 use Rattle.std.proofs.lemmas.List.Splits.{slice_split_none}
 use Rattle.std.proofs.lemmas.Str.{IsUtf8-from_ascii, is_utf8-from_IsUtf8}
-use Rattle.std.proofs.lemmas.Str.Parse.{IsNumeralModel, numerals_by_value}
 use Rattle.json.specs.Print.{escape}
 use Rattle.json.proofs.Printed.Strings.{escape_byte_plain}
 use Rattle.event_lines.specs.Cut.{input_lines, is_line_feed}
 use Rattle.event_lines.specs.EventFaults.{is_bad_text, is_control_character}
+use Rattle.trace_types.proofs.DecimalLemmas.{decimal_numerals}
 
 -- a printable ASCII character
 abbrev pub is_printable : ℕ → Bool
@@ -81,9 +80,6 @@ printable_utf8 s h = is_utf8-from_IsUtf8 s (IsUtf8-from_ascii s (ascii s h))
 
 -- ---- decimals
 
-own : IsNumeralModel (λ ds. list_all is_ascii_digit ds ≡ true) (digits_value 10)
-own = numerals_by_value (λ ds. list_all is_ascii_digit ds ≡ true) (search rules)
-
 digit_plain : (b : ℕ) → is_ascii_digit b ≡ true → (is_plain_byte b ≡ true) × (is_control_character b ≡ false)
 digit_plain b h =
     let p = and_parts (nat_le 48 b) (nat_le b 57) h in
@@ -104,13 +100,13 @@ digits_plain (b ∷ ds) h =
     ((λ i. one.0 i && more.0 i), or_from (is_control_character b) (list_any is_control_character ds) one.1 more.1)
 
 pub decimal_printable : (n : ℕ) → n < 2 ^ 64 → list_all is_printable (decimal n) ≡ true
-decimal_printable n h = printable_plain (decimal n) (digits_plain (decimal n) (digits_decimal own n h)).0
+decimal_printable n h = printable_plain (decimal n) (digits_plain (decimal n) (digits_decimal decimal_numerals n h)).0
 
 -- the request of a trace
 pub request_plain : (k : ℕ) → k < 20000 → IsPlain (114 ∷ decimal k)
 request_plain k few =
     let wide : k < 2 ^ 64 = omega arith in
-    let digits = digits_plain (decimal k) (digits_decimal own k wide) in
+    let digits = digits_plain (decimal k) (digits_decimal decimal_numerals k wide) in
     let short : length (decimal k) ≤ 5 = length-decimal-le 5 k (omega arith) (omega arith) wide in
     let some : (length (114 ∷ decimal k) == 0) ≡ false = ne_eqb (length (114 ∷ decimal k)) 0 (λ e. omega arith) in
     let within : nat_lt 64 (length (114 ∷ decimal k)) ≡ false = le-ltb 64 (length (114 ∷ decimal k)) (omega arith) in

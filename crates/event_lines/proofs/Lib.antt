@@ -1,3 +1,4 @@
+pub mod ClearLineLemmas
 pub mod CommandLemmas
 pub mod ConvertingLemmas
 pub mod CutLemmas

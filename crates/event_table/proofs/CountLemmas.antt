@@ -7,10 +7,11 @@ use Rattle.std.proofs.lemmas.List.{map-append, get_or-set_same, get_or-set_other
 use Rattle.std.proofs.lemmas.List.Elements.{filter-append}
 use Rattle.std.proofs.lemmas.List.Sums.{count_by-le-length, length-filter, sum_by-cons}
 use Rattle.trace_types.specs.Firsts.{firsts_of}
+use Rattle.trace_types.proofs.ComparingLemmas.{nat_means}
 use Rattle.event_table.specs.declared.event_numbers.EventNumbers.{EventNumbers}
 use Rattle.event_table.specs.inner.Placing.{AreCounted, request_numbers, with_request}
 use Rattle.event_table.specs.Texts.{AreDifferent}
-use Rattle.event_table.proofs.FirstLemmas.{any-firsts, apart_head, apart_tail, firsts-push, flips, means}
+use Rattle.event_table.proofs.FirstLemmas.{any-firsts, apart_head, apart_tail, firsts-push, flips}
 
 abbrev pub keys : List EventNumbers → List ℕ
 keys events = map (λ (e : EventNumbers). e.request) events
@@ -70,7 +71,7 @@ counted_more done event request requests counts more new so_far same within writ
 
     by : (other : ℕ) → other < length counts → (b : Bool) → nat_eq request other ≡ b → get_or new other 0 ≡ length (with_request (done ++ event ∷ []) other)
     by other lt true e =
-        let here : request ≡ other = means request other e in
+        let here : request ≡ other = nat_means request other e in
         let old : get_or counts request 0 ≡ length (with_request done request) = so_far.each request within in
         let grown : length (with_request (done ++ event ∷ []) request) ≡ length (with_request done request) + 1 = ap (λ (es : List EventNumbers). length es) (with_own done event request same) ∙ length_push (with_request done request) event in
         let now : get_or new request 0 ≡ get_or counts request 0 + 1 = ap (λ (xs : List ℕ). get_or xs request 0) written ∙ get_or-set_same counts request (get_or counts request 0 + 1) 0 within in
@@ -106,7 +107,7 @@ bits_apart key (request ∷ requests) apart = by (nat_eq key request) refl (bits
     by : (b : Bool) → nat_eq key request ≡ b → sum_by (bit key) requests ≤ 1 → sum_by (bit key) (request ∷ requests) ≤ 1
     by true e rest =
         let one : bit key request ≡ 1 = rw e refl in
-        let none = bits_none key requests (subst (λ (n : ℕ). list_any (nat_eq n) requests ≡ false) (sym (means key request e)) (apart_head request requests apart)) in
+        let none = bits_none key requests (subst (λ (n : ℕ). list_any (nat_eq n) requests ≡ false) (sym (nat_means key request e)) (apart_head request requests apart)) in
         omega (arith, sum_by-cons (bit key) request requests)
     by false e rest = let zero_bit : bit key request ≡ 0 = rw e refl in omega (arith, sum_by-cons (bit key) request requests)
 

@@ -6,12 +6,13 @@ use Rattle.std.proofs.lemmas.Bool.{eq-eqb}
 use Rattle.std.proofs.lemmas.List.{get_or_at, get_or-set_same, get_or-set_other, length-set, length-drop, length_push, drop-set-add, drop-set-lt, take-set-le, take_more_set}
 use Rattle.std.proofs.lemmas.List.Elements.{filter-append}
 use Rattle.std.proofs.lemmas.List.Sums.{sum_by-cons}
+use Rattle.trace_types.proofs.ComparingLemmas.{nat_means}
 use Rattle.event_table.specs.declared.event_numbers.EventNumbers.{EventNumbers}
 use Rattle.event_table.specs.inner.Cuts.{AreStops, cut_at}
 use Rattle.event_table.specs.inner.Placing.{AreFilled, AreStarts, HaveRequestsBelow, IsPlacing, ends_from, no_place, with_request}
 use Rattle.event_table.specs.Texts.{AreDifferent}
 use Rattle.event_table.proofs.CountLemmas.{with_other, with_own}
-use Rattle.event_table.proofs.FirstLemmas.{apart_head, apart_tail, means}
+use Rattle.event_table.proofs.FirstLemmas.{apart_head, apart_tail}
 
 -- the events of a request so far are some of all
 with_some : (done later : List EventNumbers) (request : ℕ) → length (with_request done request) ≤ length (with_request (done ++ later) request)
@@ -62,7 +63,7 @@ module _ (done all later : List EventNumbers) (event : EventNumbers) (all_is : a
           → (list_any (nat_eq event.request) requests ≡ true → (event.request < length next) × (start + length (with_request all request) ≤ get_or next event.request 0) × (get_or next event.request 0 < length out))
           → (event.request < length next) × (start ≤ get_or next event.request 0) × (get_or next event.request 0 < length out)
       by true e rest =
-          let same : event.request ≡ request = means event.request request e in
+          let same : event.request ≡ request = nat_means event.request request e in
           let p = past next out (start + length (with_request all request)) requests filled.3 in
           let f = fewer in
           let f' : length (with_request done request) < length (with_request all request) = subst (λ (r : ℕ). length (with_request done r) < length (with_request all r)) same f in
@@ -103,7 +104,7 @@ module _ (done all later : List EventNumbers) (event : EventNumbers) (all_is : a
           → (list_any (nat_eq event.request) requests ≡ true → AreFilled (done ++ event ∷ []) all (set next event.request (get_or next event.request 0 + 1)) (set out (get_or next event.request 0) event) (start + length (with_request all request)) requests)
           → AreFilled (done ++ event ∷ []) all (set next event.request (get_or next event.request 0 + 1)) (set out (get_or next event.request 0) event) start (request ∷ requests)
       by true e rest =
-          let same : event.request ≡ request = means event.request request e in
+          let same : event.request ≡ request = nat_means event.request request e in
           let own : with_request (done ++ event ∷ []) request ≡ with_request done request ++ event ∷ [] = with_own done event request same in
           let grown : length (with_request (done ++ event ∷ []) request) ≡ length (with_request done request) + 1 = ap (λ (es : List EventNumbers). length es) own ∙ length_push (with_request done request) event in
           let here : get_or next event.request 0 ≡ start + length (with_request done request) = ap (λ (r : ℕ). get_or next r 0) same ∙ filled.1 in
@@ -222,7 +223,7 @@ module _ (done all later : List EventNumbers) (event : EventNumbers) (requests n
       }
     where
       elsewhere : (request : ℕ) → request < length next → list_any (nat_eq request) requests ≡ false → (b : Bool) → nat_eq request event.request ≡ b → get_or (set next event.request (get_or next event.request 0 + 1)) request 0 ≡ no_place
-      elsewhere request below none true e = let same : request ≡ event.request = means request event.request e in absurd (true≢false (sym here ∙ ap (λ (r : ℕ). list_any (nat_eq r) requests) (sym same) ∙ none))
+      elsewhere request below none true e = let same : request ≡ event.request = nat_means request event.request e in absurd (true≢false (sym here ∙ ap (λ (r : ℕ). list_any (nat_eq r) requests) (sym same) ∙ none))
       elsewhere request below none false e =
           get_or-set_other next event.request request (get_or next event.request 0 + 1) 0 (λ (h : request ≡ event.request). true≢false (sym (eq-eqb request event.request h) ∙ e)) ∙ p.nowhere request below none
 

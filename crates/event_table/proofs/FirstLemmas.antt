@@ -1,21 +1,16 @@
 -- The order of first sight of numbers.
 use Rattle.std.proofs.Common.{◌≡◌, ◌≢◌, ℕ, suc, List, [], ◌∷◌, ◌++◌, get_or, filter, Bool, true, false, not, nat_eq, if◌then◌else◌, refl, sym, ap, ◌∙◌, subst, All, true≢false, append-nil, arith}
 use Rattle.std.specs.List.{list_any}
-use Rattle.std.proofs.lemmas.Bool.{eqb-true, eq-eqb, ne_eqb}
+use Rattle.std.proofs.lemmas.Bool.{eq-eqb, ne_eqb}
 use Rattle.std.proofs.lemmas.List.Elements.{All-cons, All-filter, All-weaker, filter-append, filter_passes}
 use Rattle.std.proofs.lemmas.List.Folds.{list_any_none}
 use Rattle.std.proofs.lemmas.List.Kept.{AllPairs-cons, AllPairs-filter}
 use Rattle.trace_types.specs.Firsts.{firsts_of}
+use Rattle.trace_types.proofs.ComparingLemmas.{nat_means}
 use Rattle.event_table.specs.Texts.{AreDifferent}
 
-pub own : (x : ℕ) → nat_eq x x ≡ true
-own x = eq-eqb x x refl
-
-pub means : (x y : ℕ) → nat_eq x y ≡ true → x ≡ y
-means x y h = eqb-true x y h
-
 pub flips : (x y : ℕ) (b : Bool) → nat_eq x y ≡ b → nat_eq y x ≡ b
-flips x y true e = let same = means x y e in eq-eqb y x (sym same)
+flips x y true e = let same = nat_means x y e in eq-eqb y x (sym same)
 flips x y false e = ne_eqb y x (λ (h : y ≡ x). true≢false (sym (eq-eqb x y (sym h)) ∙ e))
 
 -- a filter that loses none that passes p leaves whether some passes p
@@ -31,7 +26,7 @@ any-filter p q keeps (x ∷ xs) = by (q x) (p x) refl refl (any-filter p q keeps
 keeps : (x y : ℕ) → nat_eq x y ≡ false → (z : ℕ) → nat_eq x z ≡ true → not (nat_eq y z) ≡ true
 keeps x y e z h =
     let f : nat_eq y x ≡ false = flips x y false e in
-    let g : nat_eq y z ≡ false = subst (λ (w : ℕ). nat_eq y w ≡ false) (means x z h) f in
+    let g : nat_eq y z ≡ false = subst (λ (w : ℕ). nat_eq y w ≡ false) (nat_means x z h) f in
     rw g refl
 
 -- what is there is among the first

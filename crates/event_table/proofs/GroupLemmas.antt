@@ -6,13 +6,14 @@ use Rattle.std.proofs.lemmas.List.{drop_all, take_all}
 use Rattle.std.proofs.lemmas.List.Elements.{All-map, All-weaker}
 use Rattle.std.proofs.lemmas.List.Folds.{list_any_at}
 use Rattle.std.proofs.lemmas.List.Sums.{sum_by-cons}
+use Rattle.trace_types.proofs.ComparingLemmas.{nat_own}
 use Rattle.event_table.specs.declared.event_numbers.EventNumbers.{EventNumbers}
 use Rattle.event_table.specs.inner.Cuts.{AreStops, cut_at}
 use Rattle.event_table.specs.inner.Placing.{AreCounted, AreNowhere, AreSome, AreStarts, HaveRequestsBelow, IsPlacing, ends_from, groups_of, no_place, request_numbers, with_request}
 use Rattle.event_table.specs.Texts.{AreDifferent}
 use Rattle.event_table.proofs.CountLemmas.{any-count, few_events, keys}
 use Rattle.event_table.proofs.FillLemmas.{ends_stop, filled_cut, starts_filled}
-use Rattle.event_table.proofs.FirstLemmas.{any-firsts, firsts_all, firsts_apart, own}
+use Rattle.event_table.proofs.FirstLemmas.{any-firsts, firsts_all, firsts_apart}
 
 -- what a vector has after its slice was written
 pub written_back : {X : Type 0} (count : ℕ) (items new : List X) → length new ≡ length items → length items ≤ count → take count (new ++ drop (length new) items) ≡ new
@@ -31,7 +32,7 @@ same_sums f g (x ∷ xs) same =
 -- each request has an event
 pub requests_there : (all : List EventNumbers) → All (λ r. 0 < length (with_request all r)) (request_numbers all)
 requests_there all k d lt =
-    let found : list_any (nat_eq (get_or (request_numbers all) k d)) (request_numbers all) ≡ true = list_any_at (nat_eq (get_or (request_numbers all) k d)) (request_numbers all) k d lt (own (get_or (request_numbers all) k d)) in
+    let found : list_any (nat_eq (get_or (request_numbers all) k d)) (request_numbers all) ≡ true = list_any_at (nat_eq (get_or (request_numbers all) k d)) (request_numbers all) k d lt (nat_own (get_or (request_numbers all) k d)) in
     let some : not (length (with_request all (get_or (request_numbers all) k d)) == 0) ≡ true = sym (any-count (get_or (request_numbers all) k d) all) ∙ sym (any-firsts (get_or (request_numbers all) k d) (keys all)) ∙ found in
     positive (length (with_request all (get_or (request_numbers all) k d))) some
   where

@@ -2,8 +2,6 @@
 use Rattle.std.proofs.Common.{◌≡◌, ℕ, ◌+◌, ◌<◌, ◌≤◌, List, [], ◌∷◌, length, get_or, map, filter, Bool, true, false, not, refl, sym, arith}
 use Rattle.std.specs.Prelude.{All}
 use Rattle.std.specs.List.{AllPairs}
-use Rattle.std.specs.Str.{bytes_eq}
-use Rattle.std.proofs.lemmas.Slice.Eq.{bytes_eq-Decides}
 use Rattle.std.proofs.lemmas.List.{get_or-map, length-map}
 use Rattle.std.proofs.lemmas.List.Elements.{All-map, All-cons, All-filter, filter_passes}
 use Rattle.std.proofs.lemmas.List.Sums.{count_by-le-length, length-filter}
@@ -12,7 +10,7 @@ use Rattle.trace_types.specs.declared.event.Event.{Event}
 use Rattle.trace_types.specs.EventLines.{AreOfRequest, LinesRise}
 use Rattle.trace_types.specs.Times.{AreTimely, latest_time}
 use Rattle.trace_types.specs.Batch.{PlainTrace, is_of_request, events_of, requests_of, trace_of, traces_of}
-use Rattle.event_table.proofs.TextLemmas.{laws}
+use Rattle.trace_types.proofs.ComparingLemmas.{text_laws, text_means}
 
 abbrev IsBefore : Event → Event → Type 0
 IsBefore a b = a.line < b.line
@@ -35,11 +33,8 @@ rising-events_of : (request : List ℕ) (batch : List Event) → LinesRise batch
 rising-events_of request [] rising = rising
 rising-events_of request (first ∷ batch) rising = rising_from_pairs first (events_of request (first ∷ batch)) (AllPairs-filter IsBefore (is_of_request request) (first ∷ batch) (pairs_from_rising (first ∷ batch) rising))
 
-by_bytes : (a b : List ℕ) → bytes_eq a b ≡ true → a ≡ b
-by_bytes a b same = (bytes_eq-Decides a b).0 same
-
 of_request-events_of : (request : List ℕ) (batch : List Event) → AreOfRequest request (events_of request batch)
-of_request-events_of request batch k d within = by_bytes _ request (filter_passes (is_of_request request) batch k d within)
+of_request-events_of request batch k d within = text_means _ request (filter_passes (is_of_request request) batch k d within)
 
 -- a request of later events has them in the whole batch too
 events_of_more : (request : List ℕ) (first : Event) (batch : List Event) → 0 < length (events_of request batch) → 0 < length (events_of request (first ∷ batch))
@@ -50,7 +45,7 @@ events_of_more request first batch there = by (is_of_request request first) refl
     by false e = rw e there
 
 events_of_first : (first : Event) (batch : List Event) → 0 < length (events_of first.request (first ∷ batch))
-events_of_first first batch = let own : is_of_request first.request first ≡ true = laws.refl first.request in rw own (omega arith)
+events_of_first first batch = let own : is_of_request first.request first ≡ true = text_laws.refl first.request in rw own (omega arith)
 
 events_of_there : (batch : List Event) → All (λ request. 0 < length (events_of request batch)) (requests_of batch)
 events_of_there [] k d within = absurd (omega arith)

@@ -1,18 +1,9 @@
 -- Messages by the places where they end.
-use Rattle.std.proofs.Common.{◌≡◌, ℕ, zero, suc, ◌+◌, ◌-◌, ◌<◌, ◌≤◌, List, [], ◌∷◌, ◌++◌, length, get_or, take, drop, map, slice_range, refl, sym, ap, ◌∙◌, subst, length-append, arith}
+use Rattle.std.proofs.Common.{◌≡◌, ℕ, ◌+◌, ◌-◌, ◌≤◌, List, [], ◌∷◌, ◌++◌, length, take, drop, map, slice_range, refl, sym, ap, ◌∙◌, subst, length-append, arith}
 use Rattle.std.proofs.Math.Seq.{drop-append-add}
 use Rattle.std.proofs.lemmas.List.{length-drop, take_all, take-append-le, drop-append-le}
+use Rattle.event_table.proofs.CutLemmas.{stops_end}
 use Rattle.event_table.specs.inner.Cuts.{AreStops, cut_at}
-
--- each message ends where it begins or later, and within the bytes
-pub stops_end : (start : ℕ) (ends : List ℕ) (count : ℕ) → AreStops start ends count → start ≤ count
-stops_end start [] count are = omega arith
-stops_end start (end ∷ ends) count are = let first = are.0 in let rest = stops_end end ends count are.1 in omega arith
-
-pub stops_there : (start : ℕ) (ends : List ℕ) (count i : ℕ) → AreStops start ends count → i < length ends → (get_or (start ∷ ends) i 0 ≤ get_or ends i 0) × (get_or ends i 0 ≤ count)
-stops_there start [] count i are lt = absurd (omega arith)
-stops_there start (end ∷ ends) count zero are lt = (are.0, stops_end end ends count are.1)
-stops_there start (end ∷ ends) count (suc i) are lt = stops_there end ends count i are.1 (omega arith)
 
 -- a part of the first of two lists
 range_first : (xs ys : List ℕ) (start end : ℕ) → start ≤ end → end ≤ length xs → slice_range (xs ++ ys) start end ≡ slice_range xs start end

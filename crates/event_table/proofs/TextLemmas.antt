@@ -1,28 +1,20 @@
 -- Texts and their numbers in a table that grows.
-use Rattle.std.proofs.Common.{◌≡◌, ◌↔◌, ℕ, ◌+◌, ◌<◌, ◌≤◌, List, [], ◌∷◌, ◌++◌, length, get_or, slice_get, Some, Bool, true, false, if◌then◌else◌, refl, sym, ap, ◌∙◌, subst, ⊎_elim, append-nil, append_assoc, length-append, arith, rules}
+use Rattle.std.proofs.Common.{◌≡◌, ◌↔◌, ℕ, ◌+◌, ◌<◌, ◌≤◌, List, [], ◌∷◌, ◌++◌, length, get_or, slice_get, Some, Bool, true, false, if◌then◌else◌, refl, sym, ap, ◌∙◌, subst, ⊎_elim, append-nil, append_assoc, length-append, arith}
 use Rattle.std.proofs.lemmas.Bool.{cases_order}
 use Rattle.std.proofs.lemmas.List.{get_or_append_left}
 use Rattle.std.proofs.lemmas.List.Folds.{list_any_at}
 use Rattle.std.proofs.lemmas.Option.{get_or_from_slice_get, slice_get_within, slice_get_read}
 use Rattle.std.specs.List.{list_any}
-use Rattle.std.specs.Cmp.{IsEquivalence}
-use Rattle.std.specs.Cmp.Rules.{comparing}
-use Rattle.std.specs.Cmp.Lexicographic.{bytes_decides}
 use Rattle.std.specs.Str.{bytes_eq}
+use Rattle.trace_types.proofs.ComparingLemmas.{text_laws}
 use Rattle.event_table.specs.Texts.{AreDifferent}
 use Rattle.event_table.specs.inner.Growth.{GrowsBy, with_text}
-
-pub laws : IsEquivalence bytes_eq
-laws = search (comparing, rules)
-
-pub text_means : (x y : List ℕ) → bytes_eq x y ≡ true → x ≡ y
-text_means x y h = (bytes_decides x y).0 h
 
 -- a text that is there is found
 pub found_there : (texts : List (List ℕ)) (number : ℕ) (text : List ℕ) → slice_get texts number ≡ Some text → list_any (bytes_eq text) texts ≡ true
 found_there texts number text at =
     let same : get_or texts number text ≡ text = get_or_from_slice_get texts number text text at in
-    list_any_at (bytes_eq text) texts number text (slice_get_within texts number text at) (subst (λ (x : List ℕ). bytes_eq text x ≡ true) (sym same) (laws.refl text))
+    list_any_at (bytes_eq text) texts number text (slice_get_within texts number text at) (subst (λ (x : List ℕ). bytes_eq text x ≡ true) (sym same) (text_laws.refl text))
 
 -- a text that is there adds none
 pub with_known : (texts : List (List ℕ)) (number : ℕ) (text : List ℕ) → slice_get texts number ≡ Some text → texts ≡ with_text texts text

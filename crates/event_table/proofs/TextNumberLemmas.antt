@@ -3,29 +3,20 @@ use Rattle.std.proofs.Common.{◌≡◌, ℕ, ◌+◌, ◌<◌, ◌≤◌, Resul
 use Rattle.std.specs.BTreeMap.{BTreeMap, get, is_at}
 use Rattle.std.specs.Cmp.Lexicographic.{bytes_decides, slice_cmp}
 use Rattle.std.specs.List.{list_any}
-use Rattle.std.specs.Ordering.{is_eq, nat_cmp, ordering_then}
+use Rattle.std.specs.Ordering.{is_eq, nat_cmp}
 use Rattle.std.specs.Str.{bytes_eq}
-use Rattle.std.specs.declared.cmp.Ordering.{Ordering}
-use Rattle.std.specs.declared.cmp.Ordering.TheVariants.{Less, Equal, Greater}
-use Rattle.std.proofs.lemmas.Bool.{cases_order, false≢true}
+use Rattle.std.proofs.lemmas.Bool.{cases_order}
 use Rattle.std.proofs.lemmas.Cmp.{nat_cmp_total, nat_list_cmp_total, tied_itself}
 use Rattle.std.proofs.lemmas.List.{get_or_append_left, get_or_push, length_push}
 use Rattle.std.proofs.lemmas.List.Folds.{list_any_none}
 use Rattle.std.proofs.lemmas.Map.Text.{is_eq-slice_cmp}
 use Rattle.std.proofs.lemmas.Option.{get_or_from_slice_get, slice_get-get_or, slice_get_read, slice_get_within}
+use Rattle.trace_types.proofs.ComparingLemmas.{then_equal}
 use Rattle.event_table.specs.Texts.{AreDifferent}
 use Rattle.event_table.specs.inner.Growth.{with_text}
 use Rattle.event_table.specs.Digests.{digest_of}
 use Rattle.event_table.specs.inner.TextNumbers.{IsNumbering, key_cmp, key_of, number_in}
 use Rattle.event_table.proofs.TextLemmas.{still_there}
-
--- two orders in turn tell nothing apart where neither does
-then_equal : (o p : Ordering) → is_eq (ordering_then o p) ≡ true → (o ≡ Equal) × (p ≡ Equal)
-then_equal Less p h = absurd (false≢true h)
-then_equal Equal Less h = absurd (false≢true h)
-then_equal Equal Equal h = (refl, refl)
-then_equal Equal Greater h = absurd (false≢true h)
-then_equal Greater p h = absurd (false≢true h)
 
 -- texts whose keys are equal are one text
 key_exact : (a b : List ℕ) → is_at (key_cmp (key_of a)) (key_of b) ≡ true → a ≡ b

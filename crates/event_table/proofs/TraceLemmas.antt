@@ -7,6 +7,7 @@ use Rattle.std.proofs.lemmas.Option.{slice_get-get_or}
 use Rattle.trace_types.specs.declared.event.Event.{Event}
 use Rattle.trace_types.specs.Batch.{events_of, trace_of, traces_of}
 use Rattle.trace_types.specs.Firsts.{firsts_of}
+use Rattle.trace_types.proofs.ComparingLemmas.{text_laws, text_means}
 use Rattle.event_table.specs.declared.event_numbers.EventNumbers.{EventNumbers}
 use Rattle.event_table.specs.Gathered.{first_request, trace_under, traces_under}
 use Rattle.event_table.specs.Numbers.{event_under, events_under, text_under}
@@ -16,14 +17,14 @@ use Rattle.event_table.specs.inner.Placing.{groups_of, request_numbers, with_req
 use Rattle.event_table.proofs.CountLemmas.{keys}
 use Rattle.event_table.proofs.FirstLemmas.{firsts_all}
 use Rattle.event_table.proofs.GroupLemmas.{requests_there}
-use Rattle.event_table.proofs.TextLemmas.{laws, numbers_apart, text_means}
+use Rattle.event_table.proofs.TextLemmas.{numbers_apart}
 
 module _ (texts : TextLists) (messages : MessageLists) (differ : AreDifferent texts.requests) where
   same_text : (i j : ℕ) → i < length texts.requests → j < length texts.requests → bytes_eq (text_under texts.requests i) (text_under texts.requests j) ≡ nat_eq i j
   same_text i j li lj = by (nat_eq i j) (bytes_eq (text_under texts.requests i) (text_under texts.requests j)) refl refl
     where
       by : (b d : Bool) → nat_eq i j ≡ b → bytes_eq (text_under texts.requests i) (text_under texts.requests j) ≡ d → bytes_eq (text_under texts.requests i) (text_under texts.requests j) ≡ nat_eq i j
-      by true d e f = ap (λ (k : ℕ). bytes_eq (text_under texts.requests i) (text_under texts.requests k)) (sym (eqb-true i j e)) ∙ laws.refl (text_under texts.requests i) ∙ sym e
+      by true d e f = ap (λ (k : ℕ). bytes_eq (text_under texts.requests i) (text_under texts.requests k)) (sym (eqb-true i j e)) ∙ text_laws.refl (text_under texts.requests i) ∙ sym e
       by false false e f = f ∙ sym e
       by false true e f =
           let same : i ≡ j = (numbers_apart texts.requests differ i j (text_under texts.requests i) (text_under texts.requests j) (slice_get-get_or texts.requests i [] li) (slice_get-get_or texts.requests j [] lj)).1 (text_means (text_under texts.requests i) (text_under texts.requests j) f) in

@@ -1,7 +1,9 @@
 -- Numbers of pairs.
 use Rattle.std.proofs.Common.{◌≡◌, ℕ, zero, suc, ◌+◌, ◌-◌, ◌*◌, ◌/◌, ◌<◌, ◌≤◌, refl, ◌∙◌, ap, ⊎_elim, arith}
 use Rattle.std.proofs.lemmas.Bool.{cases_order}
-use Rattle.hypothesis_index.specs.Places.{pairs_below}
+use Rattle.hypothesis_index.specs.declared.relation.Relation.TheVariants.{Before, Exclusive, Apart, Pipe, Unshared}
+use Rattle.hypothesis_index.specs.declared.relation.Relation.{Relation}
+use Rattle.hypothesis_index.specs.Places.{pairs_below, IsRelation, NamesBelow}
 
 pub pairs_below-zero : pairs_below 0 ≡ 0
 unfolding pairs_below
@@ -65,3 +67,11 @@ early i j n h = ⊎_elim
 
 pub pairs_below-step : (n : ℕ) → pairs_below (n + 1) ≡ pairs_below n + n
 pairs_below-step n = let e : n + 1 ≡ suc n = omega arith in ap pairs_below e ∙ pairs_below-suc n
+
+-- all names are below 512
+pub all_below : (r : Relation) → IsRelation r → NamesBelow 512 r
+all_below (Before a b) is = (is.1, is.2)
+all_below (Exclusive a b) is = is.1
+all_below (Apart a b) is = is.1
+all_below (Pipe t u) is = tt
+all_below (Unshared t u) is = tt

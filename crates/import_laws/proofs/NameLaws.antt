@@ -1,16 +1,15 @@
 -- Names of pieces differ.
-use Rattle.std.proofs.Common.{◌≡◌, ◌⊎◌, inl, inr, ℕ, zero, suc, ◌+◌, ◌-◌, ◌^◌, ◌<◌, ◌≤◌, ◌==◌, ◌||◌, ◌&&◌, not, filter, List, [], ◌∷◌, ◌++◌, Bool, true, false, length, take, get_or, decimal, codes, cond, refl, sym, ap, subst, ◌∙◌, append_assoc, arith, rules}
+use Rattle.std.proofs.Common.{◌≡◌, ◌⊎◌, inl, inr, ℕ, zero, suc, ◌+◌, ◌-◌, ◌^◌, ◌<◌, ◌≤◌, ◌==◌, ◌||◌, ◌&&◌, not, filter, List, [], ◌∷◌, ◌++◌, Bool, true, false, length, take, get_or, decimal, codes, cond, refl, sym, ap, subst, ◌∙◌, append_assoc, arith}
 use Rattle.std.specs.Prelude.{nat_le, if◌then◌else◌}
 use Rattle.std.specs.Char.{is_ascii_digit}
 use Rattle.std.specs.List.{list_all, list_any, position_or_len, range_with_len}
 use Rattle.std.specs.Str.{bytes_eq}
-use Rattle.std.specs.Str.Parse.{digits_value}
 use Rattle.std.proofs.lemmas.Bool.{and_parts, cases_lt, cases_order, eq-eqb, false≢true, leb-true, lt-leb, le-leb, ne_eqb, or_from, or_left, or_right}
 use Rattle.std.proofs.lemmas.Fmt.{decimal_injective, digits_decimal}
-use Rattle.std.proofs.lemmas.Str.Parse.{IsNumeralModel, numerals_by_value}
 use Rattle.std.proofs.lemmas.Slice.Eq.{bytes_eq-Decides}
 use Rattle.task_pieces.specs.PieceNames.{cut_length, free_numbers, is_free, is_number_sign, numbered_name, piece_name, stem_of}
 use Rattle.task_pieces.proofs.FreeLemmas.{enough, free_at}
+use Rattle.trace_types.proofs.DecimalLemmas.{decimal_numerals}
 
 -- ---- a text, a mark, and a text without the mark
 
@@ -40,9 +39,6 @@ same_parts mark (x ∷ s) (y ∷ t) d e p q h =
 
 -- ---- decimals have neither mark
 
-own : IsNumeralModel (λ ds. list_all is_ascii_digit ds ≡ true) (digits_value 10)
-own = numerals_by_value (λ ds. list_all is_ascii_digit ds ≡ true) (search rules)
-
 digits_lack : (mark : ℕ) (ds : List ℕ) → mark < 48 → list_all is_ascii_digit ds ≡ true → has mark ds ≡ false
 digits_lack mark [] low h = refl
 digits_lack mark (b ∷ ds) low h =
@@ -52,7 +48,7 @@ digits_lack mark (b ∷ ds) low h =
     or_from (b == mark) (has mark ds) (ne_eqb b mark (λ e. omega (arith, e, at_least, low))) (digits_lack mark ds low p.1)
 
 decimal_lacks : (mark n : ℕ) → mark < 48 → n < 2 ^ 64 → has mark (decimal n) ≡ false
-decimal_lacks mark n low few = digits_lack mark (decimal n) low (digits_decimal own n few)
+decimal_lacks mark n low few = digits_lack mark (decimal n) low (digits_decimal decimal_numerals n few)
 
 -- ---- the place of a task
 

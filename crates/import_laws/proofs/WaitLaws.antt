@@ -20,9 +20,9 @@ use Rattle.task_pieces.specs.Pieces.{ends_wait, is_right_before, piece_of}
 use Rattle.task_pieces.specs.TaskEvents.{TaskEvent, are_of_one_task, is_before, is_earlier}
 use Rattle.task_pieces.specs.TaskNames.{tasks_of}
 use Rattle.task_pieces.specs.inner.Orders.{OneTask}
-use Rattle.task_pieces.proofs.FirstLemmas.{any-filter}
 use Rattle.task_pieces.proofs.OrderLemmas.{are_one, never_both, one_task}
 use Rattle.task_pieces.proofs.StepLemmas.{bit}
+use Rattle.trace_types.proofs.ShortLemmas.{any-filter}
 use Rattle.import_laws.specs.Laws.{without_task}
 use Rattle.import_laws.proofs.NameLaws.{one_name}
 

@@ -1,14 +1,15 @@
 -- Files that were read one after another.
-use Rattle.std.proofs.Common.{◌≡◌, ℕ, suc, ◌+◌, ◌<◌, ◌≤◌, ◌++◌, List, [], ◌∷◌, All, Result, Ok, Err, Some, length, map, take, drop, slice_get, true, refl, sym, ap, subst, ◌∙◌, arith, append_assoc, append-nil}
+use Rattle.std.proofs.Common.{◌≡◌, ℕ, suc, ◌+◌, ◌<◌, ◌≤◌, ◌++◌, List, [], ◌∷◌, All, Result, Ok, Err, Some, length, map, take, slice_get, true, refl, sym, ap, subst, ◌∙◌, arith, append_assoc, append-nil}
 use Rattle.std.proofs.lemmas.List.{length-map, length-take-le, map-append, take_at, take_more}
 use Rattle.std.proofs.lemmas.List.Elements.{All-append, All-cons, All-head, All-nil, All-tail}
 use Rattle.std.proofs.lemmas.List.Sums.{sum_by-append, sum_by-cons}
 use Rattle.std.proofs.lemmas.Option.{get_or_from_slice_get, slice_get_within}
 use Rattle.event_lines.specs.InputLines.{LineFault, lines_said}
 use Rattle.event_lines.specs.declared.line.Line.{Line}
-use Rattle.mystery_io.specs.Counts.{CountsCalls, counted_up}
+use Rattle.mystery_io.specs.Counts.{CountsCalls}
 use Rattle.mystery_io.specs.ReadFaults.{FilesSeen, OpensFirst}
 use Rattle.mystery_io.specs.Readings.{AreEnded, AreEndedBeforeLast, Reading, new_readings}
+use Rattle.mystery_io.proofs.GivenLemmas.{new_are}
 use Rattle.import_run.specs.Endings.{HasLines, ReadsUpTo, StopsReading}
 use Rattle.import_run.specs.Inputs.{FileFault, bytes_given, files_said, files_said_from, said_after, size_given}
 use Rattle.import_run.specs.inner.InputReadings.{HasOneCause, HasRead, ReadsOne, StopsAt}
@@ -63,13 +64,6 @@ all_ended : (rs : List Reading) → All (λ (q : Reading). q.at_end ≡ true) rs
 all_ended [] h = tt
 all_ended (x ∷ []) h = tt
 all_ended (x ∷ y ∷ ys) h = (All-head (λ (q : Reading). q.at_end ≡ true) x (y ∷ ys) h, all_ended (y ∷ ys) (All-tail (λ (q : Reading). q.at_end ≡ true) x (y ∷ ys) h))
-
-new_are : (before now rs : List Reading) → now ≡ before ++ rs → new_readings before now ≡ rs
-new_are [] now rs e = e
-new_are (x ∷ before) now rs e = ap (drop (suc (length before))) e ∙ new_are before (before ++ rs) rs refl
-
-pub calls_more : (i before mid now : ℕ) → CountsCalls i before mid → now ≡ counted_up mid → CountsCalls (i + 1) before now
-calls_more i before mid now calls one = record { least = omega (arith, calls.least, one); most = omega (arith, calls.most, one) }
 
 one_size : (r : Reading) → size_given (r ∷ []) ≡ length r.bytes
 one_size r = let h = sum_by-cons (λ (q : Reading). length q.bytes) r [] in omega (arith, h)

@@ -1,13 +1,11 @@
 -- Rows of names, by tables of durations.
 use Rattle.std.proofs.Common.{◌≡◌, ◌↔◌, ℕ, ◌+◌, ◌<◌, ◌≤◌, Bool, true, List, [], ◌∷◌, ◌++◌, map, length, get_or, slice_get, take, Some, All, Contains, Ordering, arith, refl, sym, ap, ◌∙◌, subst, ⊎_elim}
 use Rattle.std.specs.Prelude.{nat_lt}
-use Rattle.std.specs.List.{flat_map}
 use Rattle.std.specs.Option.{option_map}
 use Rattle.std.specs.declared.vec.Vec.{Vec}
 use Rattle.std.proofs.lemmas.Bool.{cases_lt, lt-ltb}
 use Rattle.std.proofs.lemmas.Bool.Decides.{nat_tests}
-use Rattle.std.proofs.lemmas.List.{append-nil, get_or_past, length-map, length_push, map_push, same_from_push, take_more}
-use Rattle.std.proofs.lemmas.List.Concat.{flat_map-append}
+use Rattle.std.proofs.lemmas.List.{get_or_past, length-map, length_push, map_push, same_from_push, take_more}
 use Rattle.std.proofs.lemmas.List.Elements.{Contains-get_or}
 use Rattle.std.proofs.lemmas.Option.{slice_get-get_or, slice_get-map, slice_get_within}
 use Rattle.trace_types.specs.Listing.{ListsExactly}
@@ -18,12 +16,6 @@ use Rattle.trace_rules.specs.Numbers.{AreFigures}
 -- the lists that a list of vectors shows
 abbrev pub shown : {Z : Type 0} → List (Vec ℕ Z) → List (List ℕ)
 shown {Z} lists = map (λ (v : Vec ℕ Z). v.items) lists
-
--- one more list, of lists one after another
-pub flat_more : {X A : Type 0} (f : X → List A) (xs : List X) (i : ℕ) (x : X) → i < length xs → x ≡ get_or xs i x → flat_map f (take (i + 1) xs) ≡ flat_map f (take i xs) ++ f x
-flat_more f xs i x lt is =
-    ap (flat_map f) (take_more xs i x lt) ∙ (flat_map-append f (take i xs) (get_or xs i x ∷ [])
-    ∙ ap (λ l. flat_map f (take i xs) ++ l) (append-nil (f (get_or xs i x)) ∙ ap f (sym is)))
 
 -- what is known of the list that was taken off the end
 pub record IsPopped {Z : Type 0} (table : List (List ℕ)) (left : List (Vec ℕ Z)) (v : Vec ℕ Z) : Type 0 where

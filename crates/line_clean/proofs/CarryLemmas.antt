@@ -4,11 +4,12 @@ use Rattle.std.specs.Prelude.{if◌then◌else◌, is_ok, OnOk, Ok, Err, Result}
 use Rattle.std.proofs.lemmas.List.{length-append}
 use Rattle.event_lines.specs.Cut.{input_lines}
 use Rattle.mystery_io.specs.Input.{input_limit}
+use Rattle.event_lines.proofs.ClearLineLemmas.{one_clear}
 use Rattle.line_clean.specs.declared.carry.Carry.{Carry}
 use Rattle.line_clean.specs.Lines.{clean_text}
 use Rattle.line_clean.specs.inner.Carrying.{IsCarry, Passes, text_with}
 use Rattle.line_clean.proofs.GoodLemmas.{clean_bad, long_bad}
-use Rattle.line_clean.proofs.LineLemmas.{both_clear, clear_one, first_joined, one_clear}
+use Rattle.line_clean.proofs.LineLemmas.{both_clear, clear_one, first_joined}
 
 -- what will be printed of a line that is too long already, and of one that is not
 pub with_long : (carry : Carry) (later : List ℕ) → carry.is_long ≡ true → text_with carry later ≡ clean_text (drop 1 (input_lines later))
@@ -61,7 +62,3 @@ passes_on text mid new c d e a b bytes is first second later =
 -- nothing was printed
 pub passes_kept : (text : List ℕ) (c d : Carry) (piece : List ℕ) → Passes [] c piece [] d → Passes text c piece text d
 passes_kept text c d piece h later = ap (λ xs. text ++ xs) (h later)
-
--- bytes that are cut at a line feed
-pub cut_twice : (bytes front back : List ℕ) → bytes ≡ front ++ 10 ∷ back → bytes ≡ (front ++ 10 ∷ []) ++ back
-cut_twice bytes front back is = is ∙ sym (append_assoc front (10 ∷ []) back)

@@ -19,6 +19,7 @@ use Rattle.event_lines.specs.declared.line.Line.TheVariants.{Control, Event}
 use Rattle.event_lines.specs.declared.why.Why.{Why}
 use Rattle.event_lines.specs.declared.why.Why.TheVariants.{NotJson}
 use Rattle.mystery_io.specs.Input.{input_limit}
+use Rattle.trace_types.proofs.TruthLemmas.{or_true}
 use Rattle.line_clean.specs.declared.first_line.FirstLine.{FirstLine}
 use Rattle.line_clean.specs.Lines.{clean_text, is_good, line_row}
 use Rattle.line_clean.specs.inner.FirstLines.{IsFirstLine}
@@ -69,10 +70,6 @@ bad_of n line why said = bad_by (is_blank_line line) (nat_le (length line) input
 
 kept_blank : (line : List ℕ) → is_blank_line line ≡ true → (is_blank_line line || is_good line) ≡ true
 kept_blank line e = ap (λ (b : Bool). b || is_good line) e
-
-or_true : (b : Bool) → (b || true) ≡ true
-or_true true = refl
-or_true false = refl
 
 kept_good : (line : List ℕ) → is_good line ≡ true → (is_blank_line line || is_good line) ≡ true
 kept_good line e = ap (λ (b : Bool). is_blank_line line || b) e ∙ or_true (is_blank_line line)

@@ -11,10 +11,10 @@ use Rattle.event_lines.specs.declared.line.Line.{Line}
 use Rattle.event_lines.specs.declared.why.Why.{Why}
 use Rattle.mystery_io.specs.Input.{input_limit}
 use Rattle.mystery_io.specs.Readings.{Reading}
+use Rattle.event_lines.proofs.ClearLineLemmas.{IsClear, lines_clear}
 use Rattle.line_clean.specs.Lines.{clean_text, is_good, line_row, lines_read}
 use Rattle.line_clean.proofs.GoodLemmas.{clean_append}
 use Rattle.line_clean.proofs.JudgingLemmas.{number_is_free, said_blank, said_good}
-use Rattle.line_clean.proofs.LineLemmas.{IsClear, lines_clear}
 
 -- ---- what holds of all lines
 

@@ -4,7 +4,5 @@ pub mod GoodLemmas
 pub mod JudgingLemmas
 pub mod LawLemmas
 pub mod LineLemmas
-pub mod MessageLemmas
-pub mod ReadLemmas
 pub mod RunLemmas
 pub mod StepLemmas

@@ -1,33 +1,14 @@
 -- The lines of bytes, one after another.
-use Rattle.std.proofs.Common.{◌≡◌, ◌≤◌, ◌<◌, ◌+◌, ℕ, suc, List, [], ◌∷◌, ◌++◌, All, Bool, true, false, length, get_or, take, drop, ap, arith, refl, subst, ◌∙◌}
+use Rattle.std.proofs.Common.{◌≡◌, ◌≤◌, ◌<◌, ℕ, suc, List, [], ◌∷◌, ◌++◌, Bool, true, false, length, get_or, take, drop, ap, arith, refl, ◌∙◌}
 use Rattle.std.specs.Prelude.{if◌then◌else◌, MatchOption, Option, Some, None}
-use Rattle.memchr.specs.Find.{IsFirstByte, IsLastByte, is_byte}
+use Rattle.memchr.specs.Find.{IsFirstByte, is_byte}
 use Rattle.std.specs.List.{AllByRecursion, onto_first}
-use Rattle.std.proofs.lemmas.List.{get_or-drop, get_or-take, get_or_default, length-drop, length-take}
-use Rattle.std.proofs.lemmas.List.Elements.{All-append, All-cons, All-head, All-nil, All-tail}
+use Rattle.std.proofs.lemmas.List.{get_or-take, get_or_default, length-take}
+use Rattle.std.proofs.lemmas.List.Elements.{All-append, All-head, All-tail}
 use Rattle.std.proofs.lemmas.List.Splits.{length-slice_split, slice_split-cons_no, slice_split_none}
-use Rattle.std.proofs.lemmas.List.Sums.{count_by-le-length}
 use Rattle.event_lines.specs.Cut.{input_lines, is_line_feed}
-
-abbrev pub IsClear : List ℕ → Type 0
-IsClear line = All (λ byte. is_line_feed byte ≡ false) line
-
-first_clear : (x : ℕ) (parts : List (List ℕ)) → is_line_feed x ≡ false → AllByRecursion IsClear parts → AllByRecursion IsClear (onto_first x parts)
-first_clear x [] e h = (All-cons (λ byte. is_line_feed byte ≡ false) x [] e (All-nil (λ byte. is_line_feed byte ≡ false)), tt)
-first_clear x (part ∷ parts) e h = (All-cons (λ byte. is_line_feed byte ≡ false) x part e h.0, h.1)
-
-clear_by : (x : ℕ) (rest : List (List ℕ)) (b : Bool) → is_line_feed x ≡ b → AllByRecursion IsClear rest → AllByRecursion IsClear (if b then [] ∷ rest else onto_first x rest)
-clear_by x rest true e h = (All-nil (λ byte. is_line_feed byte ≡ false), h)
-clear_by x rest false e h = first_clear x rest e h
-
--- no line has a line feed
-pub lines_clear : (bytes : List ℕ) → AllByRecursion IsClear (input_lines bytes)
-lines_clear [] = (All-nil (λ byte. is_line_feed byte ≡ false), tt)
-lines_clear (x ∷ bytes) = clear_by x (input_lines bytes) (is_line_feed x) refl (lines_clear bytes)
-
--- what has one line has no line feed
-pub one_clear : (bytes : List ℕ) → input_lines bytes ≡ bytes ∷ [] → IsClear bytes
-one_clear bytes one = (subst (AllByRecursion IsClear) one (lines_clear bytes)).0
+use Rattle.trace_types.proofs.TruthLemmas.{false_from_not}
+use Rattle.event_lines.proofs.ClearLineLemmas.{IsClear}
 
 -- what has no line feed is one line
 pub clear_one : (bytes : List ℕ) → IsClear bytes → input_lines bytes ≡ bytes ∷ []
@@ -61,14 +42,6 @@ pub lines_short : (bytes : List ℕ) → AreShort (length bytes) (input_lines by
 lines_short [] = (omega arith, tt)
 lines_short (x ∷ bytes) = short_by x (length bytes) (input_lines bytes) (is_line_feed x) (lines_short bytes)
 
--- there is at most one line more than bytes
-pub few_lines : (bytes : List ℕ) → length (input_lines bytes) ≤ length bytes + 1
-few_lines bytes = omega (arith, length-slice_split is_line_feed bytes, count_by-le-length is_line_feed bytes)
-
-false_from_not : (b : Bool) → (b ≡ true → ⊥) → b ≡ false
-false_from_not true h = absurd (h refl)
-false_from_not false h = refl
-
 -- what stands before the first line feed is one line
 pub first_alone : (bytes : List ℕ) (found : Option ℕ) → IsFirstByte (is_byte 10) bytes found → MatchOption found (input_lines bytes ≡ bytes ∷ []) (λ at. input_lines (take at bytes) ≡ take at bytes ∷ [])
 first_alone bytes None nowhere = slice_split_none is_line_feed bytes (λ k d lt. ap is_line_feed (get_or_default bytes k d 0 lt) ∙ false_from_not (is_line_feed (get_or bytes k 0)) (nowhere k (omega arith) lt))
@@ -76,13 +49,6 @@ first_alone bytes (Some i) h = slice_split_none is_line_feed (take i bytes) (λ 
     let below : k < i = omega (arith, length-take i bytes, lt) in
     let within : k < length bytes = omega (arith, length-take i bytes, lt) in
     ap is_line_feed (get_or-take i bytes k d below ∙ get_or_default bytes k d 0 within) ∙ false_from_not (is_line_feed (get_or bytes k 0)) (h.0.before k (omega arith) below))
-
--- what stands behind the last line feed is one line
-pub last_alone : (bytes : List ℕ) (found : Option ℕ) → IsLastByte (is_byte 10) bytes found → MatchOption found (input_lines bytes ≡ bytes ∷ []) (λ at. input_lines (drop (at + 1) bytes) ≡ drop (at + 1) bytes ∷ [])
-last_alone bytes None nowhere = slice_split_none is_line_feed bytes (λ k d lt. ap is_line_feed (get_or_default bytes k d 0 lt) ∙ false_from_not (is_line_feed (get_or bytes k 0)) (nowhere k (omega arith) lt))
-last_alone bytes (Some i) h = slice_split_none is_line_feed (drop (i + 1) bytes) (λ k d lt.
-    let within : i + 1 + k < length bytes = omega (arith, length-drop (i + 1) bytes, lt) in
-    ap is_line_feed (get_or-drop (i + 1) bytes k d ∙ get_or_default bytes (i + 1 + k) d 0 within) ∙ false_from_not (is_line_feed (get_or bytes (i + 1 + k) 0)) (h.0.after (i + 1 + k) (omega arith) within))
 
 first_and_rest : (parts : List (List ℕ)) → 0 < length parts → parts ≡ get_or parts 0 [] ∷ drop 1 parts
 first_and_rest [] lt = absurd (omega arith)

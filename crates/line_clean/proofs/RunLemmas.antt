@@ -1,13 +1,16 @@
 -- Files that are read one after another, and what a whole run did.
-use Rattle.std.proofs.Common.{◌≡◌, ◌<◌, ◌+◌, ℕ, suc, List, [], ◌∷◌, ◌++◌, true, length, map, take, drop, get_or, ap, arith, refl, sym, subst, ◌∙◌, append-nil, append_assoc, Option, Ok, Err}
+use Rattle.std.proofs.Common.{◌≡◌, ◌<◌, ◌+◌, ℕ, List, [], ◌∷◌, ◌++◌, true, length, map, take, get_or, ap, arith, refl, sym, subst, ◌∙◌, append-nil, append_assoc, Option, Ok, Err}
 use Rattle.std.specs.Io.KnownBytes.{append_known}
 use Rattle.std.proofs.lemmas.List.{map-append, take_more}
-use Rattle.std.proofs.lemmas.List.Elements.{All-head, All-nil, All-push, All-tail}
+use Rattle.std.proofs.lemmas.List.Elements.{All-nil, All-push}
 use Rattle.event_lines.specs.Cut.{input_lines}
-use Rattle.mystery_io.specs.Counts.{CountsCalls, counted_up}
+use Rattle.mystery_io.specs.Counts.{CountsCalls}
 use Rattle.mystery_io.specs.Prefixes.{AppendsPrefix}
 use Rattle.mystery_io.specs.ReadFaults.{OpensFirst}
 use Rattle.mystery_io.specs.Readings.{AreEnded, AreEndedBeforeLast, OnlyGrow, Reading, new_readings}
+use Rattle.mystery_io.proofs.ReadGivenLemmas.{reading}
+use Rattle.mystery_io.proofs.KnownLemmas.{known_append_twice, append_nothing}
+use Rattle.mystery_io.proofs.GivenLemmas.{new_are, all_ended, ended_last, grown_by}
 use Rattle.line_clean.specs.declared.clean_fault.CleanFault.{CleanFault}
 use Rattle.line_clean.specs.declared.clean_fault.CleanFault.TheVariants.{Arguments, Memory, File, Write}
 use Rattle.line_clean.specs.CommandLines.{is_in_grammar}
@@ -15,31 +18,9 @@ use Rattle.line_clean.specs.Lines.{clean_text, lines_read}
 use Rattle.line_clean.specs.Runs.{Explains, Seen, WritesFirst}
 use Rattle.line_clean.specs.inner.Steps.{FileCleaned, FileStops, FilesCleaned, IsFaultOf}
 use Rattle.line_clean.proofs.GoodLemmas.{clean_push}
-use Rattle.line_clean.proofs.ReadLemmas.{reading}
-use Rattle.line_clean.proofs.StepLemmas.{known_none, known_twice, prefix_on}
+use Rattle.line_clean.proofs.StepLemmas.{prefix_on}
 
 -- ---- readings
-
-ended_before : (readings : List Reading) (r : Reading) → AreEnded readings → AreEndedBeforeLast (readings ++ r ∷ [])
-ended_before [] r h = tt
-ended_before (q ∷ []) r h = (All-head (λ (r : Reading). r.at_end ≡ true) q [] h, tt)
-ended_before (q ∷ s ∷ qs) r h = (All-head (λ (r : Reading). r.at_end ≡ true) q (s ∷ qs) h, ended_before (s ∷ qs) r (All-tail (λ (r : Reading). r.at_end ≡ true) q (s ∷ qs) h))
-
-all_ended : (readings : List Reading) → AreEnded readings → AreEndedBeforeLast readings
-all_ended [] h = tt
-all_ended (r ∷ []) h = tt
-all_ended (r ∷ s ∷ rs) h = (All-head (λ (r : Reading). r.at_end ≡ true) r (s ∷ rs) h, all_ended (s ∷ rs) (All-tail (λ (r : Reading). r.at_end ≡ true) r (s ∷ rs) h))
-
-pub new_are : (before now readings : List Reading) → now ≡ before ++ readings → new_readings before now ≡ readings
-new_are [] now readings e = e
-new_are (x ∷ before) now readings e = ap (drop (suc (length before))) e ∙ new_are before (before ++ readings) readings refl
-
--- readings only came
-pub grows_by : (before now readings : List Reading) → now ≡ before ++ readings → OnlyGrow before now
-grows_by before now readings e = e ∙ ap (λ rs. before ++ rs) (sym (new_are before now readings e))
-
-pub calls_more : (i before mid now : ℕ) → CountsCalls i before mid → now ≡ counted_up mid → CountsCalls (i + 1) before now
-calls_more i before mid now calls one = record { least = omega (arith, calls.least, one); most = omega (arith, calls.most, one) }
 
 pub calls_none : (count : ℕ) → CountsCalls 0 count count
 calls_none count = record { least = omega arith; most = omega arith }
@@ -52,7 +33,7 @@ cleaned_none names w given = record {
   given = sym (append-nil given);
   named = refl;
   ended = All-nil (λ (r : Reading). r.at_end ≡ true);
-  written = sym (known_none w);
+  written = sym (append_nothing w);
 }
 
 module _ (names : List (List ℕ)) (i : ℕ) (name : List ℕ) (lt : i < length names) (is : name ≡ get_or names i name) (start mid now : Option (List ℕ)) (given_before given_mid given_now : List Reading) (first : FilesCleaned (take i names) start mid given_before given_mid) where
@@ -74,14 +55,14 @@ module _ (names : List (List ℕ)) (i : ℕ) (name : List ℕ) (lt : i < length 
         given = h.given ∙ ap (λ rs. rs ++ r ∷ []) first.given ∙ append_assoc given_before first.readings (r ∷ []);
         named = named_more r refl;
         ended = All-push (λ (q : Reading). q.at_end ≡ true) first.readings r first.ended refl;
-        written = h.written ∙ ap (λ w. append_known w (clean_text (input_lines h.bytes))) first.written ∙ known_twice start (clean_text (lines_read first.readings)) (clean_text (input_lines h.bytes))
+        written = h.written ∙ ap (λ w. append_known w (clean_text (input_lines h.bytes))) first.written ∙ known_append_twice start (clean_text (lines_read first.readings)) (clean_text (input_lines h.bytes))
             ∙ ap (append_known start) (sym (text_more r));
       }
 
   pub stops_grow : FileStops name mid now given_mid given_now → OnlyGrow given_before given_now
   stops_grow h =
       let last : Reading = reading name h.bytes h.at_end in
-      grows_by given_before given_now (first.readings ++ last ∷ []) (h.given ∙ ap (λ rs. rs ++ last ∷ []) first.given ∙ append_assoc given_before first.readings (last ∷ []))
+      grown_by given_before given_now (first.readings ++ last ∷ []) (h.given ∙ ap (λ rs. rs ++ last ∷ []) first.given ∙ append_assoc given_before first.readings (last ∷ []))
 
   -- one file more was not
   module _ (seen : Seen) (words : seen.words ≡ names) (called : is_in_grammar names ≡ true) (saw : seen.files.readings ≡ new_readings given_before given_now) (before_is : seen.written_before ≡ start) (now_is : seen.written_now ≡ now) (calls : CountsCalls (i + 1) seen.files.opens_before seen.files.opens_now) (h : FileStops name mid now given_mid given_now) where
@@ -96,7 +77,7 @@ module _ (names : List (List ℕ)) (i : ℕ) (name : List ℕ) (lt : i < length 
       within = omega (arith, lt);
       counted = calls;
       named = ap (map (λ (q : Reading). q.name)) came ∙ named_more last refl;
-      ended = subst AreEndedBeforeLast (sym came) (ended_before first.readings last first.ended);
+      ended = subst AreEndedBeforeLast (sym came) (ended_last first.readings last first.ended);
     }
 
     cut : AppendsPrefix start now (clean_text (lines_read seen.files.readings))
@@ -129,7 +110,7 @@ explains_memory seen called none same calls = (
       named = ap (map (λ (r : Reading). r.name)) none;
       ended = subst AreEndedBeforeLast (sym none) tt;
     };
-    prefix = record { count = 0; appended = same ∙ sym (known_none seen.written_before) };
+    prefix = record { count = 0; appended = same ∙ sym (append_nothing seen.written_before) };
   },
 )
 

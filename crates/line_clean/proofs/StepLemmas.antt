@@ -1,22 +1,15 @@
 -- Pieces of a file, and what is written of them.
-use Rattle.std.proofs.Common.{◌≡◌, ◌+◌, ℕ, List, [], ◌++◌, Option, Some, None, min, length, take, ap, arith, refl, sym, ◌∙◌, append-nil, append_assoc}
+use Rattle.std.proofs.Common.{◌≡◌, ◌+◌, ℕ, List, [], ◌++◌, Option, min, length, take, ap, arith, refl, sym, ◌∙◌, append-nil, append_assoc}
 use Rattle.std.specs.Io.KnownBytes.{append_known}
 use Rattle.std.proofs.Math.Seq.{take-append-add}
 use Rattle.std.proofs.lemmas.List.{take-append-le, take_at, take_min}
 use Rattle.event_lines.specs.Cut.{input_lines}
 use Rattle.mystery_io.specs.Prefixes.{AppendsPrefix}
+use Rattle.mystery_io.proofs.KnownLemmas.{known_append_twice, append_nothing}
 use Rattle.line_clean.specs.declared.carry.Carry.{Carry}
 use Rattle.line_clean.specs.Lines.{clean_text}
 use Rattle.line_clean.specs.inner.Carrying.{Passes, text_with}
 use Rattle.line_clean.specs.inner.Steps.{Carries}
-
-pub known_twice : (w : Option (List ℕ)) (a b : List ℕ) → append_known (append_known w a) b ≡ append_known w (a ++ b)
-known_twice None a b = refl
-known_twice (Some xs) a b = ap Some (append_assoc xs a b)
-
-pub known_none : (w : Option (List ℕ)) → append_known w [] ≡ w
-known_none None = refl
-known_none (Some xs) = ap Some (append-nil xs)
 
 -- what was written is a prefix of a text that begins with it
 pub prefix_is : (start now : Option (List ℕ)) (sent rest text : List ℕ) → now ≡ append_known start sent → text ≡ sent ++ rest → AppendsPrefix start now text
@@ -32,7 +25,7 @@ prefix_on start mid now sent next rest text written h is =
     let cut : take few (next ++ rest) ≡ take h.count next = take-append-le few next rest (omega arith) ∙ take_min h.count next in
     record {
       count = length sent + few;
-      appended = h.appended ∙ ap (λ w. append_known w (take h.count next)) written ∙ known_twice start sent (take h.count next)
+      appended = h.appended ∙ ap (λ w. append_known w (take h.count next)) written ∙ known_append_twice start sent (take h.count next)
           ∙ ap (append_known start) (sym (ap (take (length sent + few)) is ∙ take-append-add sent (next ++ rest) few ∙ ap (λ xs. sent ++ xs) cut));
     }
 
@@ -40,7 +33,7 @@ prefix_on start mid now sent next rest text written h is =
 pub carries_none : (w : Option (List ℕ)) (carry : Carry) → ((later : List ℕ) → text_with carry later ≡ clean_text (input_lines later)) → Carries w w [] carry
 carries_none w carry with = record {
   sent = [];
-  written = sym (known_none w);
+  written = sym (append_nothing w);
   told = λ later. sym (with later);
 }
 
@@ -60,7 +53,7 @@ module _ (start mid : Option (List ℕ)) (bytes : List ℕ) (carry : Carry) (h :
     pub carries_on : now ≡ append_known mid text → Carries start now (bytes ++ piece) new
     carries_on written = record {
       sent = h.sent ++ text;
-      written = written ∙ ap (λ w. append_known w text) h.written ∙ known_twice start h.sent text;
+      written = written ∙ ap (λ w. append_known w text) h.written ∙ known_append_twice start h.sent text;
       told = λ later.
           ap (λ (xs : List ℕ). clean_text (input_lines xs)) (append_assoc bytes piece later) ∙ h.told (piece ++ later) ∙ ap (λ xs. h.sent ++ xs) (passes later)
           ∙ sym (append_assoc h.sent text (text_with new later));
@@ -74,7 +67,7 @@ module _ (start mid : Option (List ℕ)) (bytes : List ℕ) (carry : Carry) (h :
   -- the last line of the file was written
   module _ (now : Option (List ℕ)) (text : List ℕ) (is : text ≡ text_with carry []) where
     pub carries_end : now ≡ append_known mid text → now ≡ append_known start (clean_text (input_lines bytes))
-    carries_end written = written ∙ ap (λ w. append_known w text) h.written ∙ known_twice start h.sent text ∙ ap (append_known start) (ap (λ xs. h.sent ++ xs) is ∙ sym so_far)
+    carries_end written = written ∙ ap (λ w. append_known w text) h.written ∙ known_append_twice start h.sent text ∙ ap (append_known start) (ap (λ xs. h.sent ++ xs) is ∙ sym so_far)
 
     pub prefix_of_end : AppendsPrefix mid now text → AppendsPrefix start now (clean_text (input_lines bytes))
     prefix_of_end cut = prefix_on start mid now h.sent text [] (clean_text (input_lines bytes)) h.written cut (so_far ∙ ap (λ xs. h.sent ++ xs) (sym is ∙ sym (append-nil text)))

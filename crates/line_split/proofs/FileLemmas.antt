@@ -19,11 +19,6 @@ write_other (f ∷ fs) zero (suc j) more ne = refl
 write_other (f ∷ fs) (suc i) zero more ne = refl
 write_other (f ∷ fs) (suc i) (suc j) more ne = write_other fs i j more (λ e. ne (ap suc e))
 
-pub length-write : (made : List WrittenFile) (i : ℕ) (more : List ℕ) → length (after_write made i more) ≡ length made
-length-write [] i more = refl
-length-write (f ∷ fs) zero more = refl
-length-write (f ∷ fs) (suc i) more = ap suc (length-write fs i more)
-
 -- a file behind others is written
 pub write_behind : (before made : List WrittenFile) (i k : ℕ) (more : List ℕ) → k ≡ length before + i → after_write (before ++ made) k more ≡ before ++ after_write made i more
 write_behind [] made i k more e = ap (λ n. after_write made n more) (omega (arith, e))

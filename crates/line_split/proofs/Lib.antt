@@ -4,11 +4,9 @@ mod FileLemmas
 mod KnownLemmas
 mod LineLemmas
 mod MakeLemmas
-mod MessageLemmas
 mod PartLemmas
 mod PendingLemmas
 mod PutLemmas
-mod ReadLemmas
 mod RunLemmas
 mod SaidLemmas
 mod StepLemmas

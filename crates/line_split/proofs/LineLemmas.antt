@@ -1,31 +1,14 @@
 -- The lines of bytes, one after another.
-use Rattle.std.proofs.Common.{◌≡◌, ◌<◌, ◌+◌, ℕ, zero, suc, List, [], ◌∷◌, ◌++◌, All, Bool, true, false, length, get_or, take, drop, map, ap, arith, refl, sym, subst, ◌∙◌}
-use Rattle.std.specs.Prelude.{if◌then◌else◌, MatchOption, Option, Some, None}
-use Rattle.memchr.specs.Find.{IsLastByte, is_byte}
-use Rattle.std.specs.List.{AllByRecursion, onto_first}
+use Rattle.std.proofs.Common.{◌≡◌, ◌<◌, ◌+◌, ℕ, zero, suc, List, [], ◌∷◌, ◌++◌, false, length, get_or, take, drop, map, ap, arith, sym, ◌∙◌}
+use Rattle.std.specs.List.{AllByRecursion}
 use Rattle.std.specs.Borrow.{Bor}
 use Rattle.std.proofs.Math.ListN.{get_or-map}
-use Rattle.std.proofs.lemmas.List.{get_or-drop, get_or_default, length-drop, length-map, length-take-le, take-append-drop, take_more}
-use Rattle.std.proofs.lemmas.List.Elements.{All-append, All-cons, All-nil}
+use Rattle.std.proofs.lemmas.List.{length-map, length-take-le, take-append-drop, take_more}
+use Rattle.std.proofs.lemmas.List.Elements.{All-append}
 use Rattle.std.proofs.lemmas.List.Splits.{slice_split_none}
 use Rattle.event_lines.specs.Cut.{input_lines, is_line_feed}
+use Rattle.event_lines.proofs.ClearLineLemmas.{IsClear, lines_clear, one_clear}
 use Rattle.line_split.specs.Lines.{lines_from}
-
-abbrev IsClear : List ℕ → Type 0
-IsClear line = All (λ byte. is_line_feed byte ≡ false) line
-
-first_clear : (x : ℕ) (parts : List (List ℕ)) → is_line_feed x ≡ false → AllByRecursion IsClear parts → AllByRecursion IsClear (onto_first x parts)
-first_clear x [] e h = (All-cons (λ byte. is_line_feed byte ≡ false) x [] e (All-nil (λ byte. is_line_feed byte ≡ false)), tt)
-first_clear x (part ∷ parts) e h = (All-cons (λ byte. is_line_feed byte ≡ false) x part e h.0, h.1)
-
-clear_by : (x : ℕ) (rest : List (List ℕ)) (b : Bool) → is_line_feed x ≡ b → AllByRecursion IsClear rest → AllByRecursion IsClear (if b then [] ∷ rest else onto_first x rest)
-clear_by x rest true e h = (All-nil (λ byte. is_line_feed byte ≡ false), h)
-clear_by x rest false e h = first_clear x rest e h
-
--- no line has a line feed
-lines_clear : (bytes : List ℕ) → AllByRecursion IsClear (input_lines bytes)
-lines_clear [] = (All-nil (λ byte. is_line_feed byte ≡ false), tt)
-lines_clear (x ∷ bytes) = clear_by x (input_lines bytes) (is_line_feed x) refl (lines_clear bytes)
 
 clear_at : (lines : List (List ℕ)) (i : ℕ) (d : List ℕ) → i < length lines → AllByRecursion IsClear lines → IsClear (get_or lines i d)
 clear_at [] i d lt h = absurd (omega arith)
@@ -35,10 +18,6 @@ clear_at (l ∷ ls) (suc i) d lt h = clear_at ls i d (omega arith) h.1
 -- a line is the one line of its own bytes
 pub one_line : (bytes : List ℕ) (i : ℕ) (d : List ℕ) → i < length (input_lines bytes) → input_lines (get_or (input_lines bytes) i d) ≡ get_or (input_lines bytes) i d ∷ []
 one_line bytes i d lt = slice_split_none is_line_feed (get_or (input_lines bytes) i d) (clear_at (input_lines bytes) i d lt (lines_clear bytes))
-
--- what has one line has no line feed
-one_clear : (bytes : List ℕ) → input_lines bytes ≡ bytes ∷ [] → IsClear bytes
-one_clear bytes one = (subst (AllByRecursion IsClear) one (lines_clear bytes)).0
 
 -- two pieces of one line each are one line together
 pub one_more : (a b : List ℕ) → input_lines a ≡ a ∷ [] → input_lines b ≡ b ∷ [] → input_lines (a ++ b) ≡ (a ++ b) ∷ []
@@ -67,14 +46,3 @@ line_read items found lines i d is same =
 
 pub line_count : (items : List (Bor (List ℕ))) (lines : List (List ℕ)) → map (λ (line : Bor (List ℕ)). line.now) items ≡ lines → length lines ≡ length items
 line_count items lines same = ap length (sym same) ∙ length-map items (λ (line : Bor (List ℕ)). line.now)
-
-false_from_not : (b : Bool) → (b ≡ true → ⊥) → b ≡ false
-false_from_not true h = absurd (h refl)
-false_from_not false h = refl
-
--- what stands behind the last line feed is one line
-pub last_alone : (bytes : List ℕ) (found : Option ℕ) → IsLastByte (is_byte 10) bytes found → MatchOption found (input_lines bytes ≡ bytes ∷ []) (λ at. input_lines (drop (at + 1) bytes) ≡ drop (at + 1) bytes ∷ [])
-last_alone bytes None nowhere = slice_split_none is_line_feed bytes (λ k d lt. ap is_line_feed (get_or_default bytes k d 0 lt) ∙ false_from_not (is_line_feed (get_or bytes k 0)) (nowhere k (omega arith) lt))
-last_alone bytes (Some i) h = slice_split_none is_line_feed (drop (i + 1) bytes) (λ k d lt.
-    let within : i + 1 + k < length bytes = omega (arith, length-drop (i + 1) bytes, lt) in
-    ap is_line_feed (get_or-drop (i + 1) bytes k d ∙ get_or_default bytes (i + 1 + k) d 0 within) ∙ false_from_not (is_line_feed (get_or bytes (i + 1 + k) 0)) (h.0.after (i + 1 + k) (omega arith) within))

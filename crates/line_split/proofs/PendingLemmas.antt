@@ -4,10 +4,11 @@ use Rattle.std.specs.declared.vec.Vec.{Vec}
 use Rattle.std.proofs.lemmas.Bool.{cases_eq}
 use Rattle.std.proofs.lemmas.List.{get_or-map, get_or-set_other, get_or-set_same, length-map, length-set, map-set}
 use Rattle.output_files.specs.Written.{WrittenFile, WritesPrefix, after_write}
+use Rattle.output_files.proofs.WriteLemmas.{length-after_write}
 use Rattle.line_split.specs.Parts.{Begins, file_at}
 use Rattle.line_split.specs.declared.pending.Pending.{Pending}
 use Rattle.line_split.specs.inner.Pending.{BeginsFiles, IsOver, TellsFiles, WholeFiles, added, buffer_at, buffer_count, buffers_of, with_more}
-use Rattle.line_split.proofs.FileLemmas.{begins_added, begins_cut, begins_told, length-write, more_none, told_put, told_write, write_behind}
+use Rattle.line_split.proofs.FileLemmas.{begins_added, begins_cut, begins_told, more_none, told_put, told_write, write_behind}
 
 abbrev pub shown : List (Vec ℕ Global) → List (List ℕ)
 shown buffers = map (λ (v : Vec ℕ Global). v.items) buffers
@@ -53,7 +54,7 @@ module _ (count : ℕ) (before : List WrittenFile) (all : ℕ → WrittenFile) (
         split = written ∙ ap (λ xs. after_write w (p.base + i) xs) is ∙ ap (λ (fs : List WrittenFile). after_write fs (p.base + i) (buffer_at p i)) h.split
             ∙ write_behind before h.made i (p.base + i) (buffer_at p i) (ap (λ n. n + i) h.base);
         base = base ∙ h.base;
-        size = length-write h.made i (buffer_at p i) ∙ h.size;
+        size = length-after_write h.made i (buffer_at p i) ∙ h.size;
         many = many ∙ h.many;
         each = λ j l. ap (λ (bs : List (List ℕ)). with_more (file_at made j) (get_or bs j [])) seen ∙ told_write h.made (shown p.buffers.items) all count i room there lt h.each j l;
       }
@@ -73,7 +74,7 @@ module _ (count : ℕ) (before : List WrittenFile) (all : ℕ → WrittenFile) (
       let n = cut.count in
       let there : i < length h.made = omega (arith, h.many, h.size) in
       let lt : i < count = omega (arith, h.many) in
-      let size = length-write h.made i (take n (buffer_at p i)) in
+      let size = length-after_write h.made i (take n (buffer_at p i)) in
       record {
         made = after_write h.made i (take n (buffer_at p i));
         split = cut.written ∙ ap (λ xs. after_write w (p.base + i) (take n xs)) is ∙ ap (λ (fs : List WrittenFile). after_write fs (p.base + i) (take n (buffer_at p i))) h.split
@@ -113,7 +114,7 @@ begins_same count before all other w same h = record {
 -- there is a file for each buffer still
 pub over_set : (w now : List WrittenFile) (p q : Pending) (i k : ℕ) (bytes : List ℕ) (new : Vec ℕ Global) → IsOver w p → now ≡ after_write w k bytes → q.base ≡ p.base → q.buffers.items ≡ set p.buffers.items i new → IsOver now q
 over_set w now p q i k bytes new over written base set_is =
-    let size : length now ≡ length w = ap length written ∙ length-write w k bytes in
+    let size : length now ≡ length w = ap length written ∙ length-after_write w k bytes in
     let many : buffer_count q ≡ buffer_count p = ap length set_is ∙ length-set p.buffers.items i new in
     record { within = omega (arith, over.within, size, many, base); fits = omega (arith, over.fits, many, base) }
 

@@ -2,10 +2,12 @@
 use Rattle.std.proofs.Common.{◌≡◌, ◌≤◌, ◌<◌, ◌+◌, ◌-◌, ℕ, zero, suc, List, [], ◌∷◌, ◌++◌, All, true, length, map, take, get_or, ap, arith, refl, sym, subst, ◌∙◌, append-nil, append_assoc, inl, inr, drop, Option, Some, None, Result, Ok, Err}
 use Rattle.std.specs.Prelude.{IfErr, OnErr, OnOk, ◌==◌, if◌then◌else◌, is_some, not}
 use Rattle.std.proofs.lemmas.List.{drop_all, drop_at, length-map, length_push, map-append, take_all, take_at, take_more}
-use Rattle.std.proofs.lemmas.List.Elements.{All-append, All-cons, All-drop, All-head, All-nil, All-push, All-same, All-tail, All-take}
+use Rattle.std.proofs.lemmas.List.Elements.{All-append, All-cons, All-drop, All-head, All-nil, All-push, All-same, All-take}
 use Rattle.event_lines.specs.Cut.{input_lines}
-use Rattle.mystery_io.specs.Readings.{AreEnded, AreEndedBeforeLast, OnlyGrow, Reading, new_readings}
+use Rattle.mystery_io.specs.Readings.{AreEnded, OnlyGrow, Reading, new_readings}
 use Rattle.output_files.specs.Written.{WrittenFile}
+use Rattle.mystery_io.proofs.ReadGivenLemmas.{reading}
+use Rattle.mystery_io.proofs.GivenLemmas.{all_ended, ended_last}
 use Rattle.line_split.specs.declared.pending.Pending.{Pending}
 use Rattle.line_split.specs.declared.split_fault.SplitFault.{SplitFault}
 use Rattle.line_split.specs.declared.split_fault.SplitFault.TheVariants.{Arguments, Memory, BadLine, File, Write}
@@ -17,7 +19,6 @@ use Rattle.line_split.specs.Parts.{AreBegun, file_count, part_file}
 use Rattle.line_split.specs.Runs.{Explains, ExplainsAt, ReadsAll, ReadsFirst, before_last}
 use Rattle.line_split.specs.inner.Pending.{BeginsFiles, IsBegun, Tells, TellsFiles, WholeFiles}
 use Rattle.line_split.specs.inner.Steps.{CallRuns, FileCause, FileStop, FilesStop, IsStoreFault, LinesStop, RunCause, Splits, all_split, read_faults, write_faults}
-use Rattle.line_split.proofs.ReadLemmas.{reading}
 
 lines_push : (file : ℕ) (readings : List Reading) (r : Reading) → lines_of_readings file (readings ++ r ∷ []) ≡ lines_of_readings file readings ++ lines_from (file + length readings) 1 (input_lines r.bytes)
 lines_push file [] r = append-nil (lines_from file 1 (input_lines r.bytes)) ∙ ap (λ k. lines_from k 1 (input_lines r.bytes)) (omega arith)
@@ -60,11 +61,6 @@ file_of file n lines front after line e =
     All-head (λ (l : FileLine). l.file ≡ file) line after (all_right (λ (l : FileLine). l.file ≡ file) front (line ∷ after)
     (All-same (λ (l : FileLine). l.file ≡ file) (front ++ line ∷ after) (lines_from file n lines) (sym e) (lines_in file n lines)))
 
-ended_before : (readings : List Reading) (r : Reading) → AreEnded readings → AreEndedBeforeLast (readings ++ r ∷ [])
-ended_before [] r h = tt
-ended_before (q ∷ []) r h = (All-head (λ (r : Reading). r.at_end ≡ true) q [] h, tt)
-ended_before (q ∷ s ∷ qs) r h = (All-head (λ (r : Reading). r.at_end ≡ true) q (s ∷ qs) h, ended_before (s ∷ qs) r (All-tail (λ (r : Reading). r.at_end ≡ true) q (s ∷ qs) h))
-
 pub name_of : Reading → List ℕ
 name_of r = r.name
 
@@ -76,7 +72,7 @@ module _ (call : Call) (readings : List Reading) (i : ℕ) (size : length readin
   pub reads_first : AreEnded readings → All IsGood (all_lines readings) → ReadsFirst call (readings ++ r ∷ [])
   reads_first ended good = record {
     named = named_push ∙ ap (λ k. take k call.files) (sym (length_push readings r ∙ ap (λ k. k + 1) size));
-    ended = ended_before readings r ended;
+    ended = ended_last readings r ended;
     good = All-same IsGood (all_lines (before_last (readings ++ r ∷ []))) (all_lines readings) (ap all_lines (before_push readings r)) good;
   }
 
@@ -157,15 +153,10 @@ explains_store call before w readings lines rest (BadLine file line why) store r
 explains_store call before w readings lines rest (File index) store reads split good h = absurd store
 explains_store call before w readings lines rest Write store reads split good h = (reads, record { lines = lines; rest = rest; split = split; good = good; begun = begun_made call before w lines h })
 
-pub all_first : (readings : List Reading) → AreEnded readings → AreEndedBeforeLast readings
-all_first [] h = tt
-all_first (r ∷ []) h = tt
-all_first (r ∷ s ∷ rs) h = (All-head (λ (r : Reading). r.at_end ≡ true) r (s ∷ rs) h, all_first (s ∷ rs) (All-tail (λ (r : Reading). r.at_end ≡ true) r (s ∷ rs) h))
-
 pub all_reads_first : (call : Call) (readings : List Reading) → ReadsAll call readings → All IsGood (all_lines readings) → ReadsFirst call readings
 all_reads_first call readings h good = record {
   named = h.named ∙ sym (take_all (length readings) call.files (omega (arith, ap length h.named, length-map readings (λ (r : Reading). r.name))));
-  ended = all_first readings h.ended;
+  ended = all_ended readings h.ended;
   good = good_first 0 (length readings - 1) readings good;
 }
 

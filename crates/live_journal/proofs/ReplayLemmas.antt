@@ -1,14 +1,10 @@
 -- Journals and their replays.
-use Rattle.std.proofs.Common.{◌≡◌, ℕ, zero, suc, ◌+◌, ◌-◌, ◌*◌, ◌^◌, ◌<◌, ◌≤◌, not, ◌==◌, nat_lt, List, [], ◌∷◌, ◌++◌, length, All, refl, ap, arith, length-append}
-use Rattle.std.specs.Prelude.{sum_by, if◌then◌else◌}
-use Rattle.std.proofs.lemmas.Bool.{cond_both}
-use Rattle.std.proofs.lemmas.List.Concat.{length-flat_map}
+use Rattle.std.proofs.Common.{◌≡◌, ℕ, zero, suc, ◌+◌, ◌-◌, ◌*◌, ◌^◌, ◌<◌, ◌≤◌, List, [], ◌∷◌, ◌++◌, length, All, refl, ap, arith, length-append}
 use Rattle.std.proofs.lemmas.List.Elements.{All-append}
-use Rattle.std.proofs.lemmas.List.Filters.{sum_by-filter_both}
 use Rattle.std.proofs.lemmas.List.Sums.{sum_by-take-drop}
-use Rattle.trace_types.specs.declared.named_trace.NamedTrace.{NamedTrace}
-use Rattle.day_partitions.specs.Books.{KeptDay, all_traces, kept_day, with_day_traces, days_without, newest_days}
+use Rattle.day_partitions.specs.Books.{KeptDay, all_traces, newest_days}
 use Rattle.day_partitions.specs.Kept.{DayCommand, AddsSome, AreKept, CallsKeep, NothingIsKept, days_after}
+use Rattle.day_partitions.proofs.DayLemmas.{traces_in, traces_sum, with_count, without_count}
 use Rattle.live_journal.specs.declared.entry.Entry.{Entry}
 use Rattle.live_journal.specs.declared.entry.Entry.TheVariants.{Rolled, Dropped, Kept}
 use Rattle.live_journal.specs.Replays.{HasTraceCount, IsJournal, command_of, commands_from, days_from, replay}
@@ -32,27 +28,6 @@ journal_more es e h few counted = record {
 }
 
 -- ---- how many traces a replay has
-abbrev traces_in : KeptDay → ℕ
-traces_in k = length k.traces
-
-pub traces_sum : (ks : List KeptDay) → length (all_traces ks) ≡ sum_by traces_in ks
-traces_sum ks = length-flat_map (λ (k : KeptDay). k.traces) ks
-
-with_count : (day : ℕ) (ts : List NamedTrace) (ks : List KeptDay) → length (all_traces (with_day_traces day ts ks)) ≡ length (all_traces ks) + length ts
-with_count day ts [] = omega (arith, length-append ts [])
-with_count day ts (k ∷ ks) =
-    let P : List KeptDay → Type 0 = λ l. length (all_traces l) ≡ length (all_traces (k ∷ ks)) + length ts in
-    cond_both (nat_lt k.day day) (k ∷ with_day_traces day ts ks) (if k.day == day then kept_day day (k.traces ++ ts) ∷ ks else kept_day day ts ∷ k ∷ ks) P
-    (λ _. let h = with_count day ts ks in omega (arith, length-append k.traces (all_traces (with_day_traces day ts ks)), length-append k.traces (all_traces ks)))
-    (λ _. cond_both (k.day == day) (kept_day day (k.traces ++ ts) ∷ ks) (kept_day day ts ∷ k ∷ ks) P
-    (λ _. omega (arith, length-append (k.traces ++ ts) (all_traces ks), length-append k.traces ts, length-append k.traces (all_traces ks)))
-    (λ _. omega (arith, length-append ts (k.traces ++ all_traces ks), length-append k.traces (all_traces ks))))
-
-without_count : (day : ℕ) (ks : List KeptDay) → length (all_traces (days_without day ks)) ≤ length (all_traces ks)
-without_count day ks =
-    let both = sum_by-filter_both (λ (k : KeptDay). not (k.day == day)) (λ (k : KeptDay). not (not (k.day == day))) (λ _. refl) traces_in ks in
-    omega (arith, traces_sum (days_without day ks), traces_sum ks, both)
-
 newest_count : (n : ℕ) (ks : List KeptDay) → length (all_traces (newest_days n ks)) ≤ length (all_traces ks)
 newest_count n ks = omega (arith, traces_sum (newest_days n ks), traces_sum ks, sum_by-take-drop traces_in ks (length ks - n))
 

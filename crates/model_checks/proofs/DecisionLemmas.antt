@@ -14,7 +14,7 @@ use Rattle.trace_types.specs.Segments.{SegmentName}
 use Rattle.trace_types.specs.NameOrder.{name_cmp}
 use Rattle.trace_types.specs.Parts.{segments_of}
 use Rattle.trace_types.specs.Relations.{HappensBefore, ExcludesUnordered}
-use Rattle.model_checks.proofs.ElementLemmas.{Contains-map, Contains-flat_map}
+use Rattle.trace_types.proofs.ElementLemmas.{Contains-map, Contains-flat_map}
 
 -- a relation survives exactly where the test that tells of its refutation fails
 survives_from : {T : Type 0} (P : T → Type 0) (xs : List T) (r : Bool) → (r ≡ true) ↔ IsRefuted P xs → r ≡ false → Survives P xs

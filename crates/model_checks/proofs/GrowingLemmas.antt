@@ -1,14 +1,12 @@
 -- Lists that grow by what is new.
 use Rattle.std.proofs.Common.{◌≡◌, ◌≢◌, ℕ, ◌+◌, ◌<◌, ◌≤◌, List, [], ◌∷◌, ◌++◌, length, get_or, take, map, sym, ap, ◌∙◌, subst, inl, inr, ⊎_elim, arith}
-use Rattle.std.specs.List.{Contains, AllPairs, flat_map}
+use Rattle.std.specs.List.{Contains, flat_map}
 use Rattle.std.proofs.lemmas.List.{length-append, length_push, map_more, take_all}
 use Rattle.std.proofs.lemmas.List.Elements.{Contains-append_left, Contains-append_right, Contains-append_cases, Contains-get_or}
 use Rattle.std.proofs.lemmas.List.Quantifiers.{all_pairs_push}
+use Rattle.trace_types.proofs.ListingLemmas.{Contains-nil}
+use Rattle.trace_types.proofs.ElementLemmas.{Contains-one, map_flat_map-more}
 use Rattle.model_checks.specs.inner.Growing.{AddsDistinct}
-use Rattle.model_checks.proofs.ElementLemmas.{Contains-nil, Contains-one, map_flat_map-more}
-
-pub AllPairs-nil : {X : Type 0} (R : X → X → Type 0) → AllPairs R []
-AllPairs-nil R i j d l h = absurd (omega arith)
 
 pub AddsDistinct-none : {X : Type 0} (xs : List X) → AddsDistinct [] xs xs
 AddsDistinct-none xs = record {

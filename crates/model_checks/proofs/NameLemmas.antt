@@ -1,49 +1,28 @@
 -- Names and their order.
 use Rattle.std.proofs.Common.{◌≡◌, ◌≢◌, ◌↔◌, ℕ, ◌≤◌, Bool, true, false, not, ◌&&◌, Some, List, [], length, get_or, map, refl, sym, ap, ◌∙◌, inr, ⊎_elim, arith, IsPermutation, IsSorted, Ordering}
 use Rattle.std.specs.declared.cmp.Ordering.TheVariants.{Less, Equal, Greater}
-use Rattle.std.specs.Cmp.{IsTotalOrder}
 use Rattle.std.specs.Cmp.Lexicographic.{slice_cmp}
 use Rattle.std.specs.List.{Contains, AllPairs}
-use Rattle.std.specs.Ordering.{nat_cmp, ordering_then, partial_ordering_then, is_eq, is_lt, is_some_and}
+use Rattle.std.specs.Ordering.{nat_cmp, ordering_then, partial_ordering_then, is_lt, is_some_and}
 use Rattle.std.specs.Str.{bytes_eq}
 use Rattle.std.proofs.lemmas.Bool.{false≢true, both_ways, and_parts, and_from, not-true, not_from_false, false_from_ne_true}
 use Rattle.std.proofs.lemmas.List.{length-map}
-use Rattle.std.proofs.lemmas.Cmp.{nat_list_cmp_total, on_total, then_total}
 use Rattle.std.proofs.lemmas.List.Sorted.{Contains-permutation, IsPermutation-sym}
-use Rattle.std.proofs.lemmas.Map.Text.{is_eq-slice_cmp}
 use Rattle.std.proofs.lemmas.Slice.Eq.{bytes_eq-Decides}
 use Rattle.trace_types.specs.declared.segment.Segment.{Segment}
 use Rattle.trace_types.specs.Listing.{ListsExactly, CountsDistinct}
 use Rattle.trace_types.specs.NameOrder.{name_cmp}
 use Rattle.trace_types.specs.Segments.{SegmentName, name_of, task_of}
+use Rattle.trace_types.proofs.ComparingLemmas.{name_exact}
+use Rattle.trace_types.proofs.ListingLemmas.{name_total, Contains-nil}
+use Rattle.trace_types.proofs.ElementLemmas.{Contains-map, from_map}
+use Rattle.trace_types.proofs.PairLemmas.{AllPairs-nil}
 use Rattle.model_checks.specs.inner.Growing.{AddsDistinct}
-use Rattle.model_checks.proofs.ElementLemmas.{Contains-nil, Contains-map, from_map}
-use Rattle.model_checks.proofs.GrowingLemmas.{AllPairs-nil}
 use Rattle.model_checks.proofs.OrderLemmas.{rising_from_sort, less_differs}
 
 -- the task of a name
 abbrev pub task_in : SegmentName → List ℕ
 task_in name = name.0
-
-pub name_total : IsTotalOrder name_cmp
-name_total = then_total (on_total (λ (n : SegmentName). n.0) nat_list_cmp_total) (then_total (on_total (λ (n : SegmentName). n.1) nat_list_cmp_total) (on_total (λ (n : SegmentName). n.2) nat_list_cmp_total))
-
-text_exact : (xs ys : List ℕ) → slice_cmp nat_cmp xs ys ≡ Equal → xs ≡ ys
-text_exact xs ys e = (bytes_eq-Decides xs ys).0 (sym (is_eq-slice_cmp xs ys) ∙ ap is_eq e)
-
-both_equal : (o p : Ordering) → ordering_then o p ≡ Equal → (o ≡ Equal) × (p ≡ Equal)
-both_equal Less p e = cc
-both_equal Equal p e = (refl, e)
-both_equal Greater p e = cc
-
-name_exact : (a b : SegmentName) → name_cmp a b ≡ Equal → a ≡ b
-name_exact a b e =
-    let t = both_equal (slice_cmp nat_cmp a.0 b.0) (ordering_then (slice_cmp nat_cmp a.1 b.1) (slice_cmp nat_cmp a.2 b.2)) e in
-    let u = both_equal (slice_cmp nat_cmp a.1 b.1) (slice_cmp nat_cmp a.2 b.2) t.1 in
-    let ts : a.0 ≡ b.0 = text_exact a.0 b.0 t.0 in
-    let ss : a.1 ≡ b.1 = text_exact a.1 b.1 u.0 in
-    let es : a.2 ≡ b.2 = text_exact a.2 b.2 u.1 in
-    λ k. (ts k, ss k, es k)
 
 -- `!=` and `<` at names
 pub told_apart : (a b : SegmentName) (r : Bool) → r ≡ not (bytes_eq a.0 b.0 && (bytes_eq a.1 b.1 && bytes_eq a.2 b.2)) → (r ≡ true) ↔ (a ≢ b)

@@ -1,29 +1,16 @@
 -- Lists of exactly some elements, each once, in rising order.
-use Rattle.std.proofs.Common.{◌≡◌, ◌≢◌, ◌⊎◌, ◌↔◌, ◌+◌, ◌-◌, ◌<◌, ◌≤◌, true, false, List, [], ◌∷◌, ◌++◌, length, get_or, refl, sym, ap, ◌∙◌, subst, inl, inr, ⊎_elim, arith, IsPermutation, IsSorted, Ordering}
-use Rattle.std.specs.declared.cmp.Ordering.TheVariants.{Less, Equal, Greater}
-use Rattle.std.specs.List.{Contains, AllPairs}
+use Rattle.std.proofs.Common.{◌≡◌, ◌≢◌, List, get_or, subst, arith, IsPermutation, IsSorted, Ordering}
+use Rattle.std.specs.declared.cmp.Ordering.TheVariants.{Less, Equal}
+use Rattle.std.specs.List.{AllPairs}
 use Rattle.std.specs.Cmp.{IsTotalOrder}
-use Rattle.std.specs.Ordering.{is_lt, is_eq, eq_by_cmp, ordering_reverse}
-use Rattle.std.proofs.lemmas.Bool.{cases_lt, false≢true, false_from_ne_true}
+use Rattle.std.specs.Ordering.{is_lt, eq_by_cmp}
+use Rattle.std.proofs.lemmas.Bool.{false_from_ne_true}
 use Rattle.std.proofs.lemmas.Cmp.{tied_itself, eq_by_cmp_equiv}
-use Rattle.std.proofs.lemmas.List.{get_or_append_left, get_or-append_right, length-append}
-use Rattle.std.proofs.lemmas.List.Elements.{Contains-append_left, Contains-append_right, Contains-append_cases, Contains-get_or}
 use Rattle.std.proofs.lemmas.List.Sorted.{ranks_by, sorted_far}
 use Rattle.std.proofs.lemmas.Map.Keys.{apart_from_distinct, IsDistinct-from_apart, IsDistinct-IsPermutation}
-use Rattle.trace_types.specs.Listing.{ListsExactly}
-use Rattle.model_checks.proofs.ElementLemmas.{Contains-nil, Contains-one, Contains-itself}
+use Rattle.trace_types.proofs.ComparingLemmas.{less_from, equal_from}
 
 -- ---- the order
-pub less_from : (o p : Ordering) → o ≡ ordering_reverse p → is_lt p ≡ false → is_eq o ≡ false → o ≡ Less
-less_from o Less e l q = absurd (false≢true (sym l))
-less_from o Equal e l q = absurd (false≢true (sym q ∙ ap is_eq e))
-less_from o Greater e l q = e
-
-equal_from : (o : Ordering) → is_eq o ≡ true → o ≡ Equal
-equal_from Less e = absurd (false≢true e)
-equal_from Equal e = refl
-equal_from Greater e = absurd (false≢true e)
-
 module _ {X : Type 0} (cmp : X → X → Ordering) (total : IsTotalOrder cmp) where
   -- what a sort leaves of a list with no element twice rises
   pub rising_from_sort : ((x y : X) → cmp x y ≡ Equal → x ≡ y) → (xs ys : List X) → IsPermutation xs ys → AllPairs (λ x y. x ≢ y) xs → IsSorted cmp ys → AllPairs (λ x y. cmp x y ≡ Less) ys
@@ -37,43 +24,3 @@ module _ {X : Type 0} (cmp : X → X → Ordering) (total : IsTotalOrder cmp) wh
   less_differs x y l e = let t : cmp x y ≡ Equal = subst (λ z. cmp x z ≡ Equal) e (tied_itself total x) in cc
 
 -- ---- lists of exactly some elements
-pub ListsExactly-same : {X : Type 0} (cmp : X → X → Ordering) (P Q : X → Type 0) → ((x : X) → P x ↔ Q x) → (xs : List X) → ListsExactly cmp P xs → ListsExactly cmp Q xs
-ListsExactly-same cmp P Q same xs h = record {
-  rising = h.rising;
-  exactly = λ x. ((λ c. (same x).0 ((h.exactly x).0 c)), (λ q. (h.exactly x).1 ((same x).1 q)));
-}
-
-pub ListsExactly-nil : {X : Type 0} (cmp : X → X → Ordering) (P : X → Type 0) → ((x : X) → P x → ⊥) → ListsExactly cmp P []
-ListsExactly-nil cmp P none = record {
-  rising = λ i j d l h. absurd (omega arith);
-  exactly = λ x. ((λ c. absurd (Contains-nil x c)), (λ p. absurd (none x p)));
-}
-
-pub ListsExactly-one : {X : Type 0} (cmp : X → X → Ordering) (x : X) → ListsExactly cmp (λ y. x ≡ y) (x ∷ [])
-ListsExactly-one cmp x = record {
-  rising = λ i j d l h. absurd (omega arith);
-  exactly = λ y. ((λ c. Contains-one x y c), (λ e. Contains-itself x y e));
-}
-
--- two such lists, each element of the first being below each of the second
-pub AllPairs-append : {X : Type 0} (R : X → X → Type 0) (xs ys : List X) → AllPairs R xs → AllPairs R ys → ((x y : X) → Contains xs x → Contains ys y → R x y) → AllPairs R (xs ++ ys)
-AllPairs-append {X} R xs ys p q across i j d lt inside =
-    let n : j < length xs + length ys = omega (arith, length-append xs ys) in
-    ⊎_elim
-    (λ (low : j < length xs). let m : i < length xs = omega arith in
-    subst (λ v. R v (get_or (xs ++ ys) j d)) (sym (get_or_append_left xs ys d i m)) (subst (λ v. R (get_or xs i d) v) (sym (get_or_append_left xs ys d j low)) (p i j d lt low)))
-    (λ (high : length xs ≤ j). let k : j - length xs < length ys = omega arith in let ej = get_or-append_right xs ys (length xs) j d refl high in
-    subst (λ v. R (get_or (xs ++ ys) i d) v) (sym ej) (⊎_elim
-    (λ (m : i < length xs). subst (λ v. R v (get_or ys (j - length xs) d)) (sym (get_or_append_left xs ys d i m)) (across (get_or xs i d) (get_or ys (j - length xs) d) (Contains-get_or xs i d m) (Contains-get_or ys (j - length xs) d k)))
-    (λ (m : length xs ≤ i). subst (λ v. R v (get_or ys (j - length xs) d)) (sym (get_or-append_right xs ys (length xs) i d refl m)) (q (i - length xs) (j - length xs) d (omega arith) k))
-    (cases_lt i (length xs))))
-    (cases_lt j (length xs))
-
-pub ListsExactly-append : {X : Type 0} (cmp : X → X → Ordering) (P Q R : X → Type 0) → ((x y : X) → P x → Q y → cmp x y ≡ Less) → ((x : X) → R x ↔ (P x ⊎ Q x)) → (xs ys : List X) → ListsExactly cmp P xs → ListsExactly cmp Q ys → ListsExactly cmp R (xs ++ ys)
-ListsExactly-append {X} cmp P Q R across same xs ys p q = record {
-  rising = AllPairs-append (λ (x y : X). cmp x y ≡ Less) xs ys p.rising q.rising (λ x y c d. across x y ((p.exactly x).0 c) ((q.exactly y).0 d));
-  exactly = λ x. (
-    (λ c. (same x).1 (⊎_elim (λ (d : Contains xs x). inl ((p.exactly x).0 d)) (λ (d : Contains ys x). inr ((q.exactly x).0 d)) (Contains-append_cases xs ys x c))),
-    (λ r. ⊎_elim (λ (h : P x). Contains-append_left xs ys x ((p.exactly x).1 h)) (λ (h : Q x). Contains-append_right xs ys x ((q.exactly x).1 h)) ((same x).0 r)),
-  );
-}

@@ -7,12 +7,12 @@ use Rattle.std.proofs.lemmas.Bool.{false≢true}
 use Rattle.std.proofs.lemmas.Cmp.{tied_itself}
 use Rattle.std.proofs.lemmas.List.{append_assoc, append-nil, take_all}
 use Rattle.trace_types.specs.Segments.{SegmentName}
+use Rattle.trace_types.proofs.ListingLemmas.{name_total, Contains-nil}
+use Rattle.trace_types.proofs.ElementLemmas.{Contains-more, Contains-before, Contains-now, before_place}
+use Rattle.trace_types.proofs.ExactLemmas.{ListsExactly-same, ListsExactly-nil, ListsExactly-one, ListsExactly-append}
 use Rattle.model_checks.specs.inner.Growing.{AppendsExactly}
 use Rattle.trace_types.specs.Listing.{ListsExactly}
 use Rattle.trace_types.specs.NameOrder.{name_cmp, pair_cmp}
-use Rattle.model_checks.proofs.ElementLemmas.{Contains-nil, Contains-more, Contains-before, Contains-now, before_place}
-use Rattle.model_checks.proofs.OrderLemmas.{ListsExactly-same, ListsExactly-nil, ListsExactly-one, ListsExactly-append}
-use Rattle.model_checks.proofs.NameLemmas.{name_total}
 
 abbrev pub Pair : Type 0
 Pair = SegmentName × SegmentName

@@ -1,10 +1,7 @@
 -- Numbers of lines: which pairs they are of, and that there is one number.
-use Rattle.std.proofs.Common.{◌≡◌, ◌⊎◌, ℕ, ◌<◌, List, All, sym, ap, ◌∙◌, subst, ⊎_elim, inl, inr, arith}
-use Rattle.std.specs.Cmp.{nat_cmp_is}
+use Rattle.std.proofs.Common.{◌≡◌, ◌⊎◌, ℕ, ◌<◌, List, All, ap, ◌∙◌, subst, ⊎_elim, inl, inr, arith}
 use Rattle.std.specs.Ordering.{nat_cmp}
-use Rattle.std.specs.declared.cmp.Ordering.TheVariants.{Less}
 use Rattle.std.proofs.lemmas.Bool.{cases_order}
-use Rattle.std.proofs.lemmas.Cmp.{ranked}
 use Rattle.std.proofs.lemmas.List.Elements.{All-contains}
 use Rattle.std.proofs.lemmas.Option.{get_or_from_slice_get, slice_get_within}
 use Rattle.trace_types.specs.declared.named_segment.NamedSegment.{NamedSegment}
@@ -16,6 +13,7 @@ use Rattle.trace_types.specs.Refuting.{RefutesApart}
 use Rattle.trace_types.specs.Relations.{ExcludesUnordered, HappensBefore}
 use Rattle.trace_types.specs.Surviving.{IsRefuted}
 use Rattle.refute_tests.specs.Clearing.{HaveNamesBelow}
+use Rattle.trace_types.proofs.ComparingLemmas.{less_means, less_to}
 use Rattle.model_meet.specs.CountLaws.{CountsAreOne, HaveTasksBelow, NoLineIsLeftOut, NumbersAreOrdered}
 use Rattle.model_meet.specs.Counting.{CountsPairs}
 use Rattle.trace_rules.specs.Pipes.{IsPipeline}
@@ -23,19 +21,13 @@ use Rattle.model_meet.specs.declared.counts.Counts.{Counts}
 use Rattle.model_meet.proofs.CountingLemmas.{exactly_alike}
 
 -- ---- numbers are ordered
-less_from : (a b : ℕ) → nat_cmp a b ≡ Less → a < b
-less_from a b e = ranked a b Less (sym e)
-
-less_to : (a b : ℕ) → a < b → nat_cmp a b ≡ Less
-less_to a b h = sym (nat_cmp_is a b Less h)
-
 pub numbers_are_ordered : NumbersAreOrdered
 numbers_are_ordered limit = record {
   one_is_less = λ a b x y differ. ⊎_elim
       (λ (e : a ≡ b). absurd (differ e))
       (λ (h : (a < b) ⊎ (b < a)). ⊎_elim (λ (l : a < b). inl (less_to a b l)) (λ (l : b < a). inr (less_to b a l)) h)
       (cases_order a b);
-  not_both = λ a b x y e f. let l = less_from a b e in let m = less_from b a f in absurd (omega arith);
+  not_both = λ a b x y e f. let l = less_means a b e in let m = less_means b a f in absurd (omega arith);
 }
 
 -- ---- one number

@@ -5,10 +5,12 @@ use Rattle.std.specs.List.{Contains}
 use Rattle.std.proofs.lemmas.Bool.{cases_eq, false≢true}
 use Rattle.std.proofs.lemmas.List.{length-append}
 use Rattle.std.proofs.lemmas.List.Elements.{Contains-append_left, Contains-append_right, Contains-append_cases}
+use Rattle.trace_types.proofs.ListingLemmas.{Contains-nil}
+use Rattle.trace_types.proofs.ElementLemmas.{Contains-one, Contains-itself}
+use Rattle.trace_types.proofs.PairLemmas.{AllPairs-nil, AllPairs-append}
 use Rattle.model_meet.specs.Counting.{CountsPairs}
 use Rattle.trace_types.specs.Listing.{AreExactly}
 use Rattle.model_meet.specs.inner.Beside.{IsBeside, CountsBeside}
-use Rattle.model_meet.proofs.JoinLemmas.{AllPairs-append, AllPairs-nil, Contains-itself, Contains-nil, Contains-one}
 
 pub none_exactly : {X : Type 0} (P : X → Type 0) → ((x : X) → P x → ⊥) → AreExactly P 0
 none_exactly {X} P none = record {

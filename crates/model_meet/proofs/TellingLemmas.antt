@@ -12,6 +12,8 @@ use Rattle.trace_types.specs.Parts.{by_number}
 use Rattle.trace_types.specs.Refuting.{RefutesExclusive}
 use Rattle.trace_types.specs.Surviving.{Survives, IsRefuted}
 use Rattle.trace_types.specs.declared.named_trace.NamedTrace.{NamedTrace}
+use Rattle.word_rows.proofs.CloseLemmas.{one_bit}
+use Rattle.word_rows.proofs.OpeningLemmas.{one_not_zero}
 use Rattle.model_meet.specs.ExclusionTables.{TellsExclusions}
 use Rattle.model_meet.specs.ModelStates.{ModelState}
 use Rattle.model_meet.specs.RelationBits.{relation_bit}
@@ -24,12 +26,6 @@ none_survive P xs none k d lt p = none (k, get_or xs k d, lt, get_or_default xs 
 pub both_ways : {A : Type 0} (P : A → Type 0) (xs : List A) → Survives P xs → IsRefuted P xs → ⊥
 both_ways P xs survives a = All-contains (λ t. P t → ⊥) xs a.1 survives (a.0, a.2, a.3) a.4
 
-one_from : (n : ℕ) → n < 2 → (n ≡ 0 → ⊥) → n ≡ 1
-one_from n small not_zero = omega arith
-
-not_both : (n : ℕ) → n ≡ 1 → n ≡ 0 → ⊥
-not_both n one zero = omega arith
-
 pub told_by_places : ((r s : Relation) → IsRelation r → IsRelation s → place_of r ≡ place_of s → r ≡ s)
     → ((names : ℕ) (r : Relation) → names ≤ 512 → IsRelation r → NamesBelow names r → ((place_of r).word < width_of names) × ((place_of r).bit < 64))
     → WordsTell
@@ -41,8 +37,8 @@ told_by_places differ fit traces words names few wide tells r v below =
     let from : IsRefuted (Refutes r) traces → relation_bit words r ≡ 0 = λ h. at.1 (r, v, refl, h) in
     record {
       survives = (
-        (λ one. none_survive (Refutes r) traces (λ h. not_both (relation_bit words r) one (from h))),
-        (λ s. one_from (relation_bit words r) (bit_at-lt _ (place_of r).bit) (λ z. both_ways (Refutes r) traces s (to z))),
+        (λ one. none_survive (Refutes r) traces (λ h. one_not_zero (relation_bit words r) one (from h))),
+        (λ s. one_bit (relation_bit words r) (bit_at-lt _ (place_of r).bit) (λ z. both_ways (Refutes r) traces s (to z))),
       );
       refuted = (to, from);
     }

@@ -1,6 +1,6 @@
 -- The bytes of a file, piece by piece, on their way to an intake.
 use Rattle.std.proofs.Common.{◌≡◌, ℕ, ◌+◌, ◌++◌, ◌<◌, ◌≤◌, List, [], ◌∷◌, length, take, Bool, true, false, arith, ap, refl, sym, subst, ◌∙◌, append-nil}
-use Rattle.std.specs.Prelude.{if◌then◌else◌, Result, Ok, Err, OnOk}
+use Rattle.std.specs.Prelude.{if◌then◌else◌}
 use Rattle.std.proofs.lemmas.List.{length-append}
 use Rattle.mystery_io.specs.Input.{ended, ends_line, input_limit}
 use Rattle.mystery_io.specs.Readings.{Reading, after_bytes, after_open}
@@ -109,11 +109,6 @@ cause_unopened index count name before now opened le = record {
   given = opened;
   why = (refl, omega (arith, le));
 }
-
--- what follows from what a call ensures
-pub on_ok : {T E : Type 0} (r : Result T E) (P Q : Type 0) → (P → Q) → OnOk r P → OnOk r Q
-on_ok (Ok x) P Q f h = f h
-on_ok (Err e) P Q f h = tt
 
 -- with no byte in the buffer all were taken
 pub all_taken : {I : Type 0} (took : I → List ℕ → Type 0) (f : Feeder I) (bytes : List ℕ) → Holds took f bytes → f.filled ≡ 0 → took f.intake bytes

@@ -95,3 +95,8 @@ input_one xs r = input_both xs (r ∷ []) ∙ ap (λ b. input_read xs ++ b) (app
 -- the names of readings, one more
 pub names_one : (xs : List Reading) (r : Reading) → map (λ (q : Reading). q.name) (xs ++ r ∷ []) ≡ map (λ (q : Reading). q.name) xs ++ r.name ∷ []
 names_one xs r = map-append (λ (q : Reading). q.name) xs (r ∷ [])
+
+pub ended_last : (readings : List Reading) (r : Reading) → AreEnded readings → AreEndedBeforeLast (readings ++ r ∷ [])
+ended_last [] r h = tt
+ended_last (q ∷ []) r h = (All-head (λ (r : Reading). r.at_end ≡ true) q [] h, tt)
+ended_last (q ∷ s ∷ qs) r h = (All-head (λ (r : Reading). r.at_end ≡ true) q (s ∷ qs) h, ended_last (s ∷ qs) r (All-tail (λ (r : Reading). r.at_end ≡ true) q (s ∷ qs) h))

@@ -1,5 +1,5 @@
 -- Pieces of told bytes, one after another.
-use Rattle.std.proofs.Common.{◌≡◌, ℕ, ◌+◌, ◌++◌, List, take, drop, Option, Some, None, refl, ap, append_assoc, sym, ◌∙◌, inl, inr}
+use Rattle.std.proofs.Common.{◌≡◌, ℕ, ◌+◌, ◌++◌, List, take, drop, Option, Some, None, refl, ap, append_assoc, sym, ◌∙◌, inl, inr, []}
 use Rattle.std.proofs.Math.Seq.{take-add}
 use Rattle.std.specs.Prelude.{IfSome, Result, Ok, Err, OnOk, OnErr}
 use Rattle.mystery_io.specs.Counts.{faults_after}
@@ -29,3 +29,7 @@ pub sends_by : {T E S : Type 0} (r : Result T E) (written : S → Option (List �
     → OnErr r (AppendsPrefix (written old) (written new) bytes) → faults new ≡ faults_after r (faults old) → Sends written faults old new bytes
 sends_by (Ok x) written faults old new bytes all part counted = inl (all, counted)
 sends_by (Err e) written faults old new bytes all part counted = inr (part, counted)
+
+pub append_nothing : (w : Option (List ℕ)) → append_known w [] ≡ w
+append_nothing None = refl
+append_nothing (Some xs) = ap Some (append-nil xs)

@@ -3,5 +3,7 @@ pub mod FeedLemmas
 pub mod GivenLemmas
 pub mod HonestLemmas
 pub mod KnownLemmas
+pub mod MessageLemmas
 pub mod NamedLemmas
 pub mod OpenLemmas
+pub mod ReadGivenLemmas

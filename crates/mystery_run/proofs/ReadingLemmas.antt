@@ -4,12 +4,13 @@ use Rattle.std.specs.Prelude.{◌==◌}
 use Rattle.std.proofs.Math.Seq.{take-append-add, take-length}
 use Rattle.std.proofs.lemmas.Bool.{eqb-true}
 use Rattle.std.proofs.lemmas.List.{drop_at, length-append, length-map, length-take, map-append, nil_from_length, take_all, take_at, take-append-drop, take-append-le}
-use Rattle.std.proofs.lemmas.List.Elements.{All-append, All-head, All-nil, All-tail}
+use Rattle.std.proofs.lemmas.List.Elements.{All-append, All-nil}
 use Rattle.mystery_io.specs.Input.{input_limit, input_read}
 use Rattle.mystery_io.specs.ReadFaults.{FilesSeen, OpensFirst, FailedAt, HasReadCause, PassedAt}
 use Rattle.mystery_io.specs.Readings.{AreEnded, AreEndedBeforeLast, OnlyGrow, Reading, new_readings}
 use Rattle.mystery_io.specs.declared.reading.ReadFault.{ReadFault}
 use Rattle.mystery_io.specs.declared.reading.ReadFault.TheVariants.{Memory, File as Unread, TooBig}
+use Rattle.mystery_io.proofs.GivenLemmas.{ended_before}
 use Rattle.mystery_run.specs.Readings.{AreReadFirst, AtFile, FailsAt, FitsSize, PassesAt, PassesSize, seen_after}
 use Rattle.mystery_run.specs.inner.ReadingTwice.{HasReadingCause}
 
@@ -43,13 +44,6 @@ ended_none before = subst AreEnded (sym (new_none before)) (All-nil HasEnded)
 
 pub input_none : (before : List Reading) → [] ≡ input_read (new_readings before before)
 input_none before = ap input_read (sym (new_none before))
-
--- readings that ended, and others of which all but the last did
-ended_before : (xs ys : List Reading) → AreEnded xs → AreEndedBeforeLast ys → AreEndedBeforeLast (xs ++ ys)
-ended_before [] ys a b = b
-ended_before (x ∷ []) [] a b = tt
-ended_before (x ∷ []) (y ∷ ys) a b = (All-head HasEnded x [] a, b)
-ended_before (x ∷ z ∷ xs) ys a b = (All-head HasEnded x (z ∷ xs) a, ended_before (z ∷ xs) ys (All-tail HasEnded x (z ∷ xs) a) b)
 
 -- without a name none is opened
 pub opens_none : (seen : FilesSeen) (names : List (List ℕ)) → names ≡ [] → seen.opens_now ≡ seen.opens_before → seen.readings ≡ [] → OpensFirst seen names (length names)

@@ -1,6 +1,5 @@
 -- The rows of a replay, one step after another.
-use Rattle.std.proofs.Common.{◌≡◌, ℕ, ◌+◌, ◌<◌, List, [], ◌∷◌, ◌++◌, length, take, drop, get_or, Option, Some, None, Result, Ok, Err, refl, sym, ap, ◌∙◌, subst, append_assoc, arith}
-use Rattle.std.specs.Prelude.{OnErr, OnOk}
+use Rattle.std.proofs.Common.{◌≡◌, ℕ, ◌+◌, ◌<◌, List, [], ◌∷◌, ◌++◌, length, take, drop, get_or, Option, Result, Ok, Err, refl, sym, ap, ◌∙◌, subst, append_assoc, arith}
 use Rattle.std.specs.Io.KnownBytes.{append_known}
 use Rattle.std.proofs.lemmas.List.{append-nil, take_more, take-append-drop}
 use Rattle.std.proofs.lemmas.Grind.{common_steps}
@@ -13,23 +12,12 @@ use Rattle.step_core.specs.declared.step_fault.StepFault.TheVariants as faults
 use Rattle.step_core.specs.StepFaults.{HasStepFault}
 use Rattle.text_rows.specs.declared.print_fault.PrintFault.{PrintFault}
 use Rattle.text_rows.specs.declared.print_fault.PrintFault.TheVariants as printing
+use Rattle.mystery_io.proofs.KnownLemmas.{append_nothing}
+use Rattle.word_rows.proofs.HistoryLemmas.{steps_follow}
 use Rattle.mystery_run.specs.ReplayTexts.{fault_row, step_row}
-use Rattle.text_rows.specs.Printing.{Prints, print_faults, PrintsText}
+use Rattle.text_rows.specs.Printing.{Prints, PrintsText}
 use Rattle.text_rows.specs.TextsFollow.{PrintsFollow, PrefixFollows, PrefixGoesOn}
 use Rattle.mystery_run.specs.inner.Replaying.{row_of_fault, steps_text}
-
--- what holds of a value, or of an error, follows from what does
-pub on_ok : {A E : Type 0} (r : Result A E) (P Q : Type 0) → (P → Q) → OnOk r P → OnOk r Q
-on_ok (Ok a) P Q f h = f h
-on_ok (Err e) P Q f h = h
-
-pub on_err : {A E : Type 0} (r : Result A E) (P Q : Type 0) → (P → Q) → OnErr r P → OnErr r Q
-on_err (Ok a) P Q f h = h
-on_err (Err e) P Q f h = f h
-
-append_nothing : (w : Option (List ℕ)) → append_known w [] ≡ w
-append_nothing None = refl
-append_nothing (Some xs) = ap Some (append-nil xs)
 
 -- nothing of a text is a prefix of it
 pub unbegun : (before : Option (List ℕ)) (text : List ℕ) → AppendsPrefix before before text
@@ -38,21 +26,12 @@ unbegun before text = record { count = 0; appended = sym (append_nothing before)
     take_none : (xs : List ℕ) → take 0 xs ≡ []
     take_none xs = grind (arith, common_steps)
 
--- a call that a fault stopped after others had met none
-pub prints_part : {S T : Type 0} (written : S → Option (List ℕ)) (faults : S → ℕ) (e : PrintFault) (old mid new : S) (held holds text : List ℕ) → faults mid ≡ faults old → faults new ≡ print_faults {T = T} (Err e) (faults mid)
-    → AppendsPrefix (written old) (written new) (held ++ text) → PrintsText {T = T} written faults (Err e) old new held holds text
-prints_part {T = T} written faults e old mid new held holds text same counted prefix = record { all = tt; prefix = prefix; counted = counted ∙ ap (print_faults {T = T} (Err e)) same }
-
 -- the steps of one list, and then those of another
 steps_text-append : (s : StepState) (es fs : List StepEvent) → steps_text s (es ++ fs) ≡ steps_text s es ++ steps_text (steps s es).0 fs
 steps_text-append s [] fs = refl
 steps_text-append s (e ∷ es) fs =
     ap (λ (t : List ℕ). step_row (e, (step s e).1) ++ t) (steps_text-append (step s e).0 es fs)
     ∙ sym (append_assoc (step_row (e, (step s e).1)) (steps_text (step s e).0 es) (steps_text (steps (step s e).0 es).0 fs))
-
-steps-append : (s : StepState) (es fs : List StepEvent) → (steps s (es ++ fs)).0 ≡ (steps (steps s es).0 fs).0
-steps-append s [] fs = refl
-steps-append s (e ∷ es) fs = steps-append (step s e).0 es fs
 
 -- the first steps and one more
 module _ (s : StepState) (events : List StepEvent) (i : ℕ) (e : StepEvent) (lt : i < length events) (is : e ≡ get_or events i e) where
@@ -62,7 +41,7 @@ module _ (s : StepState) (events : List StepEvent) (i : ℕ) (e : StepEvent) (lt
   -- the state after one more
   pub state_more : (mid next : StepState) → mid ≡ (steps s (take i events)).0 → next ≡ (step mid e).0 → next ≡ (steps s (take (i + 1) events)).0
   state_more mid next at made =
-      made ∙ ap (λ (t : StepState). (step t e).0) at ∙ sym (steps-append s (take i events) (e ∷ [])) ∙ ap (λ (es : List StepEvent). (steps s es).0) (sym taken)
+      made ∙ ap (λ (t : StepState). (step t e).0) at ∙ sym (steps_follow s (take i events) (e ∷ [])) ∙ ap (λ (es : List StepEvent). (steps s es).0) (sym taken)
 
   -- the text of one more
   text_more : (mid : StepState) → mid ≡ (steps s (take i events)).0 → steps_text s (take i events) ++ step_row (e, (step mid e).1) ≡ steps_text s (take (i + 1) events)

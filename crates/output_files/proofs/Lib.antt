@@ -1,1 +1,1 @@
-mod WriteLemmas
+pub mod WriteLemmas

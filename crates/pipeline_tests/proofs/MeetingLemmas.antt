@@ -1,10 +1,12 @@
 -- One more stay of the lower task: it meets the stay of the other with the same element, or none.
-use Rattle.std.proofs.Common.{◌≡◌, ◌≢◌, ℕ, ◌+◌, ◌<◌, ◌≤◌, max, Bool, true, false, not, ◌&&◌, ◌||◌, ◌==◌, nat_lt, List, [], ◌∷◌, ◌++◌, length, get_or, take, All, refl, sym, ap, ◌∙◌, subst, ⊎_elim, ◌⊎◌, inl, inr, true≢false, length-append, arith}
+use Rattle.std.proofs.Common.{◌≡◌, ◌≢◌, ℕ, ◌+◌, ◌<◌, ◌≤◌, max, Bool, true, not, ◌&&◌, ◌||◌, ◌==◌, nat_lt, List, [], ◌∷◌, ◌++◌, length, get_or, take, All, sym, ap, ◌∙◌, subst, ⊎_elim, ◌⊎◌, inl, inr, true≢false, length-append, arith}
 use Rattle.std.proofs.lemmas.Bool.{and_parts, and_from, cases_lt, false≢true, lt-ltb, ltb-true, ne_eqb, or_cases, or_left, or_right}
 use Rattle.std.proofs.lemmas.List.{get_or_default, get_or-take, length-take-le}
 use Rattle.std.proofs.lemmas.List.Elements.{All-contains, Contains-append_left, Contains-push, Contains-push_cases}
 use Rattle.std.proofs.lemmas.List.Folds.{Any-from_list_any, list_any_at, list_any-append}
 use Rattle.std.specs.List.{Contains, list_any}
+use Rattle.trace_types.proofs.TruthLemmas.{by_truth}
+use Rattle.word_rows.proofs.ViewLemmas.{or_false}
 use Rattle.pipeline_tests.specs.declared.meetings.Sharing.{Sharing}
 use Rattle.pipeline_tests.specs.declared.stays.Stay.{Stay}
 use Rattle.pipeline_tests.specs.inner.Meetings.{AreMeetings, IsSharing, Meeting, takes_early, turned, turns}
@@ -74,15 +76,6 @@ some_meeting p met h = let a = Any-from_list_any p met h in (a.1, (a.0, a.2, a.3
 pub by_meeting : (p : Meeting → Bool) (met : List Meeting) (m : Meeting) → Contains met m → p m ≡ true → list_any p met ≡ true
 by_meeting p met m c h = list_any_at p met c.0 m c.1 (subst (λ (n : Meeting). p n ≡ true) (sym c.2) h)
 
-either_way : (a b : Bool) → (a ≡ true → b ≡ true) → (b ≡ true → a ≡ true) → a ≡ b
-either_way true b f g = sym (f refl)
-either_way false true f g = g refl
-either_way false false f g = refl
-
-or_false : (a : Bool) → (a || false) ≡ a
-or_false true = refl
-or_false false = refl
-
 any_more : (p : Meeting → Bool) (met : List Meeting) (m : Meeting) (old new : Bool) → old ≡ list_any p met → new ≡ (old || p m) → new ≡ list_any p (met ++ m ∷ [])
 any_more p met m old new e f = f ∙ ap (λ (b : Bool). b || p m) e ∙ sym (list_any-append p met (m ∷ []) ∙ ap (λ (b : Bool). list_any p met || b) (or_false (p m)))
 
@@ -132,7 +125,7 @@ module _ (grace : ℕ) (met : List Meeting) (old : Sharing) (s : IsSharing grace
       (Contains-push_cases met x m a.1)
 
   turns_more : (turns met || turns_here) ≡ turns all
-  turns_more = either_way (turns met || turns_here) (turns all)
+  turns_more = by_truth (turns met || turns_here) (turns all)
       (λ h. ⊎_elim turned_before turned_here (or_cases (turns met) turns_here h))
       turned_from
 

@@ -1,13 +1,13 @@
 -- What the meetings of two tasks say of the two, and what the row then clears.
-use Rattle.std.proofs.Common.{◌≡◌, ℕ, zero, ◌<◌, Bool, true, false, not, ◌&&◌, ◌||◌, ◌==◌, nat_lt, T, List, [], ◌∷◌, length, slice_get, Some, refl, sym, ap, ◌∙◌, subst, ⊎_elim, inl, inr, arith}
-use Rattle.std.proofs.lemmas.Bool.{and_parts, and_from, or_cases, or_left, or_right, eqb-true, eq-eqb, lt-ltb, ltb-true, false≢true, not_from_false, ne_eqb}
+use Rattle.std.proofs.Common.{◌≡◌, ℕ, zero, ◌<◌, Bool, true, not, ◌&&◌, ◌||◌, ◌==◌, nat_lt, List, [], ◌∷◌, length, slice_get, Some, refl, sym, ap, ◌∙◌, subst, ⊎_elim, inl, inr, arith}
+use Rattle.std.proofs.lemmas.Bool.{and_parts, and_from, or_cases, or_left, or_right, eq-eqb, lt-ltb, ltb-true, false≢true, not_from_false, ne_eqb}
 use Rattle.std.proofs.lemmas.Option.{slice_get_within}
-use Rattle.std.specs.Int.Signed.{lt_z_yes}
 use Rattle.std.specs.List.{Contains, list_any}
 use Rattle.hypothesis_index.specs.Places.{place_of}
 use Rattle.hypothesis_index.specs.Refuting.{IsPlaceOfSome, RefutesTasks}
 use Rattle.hypothesis_index.specs.declared.relation.Relation.{Relation}
 use Rattle.hypothesis_index.specs.declared.relation.Relation.TheVariants.{Before, Exclusive, Apart, Pipe, Unshared}
+use Rattle.refute_tests.proofs.ExactLemmas.{early_means, early_from, at_means}
 use Rattle.pipeline_tests.specs.declared.groups.TaskStays.{TaskStays}
 use Rattle.pipeline_tests.specs.declared.stays.Stay.{Stay}
 use Rattle.pipeline_tests.specs.inner.Groups.{IsGroup}
@@ -15,7 +15,7 @@ use Rattle.pipeline_tests.specs.inner.Meetings.{AreMeetings, Meeting, takes_earl
 use Rattle.pipeline_tests.specs.inner.Pairs.{IsBetween, pair_hits}
 use Rattle.pipeline_tests.specs.inner.Stays.{IsStay, ElementsDiffer}
 use Rattle.pipeline_tests.proofs.MeetingLemmas.{some_meeting, by_meeting}
-use Rattle.refute_tests.specs.Clearing.{AddsExactly, starts_early, is_at}
+use Rattle.refute_tests.specs.Clearing.{AddsExactly, is_at}
 use Rattle.trace_types.specs.Parts.{by_number}
 use Rattle.trace_types.specs.Pipelines.{HandlesAt, StartsAt, EndsAt, TakesUnfinished, TakesOutOfOrder, RefutesUnshared}
 use Rattle.trace_types.specs.Refuting.{StartsEarly}
@@ -25,16 +25,6 @@ use Rattle.word_rows.specs.Rows.{clears}
 use Rattle.word_rows.specs.declared.entries.Entry.{Entry}
 
 -- ---- tests and what they mean
-
-early_means : (t : NamedTrace) (s u : NamedSegment) → starts_early t.grace u s ≡ true → StartsEarly by_number t u s
-early_means t s u h = lt_z_yes (subst T (sym h) tt)
-
-is_true : (b : Bool) → T b → b ≡ true
-is_true true h = refl
-is_true false h = absurd h
-
-early_from : (t : NamedTrace) (s u : NamedSegment) → StartsEarly by_number t u s → starts_early t.grace u s ≡ true
-early_from t s u h = is_true (starts_early t.grace u s) h.lt
 
 -- ---- where a stay begins and ends
 
@@ -183,9 +173,6 @@ order_turned : (trace : NamedTrace) (t u : ℕ) → TakesOutOfOrder by_number t 
 order_turned trace t u x = record { one = x.other; other = x.one; in_order = x.turned; turned = x.in_order }
 
 -- ---- the row
-
-at_means : (r : Relation) (i b : ℕ) → is_at r i b ≡ true → place_of r ≡ record { word = i; bit = b }
-at_means r i b h = let p = and_parts ((place_of r).word == i) ((place_of r).bit == b) h in let w = eqb-true (place_of r).word i p.0 in let e = eqb-true (place_of r).bit b p.1 in λ k. record { word = w k; bit = e k }
 
 at_from : (r s : Relation) (i b : ℕ) → r ≡ s → place_of r ≡ record { word = i; bit = b } → is_at s i b ≡ true
 at_from r s i b e g = let h : place_of s ≡ record { word = i; bit = b } = ap place_of (sym e) ∙ g in and_from _ _ (eq-eqb (place_of s).word i (λ k. (h k).word)) (eq-eqb (place_of s).bit b (λ k. (h k).bit))

@@ -6,6 +6,7 @@ use Rattle.std.proofs.lemmas.List.Elements.{Contains-append_left, Contains-push}
 use Rattle.std.proofs.lemmas.List.Quantifiers.{all_pairs_push}
 use Rattle.std.proofs.lemmas.Option.{slice_get_within, get_or_from_slice_get}
 use Rattle.std.specs.List.{Contains}
+use Rattle.trace_types.proofs.TruthLemmas.{some_same}
 use Rattle.pipeline_tests.specs.declared.stays.Stay.{Stay}
 use Rattle.pipeline_tests.specs.inner.Stays.{IsStay, StaysDiffer, AreStays, IsKnown, IsNew}
 use Rattle.trace_types.specs.NamedSegments.{number_of_task, number_of_element}
@@ -13,9 +14,6 @@ use Rattle.trace_types.specs.Parts.{by_number}
 use Rattle.trace_types.specs.Pipelines.{HandlesAt}
 use Rattle.trace_types.specs.declared.named_segment.NamedSegment.{NamedSegment}
 use Rattle.trace_types.specs.declared.named_trace.NamedTrace.{NamedTrace}
-
-some_same : {X : Type 0} (a b : X) → Some a ≡ Some b → a ≡ b
-some_same a b h = cc
 
 not_both : (o : Option ℕ) (a : ℕ) → o ≡ Some a → o ≡ None → ⊥
 not_both o a h g = cc

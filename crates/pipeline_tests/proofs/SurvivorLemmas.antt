@@ -1,10 +1,10 @@
 -- Which words the traces of a list leave.
-use Rattle.std.proofs.Common.{◌≡◌, ℕ, zero, suc, ◌-◌, ◌^◌, ◌<◌, ◌≤◌, min, Bool, true, false, cond, ◌||◌, ◌↔◌, ◌⊎◌, inl, inr, List, [], ◌∷◌, ◌++◌, length, slice_index, refl, sym, ap, ◌∙◌, subst, ⊎_elim, lit<, arith, length-append}
+use Rattle.std.proofs.Common.{◌≡◌, ℕ, zero, suc, ◌-◌, ◌^◌, ◌<◌, ◌≤◌, min, Bool, true, false, cond, ◌||◌, ◌↔◌, ◌⊎◌, inl, inr, List, [], ◌∷◌, ◌++◌, length, slice_index, refl, sym, ap, ◌∙◌, subst, ⊎_elim, arith, length-append}
 use Rattle.std.proofs.lemmas.Bool.{cases_eq, cases_lt, cond-true, cond-false, cases_Bool, false≢true, or_cases, or_left, or_right}
-use Rattle.std.proofs.lemmas.List.{length-replicate, get_or-replicate, get_or_append_left, get_or-append_right}
+use Rattle.std.proofs.lemmas.List.{get_or_append_left, get_or-append_right}
 use Rattle.std.proofs.lemmas.List.Elements.{All-contains, Contains-append_left, Contains-append_right, Contains-append_cases, Contains-push, Contains-push_cases}
 use Rattle.std.proofs.lemmas.List.Sorted.{Contains-permutation, IsPermutation-sym}
-use Rattle.std.proofs.lemmas.Nat.Bits.{bit_at_ones, bit_at-lt}
+use Rattle.std.proofs.lemmas.Nat.Bits.{bit_at-lt}
 use Rattle.std.specs.Int.{bit_at}
 use Rattle.std.specs.List.{Contains}
 use Rattle.hypothesis_index.specs.Places.{IsRelation, NamesBelow, place_of, width_of}
@@ -12,6 +12,7 @@ use Rattle.hypothesis_index.specs.Refuting.{IsPlaceOfSome, Refutes}
 use Rattle.hypothesis_index.specs.declared.bit_place.BitPlace.{BitPlace}
 use Rattle.hypothesis_index.specs.declared.relation.Relation.{Relation}
 use Rattle.hypothesis_index.specs.declared.relation.Relation.TheVariants.{Before, Exclusive, Apart, Pipe, Unshared}
+use Rattle.word_rows.proofs.OpeningLemmas.{full_length, full_bit, full_bound}
 use Rattle.pipeline_tests.specs.DayLaws.{RowsClearRefuted, MetRowsSurvive, FullWordsSurvive, CommonLacks, OrderOfTracesIsFree, WidenedLacks, WidenedSurvive, SurvivorsAreUnique}
 use Rattle.pipeline_tests.specs.Rows.{AreWholeRows, IsWholeRow}
 use Rattle.refute_tests.specs.Survivors.{IsRefutedPlace}
@@ -20,19 +21,10 @@ use Rattle.trace_types.specs.declared.named_segment.NamedSegment.{NamedSegment}
 use Rattle.trace_types.specs.declared.named_trace.NamedTrace.{NamedTrace}
 use Rattle.word_rows.specs.Meeting.{MeetBegins, MeetIsUnique}
 use Rattle.word_rows.specs.Rows.{clears, rows_clear}
-use Rattle.word_rows.specs.Words.{IsMeet, AreWords, bit_of, full_words, widened_words}
+use Rattle.word_rows.specs.Words.{IsMeet, bit_of, full_words, widened_words}
 use Rattle.word_rows.specs.declared.entries.Entry.{Entry}
 
 -- ---- full words
-
-pub full_length : (width : ℕ) → length (full_words width) ≡ width
-full_length width = length-replicate width 18446744073709551615
-
-full_bit : (width i b : ℕ) → i < width → b < 64 → bit_of (full_words width) i b ≡ 1
-full_bit width i b h l = ap (λ (n : ℕ). bit_at n b) (get_or-replicate width i 18446744073709551615 0 h) ∙ bit_at_ones 64 b l
-
-full_bound : (width : ℕ) → AreWords (full_words width)
-full_bound width i h = subst (λ (n : ℕ). n < 2 ^ 64) (sym (get_or-replicate width i 18446744073709551615 0 (subst (λ (n : ℕ). i < n) (full_length width) h))) (lit< tt)
 
 -- ---- which relations some trace of a list refutes
 

@@ -1,19 +1,18 @@
 -- One more pair of tasks, one more task, and all of them. Words rise by themselves.
-use Rattle.std.proofs.Common.{◌≡◌, ℕ, ◌+◌, ◌<◌, ◌≤◌, Bool, true, false, ◌&&◌, ◌||◌, ◌==◌, List, [], ◌∷◌, ◌++◌, length, get_or, take, All, refl, sym, ap, ◌∙◌, subst, ⊎_elim, ◌⊎◌, inl, inr, arith}
-use Rattle.std.proofs.lemmas.Bool.{cases_order, false≢true}
+use Rattle.std.proofs.Common.{◌≡◌, ℕ, ◌+◌, ◌<◌, ◌≤◌, true, List, [], ◌∷◌, ◌++◌, length, get_or, take, All, sym, ap, ◌∙◌, subst, ⊎_elim, ◌⊎◌, inl, inr, arith}
+use Rattle.std.proofs.lemmas.Bool.{cases_order}
 use Rattle.std.proofs.lemmas.List.{get_or_default, get_or-take, length-take-le}
 use Rattle.std.proofs.lemmas.List.Elements.{All-contains, Contains-append_left, Contains-push, Contains-push_cases}
-use Rattle.std.proofs.lemmas.Nat.Bits.{bit_at-zero}
-use Rattle.std.specs.Int.{bit_at}
 use Rattle.std.specs.List.{Contains}
 use Rattle.hypothesis_index.specs.Places.{IsRelation, pairs_below}
 use Rattle.hypothesis_index.specs.Refuting.{IsPlaceOfSome, Refutes, RefutesNames, RefutesTasks}
 use Rattle.hypothesis_index.specs.declared.relation.Relation.{Relation}
 use Rattle.hypothesis_index.specs.declared.relation.Relation.TheVariants.{Before, Exclusive, Apart, Pipe, Unshared}
+use Rattle.hypothesis_index.proofs.PairLemmas.{pairs_below-64}
 use Rattle.pipeline_tests.specs.declared.groups.TaskStays.{TaskStays}
 use Rattle.pipeline_tests.specs.inner.Groups.{AreGroups, HasTask, TasksRise}
 use Rattle.pipeline_tests.specs.inner.Pairs.{IsAmong, IsBetween, IsWithBefore, task_start, task_word}
-use Rattle.refute_tests.specs.Clearing.{AddsExactly, ClearsExactly}
+use Rattle.refute_tests.specs.Clearing.{AddsExactly}
 use Rattle.trace_types.specs.declared.named_trace.NamedTrace.{NamedTrace}
 use Rattle.word_rows.specs.Meeting.{BelowWider}
 use Rattle.word_rows.specs.Rows.{below, clears}
@@ -49,17 +48,6 @@ adds_same old new P Q a to from i b = (
   (λ h. ⊎_elim (λ (o : clears old i b ≡ true). inl o) (λ (o : IsPlaceOfSome P i b). inr (place_map P Q i b to o)) ((a i b).0 h)),
   (λ h. (a i b).1 (⊎_elim (λ (o : clears old i b ≡ true). inl o) (λ (o : IsPlaceOfSome Q i b). inr (place_map Q P i b from o)) h)),
 )
-
--- from a row that clears nothing
-pub from_nothing : (row : List Entry) (P : Relation → Type 0) → AddsExactly (record { word = 0; mask = 0 } ∷ []) P row → ClearsExactly row P
-from_nothing row P adds i b = (
-  (λ h. ⊎_elim (λ (o : clears (record { word = 0; mask = 0 } ∷ []) i b ≡ true). absurd (false≢true (sym (nothing (0 == i) b) ∙ o))) (λ (o : IsPlaceOfSome P i b). o) ((adds i b).0 h)),
-  (λ p. (adds i b).1 (inr p)),
-)
-  where
-    nothing : (c : Bool) (b : ℕ) → ((c && (bit_at 0 b == 1)) || false) ≡ false
-    nothing true b = rw (bit_at-zero b) refl
-    nothing false b = refl
 
 -- a relation that is refuted is one of tasks or one of names
 pub either_kind : (trace : NamedTrace) (r : Relation) → Refutes r trace → RefutesTasks r trace ⊎ RefutesNames r trace
@@ -222,10 +210,6 @@ rise_take k groups rise h i j d l m =
 
 abbrev pub PairsFollow : Type 0
 PairsFollow = (high higher : ℕ) → high < higher → (pairs_below high + high) ≤ pairs_below higher
-
-pub pairs_below-64 : pairs_below 64 ≡ 2016
-unfolding pairs_below
-pairs_below-64 = refl
 
 module _ (wider : BelowWider) (follow : PairsFollow) (row : List Entry) where
   pub starts : (i j : ℕ) → i < j → below (task_start j + 1) row ≡ true → below (task_word i j + 1) row ≡ true

@@ -25,6 +25,8 @@ use Rattle.serde_json.specs.Find.{as_object}
 use Rattle.trace_types.specs.declared.event.Event as events
 use Rattle.import_run.specs.Inputs.{FileFault, files_said_from, said_after}
 use Rattle.certificate_laws.proofs.JsonLemmas.{IfThere, texts_utf8}
+use Rattle.trace_types.proofs.TruthLemmas.{four_fail}
+use Rattle.certificate_laws.proofs.EventLemmas.{mapped}
 use Rattle.reading_laws.specs.Readings.{IsGoodLine, IsGoodMessage, IsGoodText}
 
 -- all texts of the event are good
@@ -62,14 +64,6 @@ none_holds false true c d h = absurd (cc h)
 none_holds false false true d h = absurd (cc h)
 none_holds false false false true h = absurd (cc h)
 none_holds false false false false h = (refl, refl)
-
--- each of four fails a test
-four_fail : (a b c d : Bool) → (a || (b || (c || (d || false)))) ≡ false → (a ≡ false) × (b ≡ false) × (c ≡ false) × (d ≡ false)
-four_fail true b c d h = absurd (cc h)
-four_fail false true c d h = absurd (cc h)
-four_fail false false true d h = absurd (cc h)
-four_fail false false false true h = absurd (cc h)
-four_fail false false false false h = (refl, refl, refl, refl)
 
 -- so does each of six
 six_fail : (a b c d e f : Bool) → (a || (b || (c || (d || (e || (f || false)))))) ≡ false → (a ≡ false) × (b ≡ false) × (c ≡ false) × (d ≡ false) × (e ≡ false) × (f ≡ false)
@@ -129,10 +123,6 @@ numbered_texted : (line : ℕ × List ℕ) → IfOne IsTexted (numbered_result l
 numbered_texted line = result_said line.0 (line_result line.0 line.1) (line_said line.0 line.1 (json_value line.1) refl)
 
 -- ---- all lines
-
-mapped : {X E : Type 0} (P : X → Type 0) (x : X) (rest : Result (List X) E) (xs : List X) → P x → ((ys : List X) → rest ≡ Ok ys → All P ys) → result_map_both (λ ys. x ∷ ys) (λ e. e) rest ≡ Ok xs → All P xs
-mapped P x (Err e) xs here more h = absurd (cc h)
-mapped P x (Ok ys) xs here more h = let same : x ∷ ys ≡ xs = cc in subst (All P) same (All-cons P x ys here (more ys refl))
 
 all_good : {X E : Type 0} (P : X → Type 0) (results : List (Result X E)) (xs : List X) → All (IfOne P) results → all_or_first_error results ≡ Ok xs → All P xs
 all_good P [] xs h e = let same : [] ≡ xs = cc in subst (All P) same (All-nil P)

@@ -4,7 +4,7 @@ use Rattle.std.specs.Prelude.{nat_le, nat_lt, if◌then◌else◌}
 use Rattle.std.specs.List.{list_any, position_or_len, range_with_len}
 use Rattle.std.specs.Str.{IsCharBoundary, IsUtf8}
 use Rattle.std.specs.Str.{bytes_eq}
-use Rattle.std.proofs.lemmas.Bool.{and_cases, and_parts, cases_lt, le-leb, le-ltb, leb-false, leb-true, lt-leb, ne_eqb, or_from, or_parts}
+use Rattle.std.proofs.lemmas.Bool.{and_parts, cases_lt, le-leb, le-ltb, leb-true, lt-leb, ne_eqb, or_from, or_parts}
 use Rattle.std.proofs.lemmas.Fmt.{length-decimal-le}
 use Rattle.std.proofs.lemmas.List.{length-append}
 use Rattle.std.proofs.lemmas.List.Folds.{list_any-append}
@@ -12,7 +12,7 @@ use Rattle.std.proofs.lemmas.Str.{IsCharBoundary-start, IsUtf8-append, IsUtf8-ta
 use Rattle.json.proofs.Printed.Utf8.{IsUtf8-are_ascii}
 use Rattle.event_lines.specs.EventFaults.{is_control_character}
 use Rattle.task_pieces.specs.PieceNames.{cut_length, free_numbers, is_free, is_inner_byte, is_number_sign, numbered_name, piece_name, stem_of}
-use Rattle.task_pieces.proofs.CutLemmas.{kept_whole}
+use Rattle.task_pieces.proofs.CutLemmas.{kept_whole, first_bounds}
 use Rattle.import_laws.proofs.NameLaws.{place_within}
 use Rattle.reading_laws.specs.Readings.{IsGoodText}
 use Rattle.reading_laws.proofs.TextLemmas.{IsClean, clean_of, decimal_clean, decimal_part}
@@ -55,20 +55,13 @@ take_short (suc n) (x ∷ text) = omega (arith, take_short n text)
 
 -- ---- where a text is cut
 
-first_byte : (b : ℕ) → is_inner_byte b ≡ false → 128 ≤ b → 192 ≤ b
-first_byte b h low = by (and_cases (nat_le 128 b) (nat_le b 191) h)
-  where
-    by : (nat_le 128 b ≡ false) ⊎ (nat_le b 191 ≡ false) → 192 ≤ b
-    by (inl e) = let l = leb-false 128 b e in absurd (omega (arith, l, low))
-    by (inr e) = let l = leb-false b 191 e in omega (arith, l)
-
 cut_boundary : (text : List ℕ) (n : ℕ) → IsUtf8 text → n < length text → IsCharBoundary text (cut_length text n)
 cut_boundary text zero utf8 lt = IsCharBoundary-start text utf8
 cut_boundary text (suc n) utf8 lt = by (is_inner_byte (get_or text (suc n) 0)) refl (cut_boundary text n utf8 (omega (arith, lt)))
   where
     by : (b : Bool) → is_inner_byte (get_or text (suc n) 0) ≡ b → IsCharBoundary text (cut_length text n) → IsCharBoundary text (cut_length text (suc n))
     by true e rest = subst (IsCharBoundary text) (sym (ap (λ b. if b then cut_length text n else suc n) e)) rest
-    by false e rest = subst (IsCharBoundary text) (sym (ap (λ b. if b then cut_length text n else suc n) e)) (omega (arith, lt), λ within low. first_byte (get_or text (suc n) 0) e low)
+    by false e rest = subst (IsCharBoundary text) (sym (ap (λ b. if b then cut_length text n else suc n) e)) (omega (arith, lt), λ within low. first_bounds (get_or text (suc n) 0) e low)
 
 cut_le : (text : List ℕ) (n : ℕ) → cut_length text n ≤ n
 cut_le text zero = omega arith

@@ -1,21 +1,20 @@
 -- Texts that may stand in a line: their escapes, UTF-8, and no line feed.
-use Rattle.std.proofs.Common.{◌≡◌, ℕ, zero, suc, ◌≤◌, ◌<◌, ◌^◌, ◌==◌, ◌||◌, List, [], ◌∷◌, ◌++◌, Bool, true, false, length, decimal, codes, Option, Some, None, refl, sym, ap, subst, ◌∙◌, arith, rules}
+use Rattle.std.proofs.Common.{◌≡◌, ℕ, zero, suc, ◌≤◌, ◌<◌, ◌^◌, ◌==◌, ◌||◌, List, [], ◌∷◌, ◌++◌, Bool, true, false, length, decimal, codes, Option, Some, None, refl, sym, ap, subst, ◌∙◌, arith}
 use Rattle.std.specs.Prelude.{nat_le, nat_lt, if◌then◌else◌}
 use Rattle.std.specs.Char.{is_ascii_digit}
 use Rattle.std.specs.List.{flat_map, list_all, list_any}
 use Rattle.std.specs.Str.{IsAscii, IsUtf8}
-use Rattle.std.specs.Str.Parse.{digits_value}
 use Rattle.std.proofs.lemmas.Bool.{and_parts, eq-eqb, eqb-true, false≢true, leb-true, le-ltb, ltb-false, ne_eqb, or_from, or_parts}
 use Rattle.std.proofs.lemmas.Fmt.{digits_decimal}
 use Rattle.std.proofs.lemmas.List.Folds.{list_any-append}
 use Rattle.std.proofs.lemmas.Str.{IsUtf8-append, IsUtf8-from_ascii}
-use Rattle.std.proofs.lemmas.Str.Parse.{IsNumeralModel, numerals_by_value}
 use Rattle.json.specs.Print as print
 use Rattle.json.proofs.Printed.Strings.{escape_byte_plain}
 use Rattle.json.proofs.Printed.Utf8.{IsUtf8-are_ascii, IsUtf8-quoted}
 use Rattle.event_lines.specs.Cut.{is_line_feed}
 use Rattle.event_lines.specs.EventFaults.{is_control_character}
 use Rattle.event_text.specs.LineTexts.{escaped_byte, message_member, quoted}
+use Rattle.trace_types.proofs.DecimalLemmas.{decimal_numerals}
 use Rattle.reading_laws.specs.Readings.{IsGoodMessage, IsGoodText}
 
 -- ---- control characters
@@ -95,9 +94,6 @@ quoted_part text h = record {
 
 -- ---- decimals
 
-own : IsNumeralModel (λ ds. list_all is_ascii_digit ds ≡ true) (digits_value 10)
-own = numerals_by_value (λ ds. list_all is_ascii_digit ds ≡ true) (search rules)
-
 digit_bounds : (b : ℕ) → is_ascii_digit b ≡ true → (48 ≤ b) × (b ≤ 57)
 digit_bounds b h = let p = and_parts (nat_le 48 b) (nat_le b 57) h in (leb-true 48 b p.0, leb-true b 57 p.1)
 
@@ -122,12 +118,12 @@ digits_clean (b ∷ ds) h =
 
 pub decimal_part : (n : ℕ) → n < 2 ^ 64 → IsPart (decimal n)
 decimal_part n few = record {
-  utf8 = IsUtf8-from_ascii (decimal n) (digits_ascii (decimal n) (digits_decimal own n few));
-  one = digits_feed (decimal n) (digits_decimal own n few);
+  utf8 = IsUtf8-from_ascii (decimal n) (digits_ascii (decimal n) (digits_decimal decimal_numerals n few));
+  one = digits_feed (decimal n) (digits_decimal decimal_numerals n few);
 }
 
 pub decimal_clean : (n : ℕ) → n < 2 ^ 64 → IsClean (decimal n)
-decimal_clean n few = digits_clean (decimal n) (digits_decimal own n few)
+decimal_clean n few = digits_clean (decimal n) (digits_decimal decimal_numerals n few)
 
 -- ---- messages
 

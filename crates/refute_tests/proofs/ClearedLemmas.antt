@@ -10,9 +10,10 @@ use Rattle.std.specs.Int.{bit_at}
 use Rattle.std.specs.List.{Contains, list_any}
 use Rattle.hypothesis_index.specs.Places.{pairs_below, width_of}
 use Rattle.hypothesis_index.specs.declared.relation.Relation.TheVariants.{Before, Exclusive, Apart}
+use Rattle.trace_types.proofs.TruthLemmas.{by_truth}
+use Rattle.hypothesis_index.proofs.PairLemmas.{pairs_below-512}
 use Rattle.refute_tests.proofs.ExactLemmas.{at_from, at_means, cleared_pair, one_of_name, pair_cleared}
-use Rattle.refute_tests.proofs.MarkLemmas.{by_truth}
-use Rattle.refute_tests.proofs.MaskLemmas.{pairs_below-512, slots_end}
+use Rattle.refute_tests.proofs.MaskLemmas.{slots_end}
 use Rattle.refute_tests.proofs.StepLemmas.{PairsFollow}
 use Rattle.refute_tests.proofs.WordLemmas.{apart_at, at_apart, at_backward, at_exclusive, at_forward, backward_at, exclusive_at, forward_at, kind_bits, mark_bit, moved_one, moved_two, not_moved}
 use Rattle.refute_tests.specs.Clearing.{starts_early, is_at}

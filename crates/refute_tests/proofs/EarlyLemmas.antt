@@ -4,7 +4,7 @@ use Rattle.std.proofs.lemmas.Bool.{and_from, and_parts, cases_eq, cases_lt, fals
 use Rattle.std.proofs.lemmas.List.{get_or-take, length-take-le}
 use Rattle.std.proofs.lemmas.List.Folds.{Any-from_list_any, list_any_at, list_any_more}
 use Rattle.std.specs.List.{AllPairs}
-use Rattle.refute_tests.proofs.MarkLemmas.{by_truth}
+use Rattle.trace_types.proofs.TruthLemmas.{by_truth}
 use Rattle.refute_tests.specs.inner.Marks.{early_by, early_name, is_named}
 use Rattle.trace_types.specs.declared.named_segment.NamedSegment.{NamedSegment}
 

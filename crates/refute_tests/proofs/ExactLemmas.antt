@@ -15,6 +15,7 @@ use Rattle.hypothesis_index.specs.Refuting.{RefutesNames, IsPlaceOfSome}
 use Rattle.hypothesis_index.specs.declared.bit_place.BitPlace.{BitPlace}
 use Rattle.hypothesis_index.specs.declared.relation.Relation.TheVariants.{Before, Exclusive, Apart, Pipe, Unshared}
 use Rattle.hypothesis_index.specs.declared.relation.Relation.{Relation}
+use Rattle.trace_types.proofs.TruthLemmas.{is_true}
 use Rattle.refute_tests.proofs.StepLemmas.{any_below-some, any_below-from}
 use Rattle.refute_tests.specs.Clearing.{AddsExactly, ClearsExactly, starts_early, is_at}
 use Rattle.refute_tests.specs.inner.Hits.{NamesRise, hits, row_hits, all_hits}
@@ -27,10 +28,6 @@ use Rattle.word_rows.specs.declared.entries.Entry.{Entry}
 
 pub early_means : (t : NamedTrace) (s u : NamedSegment) → starts_early t.grace u s ≡ true → StartsEarly by_number t u s
 early_means t s u h = lt_z_yes (subst T (sym h) tt)
-
-is_true : (b : Bool) → T b → b ≡ true
-is_true true h = refl
-is_true false h = absurd h
 
 pub early_from : (t : NamedTrace) (s u : NamedSegment) → StartsEarly by_number t u s → starts_early t.grace u s ≡ true
 early_from t s u h = is_true (starts_early t.grace u s) h.lt

@@ -1,20 +1,15 @@
 -- Marks of names and of pairs, one word at a time.
-use Rattle.std.proofs.Common.{◌≡◌, ℕ, ◌+◌, ◌-◌, ◌*◌, ◌/◌, ◌%◌, ◌^◌, ◌<◌, ◌≤◌, Bool, true, false, ◌&&◌, ◌||◌, ◌==◌, nat_lt, min, bit_or, bit_and, List, length, get_or, set, get_or-set_same, get_or-set_other, refl, sym, ap, ◌∙◌, ⊎_elim, arith}
+use Rattle.std.proofs.Common.{◌≡◌, ℕ, ◌+◌, ◌-◌, ◌*◌, ◌/◌, ◌%◌, ◌^◌, ◌<◌, ◌≤◌, Bool, ◌&&◌, ◌||◌, ◌==◌, nat_lt, min, bit_or, bit_and, List, length, get_or, set, get_or-set_same, get_or-set_other, sym, ap, ◌∙◌, ⊎_elim, arith}
 use Rattle.std.proofs.Math.Nat.{mod-eq_of_lt, mod-lt}
 use Rattle.std.proofs.Math.Pow.{pow_mono}
 use Rattle.std.proofs.lemmas.Bool.{cases_eq, cases_lt, and_parts, and_from, eq-eqb, eqb-true, ne_eqb, lt-ltb, le-ltb}
 use Rattle.std.proofs.lemmas.Nat.{pow_pos}
 use Rattle.std.proofs.lemmas.Nat.Bits.{bit_at_cat_low, bit_at_cat_high, bit_at_and, bit_at_ones, bit_at_ones_above, bit_at-lt, bit_at-zero, bit_at-pow_same, bit_at-pow_other}
 use Rattle.std.specs.Int.{bit_at}
-use Rattle.refute_tests.proofs.MaskLemmas.{either_bit}
-use Rattle.refute_tests.proofs.StepLemmas.{or-false}
+use Rattle.trace_types.proofs.TruthLemmas.{by_truth}
+use Rattle.word_rows.proofs.ViewLemmas.{or_false}
+use Rattle.word_rows.proofs.MakerLemmas.{either_bit}
 use Rattle.refute_tests.specs.inner.Marks.{has_mark}
-
--- two tests with one truth are one
-pub by_truth : (a b : Bool) → (a ≡ true → b ≡ true) → (b ≡ true → a ≡ true) → a ≡ b
-by_truth true b f g = sym (f refl)
-by_truth false true f g = g refl
-by_truth false false f g = refl
 
 -- ---- bits of one word
 pub one_bit : (q b : ℕ) → q < 64 → (bit_at (1 * 2 ^ q % 2 ^ 64) b == 1) ≡ (b == q)
@@ -78,7 +73,7 @@ more_marks words w v n c h = ⊎_elim
     ∙ ap (λ (p : Bool). has_mark words n c || (p && (bit_at v (4 * (n % 16) + c) == 1))) (sym (eq-eqb (n / 16) w e)))
     (λ (e : n / 16 ≡ w → ⊥).
     ap (λ (m : ℕ). bit_at m (4 * (n % 16) + c) == 1) (get_or-set_other words w (n / 16) (bit_or (get_or words w 0) v) 0 e)
-    ∙ sym (or-false (has_mark words n c))
+    ∙ sym (or_false (has_mark words n c))
     ∙ ap (λ (p : Bool). has_mark words n c || (p && (bit_at v (4 * (n % 16) + c) == 1))) (sym (ne_eqb (n / 16) w e)))
     (cases_eq (n / 16) w)
 

@@ -1,14 +1,16 @@
 -- The four bits of a pair of names, as one mask.
-use Rattle.std.proofs.Common.{◌≡◌, ℕ, zero, suc, ◌+◌, ◌-◌, ◌*◌, ◌/◌, ◌%◌, ◌^◌, ◌<◌, ◌≤◌, Bool, true, false, ◌&&◌, ◌||◌, ◌==◌, nat_lt, max, bit_or, List, refl, sym, ap, ◌∙◌, ⊎_elim, arith}
+use Rattle.std.proofs.Common.{◌≡◌, ℕ, zero, suc, ◌+◌, ◌-◌, ◌*◌, ◌/◌, ◌%◌, ◌^◌, ◌<◌, ◌≤◌, Bool, true, false, ◌&&◌, ◌||◌, ◌==◌, nat_lt, bit_or, List, refl, sym, ap, ◌∙◌, ⊎_elim, arith}
 use Rattle.std.proofs.Math.Nat.{mod-eq_of_lt, mul-le-mul_left}
 use Rattle.std.proofs.Math.Pow.{pow_mono}
 use Rattle.std.proofs.lemmas.Bool.{cases_eq, cases_lt, cond-true, cond-false, eq-eqb, ne_eqb, lt-ltb, le-ltb}
 use Rattle.std.proofs.lemmas.Nat.{pow_pos}
-use Rattle.std.proofs.lemmas.Nat.Bits.{bit_at_above, bit_at_cat_low, bit_at_cat_high, bit_at_or, bit_at-lt, bit_at-zero}
+use Rattle.std.proofs.lemmas.Nat.Bits.{bit_at_above, bit_at_cat_low, bit_at_cat_high, bit_at-zero}
 use Rattle.std.specs.Int.{bit_at}
 use Rattle.hypothesis_index.specs.Places.{place_of, pair_place, pair_number, pairs_below}
 use Rattle.hypothesis_index.specs.declared.bit_place.BitPlace.{BitPlace}
 use Rattle.hypothesis_index.specs.declared.relation.Relation.TheVariants.{Before}
+use Rattle.word_rows.proofs.MakerLemmas.{either_bit}
+use Rattle.hypothesis_index.proofs.PairLemmas.{pairs_below-512}
 use Rattle.refute_tests.specs.Clearing.{starts_early, is_at}
 use Rattle.refute_tests.proofs.StepLemmas.{PairsFollow}
 use Rattle.refute_tests.specs.inner.Hits.{clears_with, hits, kinds_of, word_of}
@@ -132,27 +134,10 @@ slot_of low high rises place is =
     let bit : place.bit ≡ 4 * (pair_number low high % 16) + 0 = ap (λ (p : BitPlace). p.bit) at in
     omega arith
 
-pub pairs_below-512 : pairs_below 512 ≡ 130816
-unfolding pairs_below
-pairs_below-512 = refl
-
 pub slots_end : PairsFollow → (high : ℕ) → high < 512 → pairs_below high + high ≤ 130816
 slots_end follow high small = let most = follow high 512 small in omega (arith, pairs_below-512)
 
 -- ---- masks of one word
--- a bit of two masks together
-pub either_bit : (mask more b : ℕ) → (bit_at (bit_or mask more) b == 1) ≡ ((bit_at mask b == 1) || (bit_at more b == 1))
-either_bit mask more b = ap (λ (k : ℕ). k == 1) (bit_at_or mask more b) ∙ by (bit_at mask b) (bit_at more b) (bit_at-lt mask b) (bit_at-lt more b)
-  where
-    by : (x y : ℕ) → x < 2 → y < 2 → (max x y == 1) ≡ ((x == 1) || (y == 1))
-    by zero zero h l = refl
-    by zero (suc zero) h l = refl
-    by (suc zero) zero h l = refl
-    by (suc zero) (suc zero) h l = refl
-    by (suc (suc x)) y h l = absurd (omega arith)
-    by zero (suc (suc y)) h l = absurd (omega arith)
-    by (suc zero) (suc (suc y)) h l = absurd (omega arith)
-
 spread : (c w p q : Bool) → (c || (w && (p || q))) ≡ ((c || (w && p)) || (w && q))
 spread true w p q = refl
 spread false true p q = refl

@@ -4,9 +4,10 @@ use Rattle.std.proofs.lemmas.Bool.{cases_eq, cases_lt, eq-eqb, ne_eqb, lt-ltb, l
 use Rattle.std.proofs.lemmas.Nat.Bits.{bit_at_above}
 use Rattle.std.specs.Int.{bit_at}
 use Rattle.hypothesis_index.specs.Places.{pairs_below}
-use Rattle.refute_tests.proofs.MarkLemmas.{Below, by_truth, down, more_marks, up_high, up_low}
-use Rattle.refute_tests.proofs.MaskLemmas.{either_bit}
-use Rattle.refute_tests.proofs.StepLemmas.{or-false}
+use Rattle.trace_types.proofs.TruthLemmas.{by_truth}
+use Rattle.word_rows.proofs.ViewLemmas.{or_false}
+use Rattle.word_rows.proofs.MakerLemmas.{either_bit}
+use Rattle.refute_tests.proofs.MarkLemmas.{Below, down, more_marks, up_high, up_low}
 use Rattle.refute_tests.specs.inner.Marks.{has_mark, in_row}
 
 module _ (marks : List ℕ) (g row word v : ℕ) (first : row ≡ pairs_below g) (at : word ≡ row / 16 + v) where
@@ -57,7 +58,7 @@ module _ (marks : List ℕ) (g row word v : ℕ) (first : row ≡ pairs_below g)
 
   either_side : (k r : ℕ) (o : Bool) → ((nat_lt (4 * k) (4 * r) && o) || (nat_le r k && o)) ≡ o
   either_side k r o = ⊎_elim
-      (λ (e : k < r). (λ j. (lt-ltb (4 * k) (4 * r) (omega arith) j && o) || (lt-leb r k e j && o)) ∙ or-false o)
+      (λ (e : k < r). (λ j. (lt-ltb (4 * k) (4 * r) (omega arith) j && o) || (lt-leb r k e j && o)) ∙ or_false o)
       (λ (e : r ≤ k). (λ j. (le-ltb (4 * k) (4 * r) (omega arith) j && o) || (le-leb r k e j && o)))
       (cases_lt k r)
 
@@ -81,12 +82,12 @@ module _ (marks : List ℕ) (g row word v : ℕ) (first : row ≡ pairs_below g)
       (λ (e : p / 16 ≡ word).
       let same : 16 * word + p % 16 ≡ p = omega arith in
       (λ j. (has_mark old p c || (le-ltb p (16 * word) (omega arith) j && out p c)) || (eq-eqb (p / 16) word e j && (bit_at mask (4 * (p % 16) + c) == 1)))
-      ∙ ap (λ (b : Bool). b || (bit_at mask (4 * (p % 16) + c) == 1)) (or-false (has_mark old p c))
+      ∙ ap (λ (b : Bool). b || (bit_at mask (4 * (p % 16) + c) == 1)) (or_false (has_mark old p c))
       ∙ ap (λ (b : Bool). has_mark old p c || b) (masked (p % 16) c (omega arith) l ∙ ap (λ (n : ℕ). out n c) same)
       ∙ ap (λ (b : Bool). has_mark old p c || (b && out p c)) (sym (lt-ltb p (16 * (word + 1)) (omega arith))))
       (λ (e : p / 16 ≡ word → ⊥).
       ap (λ (b : Bool). (has_mark old p c || (nat_lt p (16 * word) && out p c)) || (b && (bit_at mask (4 * (p % 16) + c) == 1))) (ne_eqb (p / 16) word e)
-      ∙ or-false (has_mark old p c || (nat_lt p (16 * word) && out p c))
+      ∙ or_false (has_mark old p c || (nat_lt p (16 * word) && out p c))
       ∙ ap (λ (b : Bool). has_mark old p c || (b && out p c)) (⊎_elim
       (λ (f : p < 16 * word). lt-ltb p (16 * word) f ∙ sym (lt-ltb p (16 * (word + 1)) (omega arith)))
       (λ (f : 16 * word ≤ p). le-ltb p (16 * word) f ∙ sym (le-ltb p (16 * (word + 1)) (omega arith)))

@@ -6,6 +6,7 @@ use Rattle.std.proofs.lemmas.Option.{slice_get_read}
 use Rattle.std.specs.List.{list_any}
 use Rattle.std.specs.Option.{option_map}
 use Rattle.hypothesis_index.specs.Places.{pairs_below}
+use Rattle.word_rows.proofs.ViewLemmas.{or_assoc}
 use Rattle.refute_tests.specs.inner.Hits.{row_start, any_below, hits, row_hits, all_hits}
 use Rattle.trace_types.specs.declared.named_segment.NamedSegment.{NamedSegment}
 use Rattle.word_rows.specs.declared.entries.Entry.{Entry}
@@ -32,18 +33,10 @@ any_below-from (suc n) p k l t = ⊎_elim
 any_below-step : (n : ℕ) (p : ℕ → Bool) → any_below (n + 1) p ≡ (any_below n p || p n)
 any_below-step n p = let e : n + 1 ≡ suc n = omega arith in ap (λ (m : ℕ). any_below m p) e
 
-or-assoc : (a b c : Bool) → ((a || b) || c) ≡ (a || (b || c))
-or-assoc true b c = refl
-or-assoc false b c = refl
-
-pub or-false : (a : Bool) → (a || false) ≡ a
-or-false true = refl
-or-false false = refl
-
 -- one more segment of those before
 pub more_cleared : (p : NamedSegment → Bool) (before : List NamedSegment) (k : ℕ) (s : NamedSegment) (new old first : Bool) → k < length before → s ≡ get_or before k s
     → new ≡ (old || p s) → old ≡ (first || list_any p (take k before)) → new ≡ (first || list_any p (take (k + 1) before))
-more_cleared p before k s new old first h at e f = e ∙ ap (λ (b : Bool). b || p s) f ∙ or-assoc first (list_any p (take k before)) (p s)
+more_cleared p before k s new old first h at e f = e ∙ ap (λ (b : Bool). b || p s) f ∙ or_assoc first (list_any p (take k before)) (p s)
     ∙ ap (λ (b : Bool). first || (list_any p (take k before) || b)) (ap p at) ∙ ap (λ (b : Bool). first || b) (sym (list_any_more p before k s h))
 
 -- one more row
@@ -52,7 +45,7 @@ pub more_rows : (grace : ℕ) (segments : List NamedSegment) (k : ℕ) (t : Name
 more_rows grace segments k t i b new old first h at e f =
     let g : slice_get segments k ≡ Some t = slice_get_read segments (length segments) k t refl h at in
     let r : row_hits grace segments k i b ≡ list_any (λ s. hits grace s t i b) (take k segments) = ap (λ o. unwrap_or (option_map (λ (t : NamedSegment). list_any (λ s. hits grace s t i b) (take k segments)) o) false) g in
-    e ∙ (λ j. f j || sym r j) ∙ or-assoc first (all_hits grace segments k i b) (row_hits grace segments k i b) ∙ ap (λ (c : Bool). first || c) (sym (any_below-step k (λ y. row_hits grace segments y i b)))
+    e ∙ (λ j. f j || sym r j) ∙ or_assoc first (all_hits grace segments k i b) (row_hits grace segments k i b) ∙ ap (λ (c : Bool). first || c) (sym (any_below-step k (λ y. row_hits grace segments y i b)))
 
 module _ (wider : BelowWider) (follow : PairsFollow) (row : List Entry) where
   pub next_row : (j j' : ℕ) → j < j' → below (row_start (j + 1) + 1) row ≡ true → below (row_start j' + 1) row ≡ true

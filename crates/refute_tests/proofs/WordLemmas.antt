@@ -5,8 +5,9 @@ use Rattle.std.specs.Int.{bit_at}
 use Rattle.hypothesis_index.specs.Places.{place_of, pair_place, pairs_below}
 use Rattle.hypothesis_index.specs.declared.bit_place.BitPlace.{BitPlace}
 use Rattle.hypothesis_index.specs.declared.relation.Relation.TheVariants.{Before, Exclusive, Apart}
+use Rattle.word_rows.proofs.MakerLemmas.{either_bit}
 use Rattle.refute_tests.proofs.MarkLemmas.{read_at, up_high, up_low}
-use Rattle.refute_tests.proofs.MaskLemmas.{downward, either_bit, upward}
+use Rattle.refute_tests.proofs.MaskLemmas.{downward, upward}
 use Rattle.refute_tests.specs.inner.Marks.{has_mark, kinds_word}
 
 both_bits : (x y b : ℕ) → (bit_at (bit_and x y) b == 1) ≡ ((bit_at x b == 1) && (bit_at y b == 1))

@@ -1,12 +1,12 @@
 -- The map of the live rows, and what each change of the block makes of it.
-use Rattle.std.proofs.Common.{◌≡◌, ◌≢◌, ℕ, zero, suc, ◌<◌, ◌≤◌, inl, inr, Bool, true, false, ◌||◌, List, ◌∷◌, Option, Some, None, IsSome, refl, sym, ap, ◌∙◌, arith, rules, eqb, cond}
+use Rattle.std.proofs.Common.{◌≡◌, ◌≢◌, ℕ, zero, suc, ◌<◌, ◌≤◌, inl, inr, Bool, true, false, ◌||◌, List, ◌∷◌, Some, None, IsSome, refl, sym, ap, ◌∙◌, arith, eqb, cond}
 use Rattle.std.specs.Ordering.{nat_cmp}
 use Rattle.std.specs.Cmp.{nat_cmp_total}
 use Rattle.std.specs.FinMap.{get, insert, remove, get-empty, same_map, nat_cmp-IsAntisymmetric}
 use Rattle.std.proofs.lemmas.Bool.{cases_eq, cases_lt, cases_Bool, or_parts, true≢false, eqb-false, ne_eqb}
 use Rattle.row_pool.specs.Pools.{LiveRows}
 use Rattle.row_pool.specs.inner.Layout.{row_in, has, distinct_below, live_rows, Changes}
-use Rattle.row_pool.proofs.MapLemmas.{get-insert_same, get-insert_other, get-remove_same, get-remove_other}
+use Rattle.row_pool.proofs.MapLemmas.{get-insert_same, get-insert_other, get-remove_same, get-remove_other, not_there}
 use Rattle.row_pool.proofs.RowLemmas.{row_in-other, has_head, has_tail, not_has_other, FirstIs}
 
 -- the map m has the rows below n but for fs
@@ -50,9 +50,6 @@ shown ws w fs n m s =
       | inl l ↦ elim (cases_Bool (has q fs)) [ inl h ↦ t.free q h ∙ sym (s.free q h) | inr h ↦ t.live q l h ∙ sym (s.live q l h) ]
     ])
 
-none_is_not_some : {X : Type 0} {o : Option X} → o ≡ None → IsSome o → ⊥
-none_is_not_some e there = Prim.search rules
-
 -- a number that the map has is below n and not free
 pub record IsUsed (fs : List ℕ) (n q : ℕ) : Type 0 where
   pub below : q < n
@@ -62,8 +59,8 @@ pub is_used : (ws : List ℕ) (w : ℕ) (fs : List ℕ) (n q : ℕ) → IsSome (
 is_used ws w fs n q there =
     let t = shows ws w fs n in
     record {
-      below = elim (cases_lt q n) [ inl l ↦ l | inr l ↦ absurd (none_is_not_some (t.past q l) there) ];
-      used = elim (cases_Bool (has q fs)) [ inl h ↦ absurd (none_is_not_some (t.free q h) there) | inr h ↦ h ];
+      below = elim (cases_lt q n) [ inl l ↦ l | inr l ↦ absurd (not_there (t.past q l) there) ];
+      used = elim (cases_Bool (has q fs)) [ inl h ↦ absurd (not_there (t.free q h) there) | inr h ↦ h ];
     }
 
 -- the row i is written

@@ -1,5 +1,5 @@
 -- What a trace keeps follows from what its segments are.
-use Rattle.std.proofs.Common.{◌≡◌, ℕ, zero, suc, ◌+◌, ◌<◌, ◌≤◌, ℤ, Some, List, [], ◌∷◌, ◌++◌, length, get_or, arith, refl, sym, ap, ◌∙◌, subst, ⊎_elim, inl, inr}
+use Rattle.std.proofs.Common.{◌≡◌, ℕ, zero, suc, ◌+◌, ◌<◌, ◌≤◌, ℤ, Some, List, [], ◌∷◌, length, get_or, arith, sym, ap, ◌∙◌, subst, ⊎_elim, inl, inr}
 use Rattle.std.specs.List.{AllZip}
 use Rattle.std.proofs.lemmas.Bool.{cases_lt}
 use Rattle.std.proofs.lemmas.Int.{ints}
@@ -11,6 +11,7 @@ use Rattle.trace_types.specs.Segments.{name_of, task_of, start_of, end_of}
 use Rattle.trace_types.specs.SegmentLists.{NamesDiffer, TasksStandTogether, JoinInTasks}
 use Rattle.trace_types.specs.Repeats.{AreDistinct, IsRepeated}
 use Rattle.trace_types.specs.Events.{task_at, event_name_at, named_events}
+use Rattle.trace_types.proofs.ZipLemmas.{zip_length}
 use Rattle.segment_cut.specs.AdjustedTimes.{adjusted_at}
 use Rattle.segment_cut.specs.Neighbours.{AreNeighbours, IsListedBefore, AreAllNeighbours}
 use Rattle.segment_cut.specs.Cutting.{IsSegment}
@@ -20,18 +21,6 @@ use Rattle.clock_offsets.specs.declared.first_events.Field.TheVariants.{Task}
 use Rattle.clock_offsets.specs.FirstEvents.{AreFirstEvents}
 use Rattle.segment_cut.proofs.PairLemmas.{ArePairs, adjacent_are, all_neighbours, pairs_join}
 use Rattle.segment_cut.proofs.RepeatLemmas.{named_at}
-
-pub zip_push : {A B : Type 0} (R : A → B → Type 0) (xs : List A) (ys : List B) (x : A) (y : B) → AllZip R xs ys → R x y → AllZip R (xs ++ x ∷ []) (ys ++ y ∷ [])
-zip_push R [] [] x y z r = (r, tt)
-zip_push R [] (b ∷ ys) x y z r = absurd z
-zip_push R (a ∷ xs) [] x y z r = absurd z
-zip_push R (a ∷ xs) (b ∷ ys) x y z r = (z.0, zip_push R xs ys x y z.1 r)
-
-pub zip_length : {A B : Type 0} (R : A → B → Type 0) (xs : List A) (ys : List B) → AllZip R xs ys → length xs ≡ length ys
-zip_length R [] [] z = refl
-zip_length R [] (b ∷ ys) z = absurd z
-zip_length R (a ∷ xs) [] z = absurd z
-zip_length R (a ∷ xs) (b ∷ ys) z = let e : length xs ≡ length ys = zip_length R xs ys z.1 in omega arith
 
 pub zip_at : {A B : Type 0} (R : A → B → Type 0) (xs : List A) (ys : List B) (k : ℕ) (d : A) (e : B) → AllZip R xs ys → k < length xs → R (get_or xs k d) (get_or ys k e)
 zip_at R [] ys k d e z lt = absurd (omega arith)

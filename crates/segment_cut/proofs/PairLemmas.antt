@@ -3,13 +3,13 @@ use Rattle.std.proofs.Common.{◌≡◌, ◌⊎◌, ℕ, zero, suc, ◌+◌, ◌
 use Rattle.std.specs.List.{AllPairs}
 use Rattle.std.proofs.lemmas.Bool.{cases_lt, false≢true}
 use Rattle.std.proofs.lemmas.Bool.Decides.{Decides-eqb}
-use Rattle.std.proofs.lemmas.Int.{ints}
 use Rattle.std.proofs.lemmas.List.{get_or_default}
 use Rattle.std.proofs.lemmas.List.Elements.{All-from_get_or, Contains-get_or}
 use Rattle.trace_types.specs.declared.event.Event.{Event}
 use Rattle.trace_types.specs.Events.{task_at}
 use Rattle.clock_offsets.specs.declared.first_events.Field.TheVariants.{Task}
 use Rattle.clock_offsets.specs.FirstEvents.{AreFirstEvents}
+use Rattle.trace_types.proofs.ComparingLemmas.{time_asym}
 use Rattle.segment_cut.specs.AdjustedTimes.{adjusted_at}
 use Rattle.segment_cut.specs.Neighbours.{IsEarlierTime, AreNeighbours, IsListedBefore, AreAllNeighbours}
 use Rattle.segment_cut.specs.inner.Keys.{Key, no_key, key_at, IsKeyBefore, AreKeys, pairs_from, adjacent_pairs}
@@ -162,13 +162,6 @@ pairs_end keys n pairs le so_far = by (drop n keys) (omega (arith, length-drop n
     by [] le h = sym (append-nil pairs) ∙ h
     by (a ∷ []) le h = sym (append-nil pairs) ∙ h
     by (a ∷ b ∷ rest) le h = absurd (omega arith)
-
--- a key is not before itself, nor both before and after another
-pub time_asym : (x y : ℤ) (i j : ℕ) → ((x <ℤ y) ⊎ ((x ≡ y) × (i < j))) → ((y <ℤ x) ⊎ ((y ≡ x) × (j < i))) → ⊥
-time_asym x y i j (inl a) (inl b) = omega (arith, ints)
-time_asym x y i j (inl a) (inr b) = let e : y ≡ x = b.0 in omega (arith, ints)
-time_asym x y i j (inr a) (inl b) = let e : x ≡ y = a.0 in omega (arith, ints)
-time_asym x y i j (inr a) (inr b) = let l : i < j = a.1 in let r : j < i = b.1 in omega arith
 
 key_asym : (a b : Key) → IsKeyBefore a b → IsKeyBefore b a → ⊥
 key_asym a b (inl x) (inl y) = omega arith

@@ -11,6 +11,7 @@ use Rattle.clock_offsets.specs.Machines.{IsReference}
 use Rattle.trace_types.specs.Events.{machine_at, task_at, event_name_at, time_at, named_events}
 use Rattle.clock_offsets.specs.Offsets.{adjusted_time}
 use Rattle.trace_types.specs.Repeats.{AreDistinct}
+use Rattle.trace_types.proofs.ListingLemmas.{one_list}
 use Rattle.segment_cut.specs.AdjustedTimes.{AreAdjustedTimes, HasAdjustedTime, adjusted_at, IsInClockRange}
 use Rattle.segment_cut.specs.Neighbours.{AreNeighbours, IsListedBefore, AreAllNeighbours, IsEarlierTime}
 use Rattle.segment_cut.specs.Cutting.{most_events, IsValid, IsSpan, IsSegment, IsCut}
@@ -18,7 +19,7 @@ use Rattle.segment_cut.specs.Elements.{HasElement}
 use Rattle.segment_cut.specs.Scaling.{AreOfOneMachine, AreTimelyMicroseconds, AreThousandfold, IsThousandfold, IsTraceThousandfold}
 use Rattle.segment_cut.proofs.RepeatLemmas.{no_event, named_at}
 use Rattle.segment_cut.proofs.VerdictLemmas.{HaveOneOffset, listed_asym}
-use Rattle.segment_cut.proofs.UniqueListLemmas.{one_list, one_element}
+use Rattle.segment_cut.proofs.UniqueListLemmas.{one_element}
 
 reference_is : (events : List Event) → 0 < length events → IsReference events (machine_at events 0)
 reference_is [] lt = absurd (omega arith)

@@ -7,12 +7,12 @@ use Rattle.std.proofs.lemmas.List.Elements.{All-push}
 use Rattle.event_table.specs.Texts.{TextLists}
 use Rattle.trace_types.specs.declared.event.Event.{Event}
 use Rattle.trace_types.specs.declared.segment.Segment.{Segment}
+use Rattle.trace_types.proofs.ZipLemmas.{zip_push}
 use Rattle.segment_cut.specs.declared.cut_segment.CutSegment.{CutSegment}
 use Rattle.segment_cut.specs.AdjustedTimes.{adjusted_at}
 use Rattle.segment_cut.specs.Cutting.{IsSegment}
 use Rattle.segment_cut.specs.NumberedCuts.{HasTexts, segment_under, segments_under}
 use Rattle.segment_cut.specs.inner.Keys.{Key, key_at, IsKeyBefore, HaveTimes, adjacent_pairs}
-use Rattle.segment_cut.proofs.CutLemmas.{zip_push}
 use Rattle.segment_cut.proofs.PairLemmas.{pairs_same, pairs_other, pairs_end}
 
 -- the segments of the pairs before the key at n, and the pairs from it on

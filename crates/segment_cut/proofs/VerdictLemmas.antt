@@ -11,15 +11,16 @@ use Rattle.trace_types.specs.declared.trace.Trace.{Trace}
 use Rattle.trace_types.specs.Events.{machine_at, line_at, event_name_at, time_at, named_events, sends_of, receipts_of}
 use Rattle.clock_offsets.specs.Offsets.{IsOffset, adjusted_time}
 use Rattle.trace_types.specs.Repeats.{AreDistinct, IsLineOfRepeat}
+use Rattle.trace_types.proofs.ComparingLemmas.{time_asym}
+use Rattle.trace_types.proofs.ListingLemmas.{one_list}
 use Rattle.segment_cut.specs.declared.trace_fault.TraceFault.{TraceFault}
 use Rattle.segment_cut.specs.declared.trace_fault.TraceFault.TheVariants.{Memory, TooManyEvents, RepeatedEvent, RepeatedSend, RepeatedRecv, ClockRange}
 use Rattle.segment_cut.specs.AdjustedTimes.{AreAdjustedTimes, HasAdjustedTime, adjusted_at, IsInClockRange, IsLineOutOfRange}
 use Rattle.segment_cut.specs.Neighbours.{AreNeighbours, IsListedBefore, AreAllNeighbours}
 use Rattle.segment_cut.specs.Cutting.{most_events, HasFewEvents, IsSpan, IsSegment, AreSegments, IsCut}
 use Rattle.segment_cut.specs.Faults.{IsTraceFault}
-use Rattle.segment_cut.proofs.PairLemmas.{time_asym}
 use Rattle.segment_cut.proofs.SameLemmas.{same_segment, same_trace}
-use Rattle.segment_cut.proofs.UniqueListLemmas.{one_list, one_element}
+use Rattle.segment_cut.proofs.UniqueListLemmas.{one_element}
 
 -- a machine has one offset
 abbrev pub HaveOneOffset : Type 0

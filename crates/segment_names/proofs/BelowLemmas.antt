@@ -1,5 +1,5 @@
 -- What is matched with texts of the catalogue is a number of it.
-use Rattle.std.proofs.Common.{◌≡◌, ◌↔◌, ℕ, List, get_or, Option, Some, None, MatchOption, Contains, slice_get, refl, subst}
+use Rattle.std.proofs.Common.{◌≡◌, ◌↔◌, ℕ, List, get_or, Option, Some, MatchOption, Contains, slice_get, subst}
 use Rattle.std.specs.List.{enumerate_from}
 use Rattle.std.specs.Option.{IsSomeAnd}
 use Rattle.std.proofs.lemmas.Option.{slice_get-get_or, slice_get_within}
@@ -9,16 +9,13 @@ use Rattle.trace_types.specs.declared.named_trace.NamedTrace.{NamedTrace}
 use Rattle.trace_types.specs.declared.trace.Trace.{Trace}
 use Rattle.trace_types.specs.Parts.{by_number, by_text}
 use Rattle.trace_types.specs.Renaming.{IsSegmentRenamed}
+use Rattle.trace_types.proofs.MatchLemmas.{some_and}
 use Rattle.segment_names.specs.Known.{Known}
 use Rattle.segment_names.specs.Naming.{HasKnownNumbers, IsNamed}
 
 -- numbering a list matches each number with what stands there
 abbrev pub Numbers : {X : Type 0} → List X → Type 0
 Numbers {X} xs = (k : ℕ) (x : X) → Contains (enumerate_from 0 xs) (k, x) ↔ (slice_get xs k ≡ Some x)
-
-some_and : {Y : Type 0} (o : Option Y) (P : Y → Type 0) → IsSomeAnd o P → (y : Y) × (o ≡ Some y) × P y
-some_and None P h = absurd h
-some_and (Some y) P h = (y, refl, h)
 
 pub named_below : (known : Known) (named : NamedTrace) (trace : Trace) → Numbers known.names → Numbers known.tasks → IsNamed known named trace → HasKnownNumbers known named
 named_below known named trace names tasks is k d lt =

@@ -7,13 +7,14 @@ use Rattle.std.proofs.lemmas.Option.{get_or_from_slice_get, slice_get_within, sl
 use Rattle.std.specs.List.{list_any}
 use Rattle.std.specs.Str.{bytes_eq}
 use Rattle.trace_types.specs.Segments.{SegmentName}
+use Rattle.trace_types.proofs.ComparingLemmas.{text_means, text_own}
 use Rattle.segment_names.specs.declared.name_key.NameKey.{NameKey}
 use Rattle.segment_names.specs.Known.{same_name}
 use Rattle.event_table.specs.Texts.{AreDifferent}
 use Rattle.segment_names.specs.inner.Filing.{IsFiled, IsFiledAs, names_of_entries}
 use Rattle.segment_names.proofs.FindLemmas.{none-passes, position-none, position-at, positions-alike, index-means, found-there}
 use Rattle.segment_names.proofs.FirstLemmas.{differ-new}
-use Rattle.segment_names.proofs.TextLemmas.{text_means, text_own, name_means, name_own}
+use Rattle.segment_names.proofs.TextLemmas.{name_means, name_own}
 
 -- what stands in a list stands there with more behind it
 pub still_there : {X : Type 0} (xs new more : List X) (i : ℕ) (x : X) → new ≡ xs ++ more → slice_get xs i ≡ Some x → slice_get new i ≡ Some x

@@ -6,20 +6,11 @@ use Rattle.std.proofs.lemmas.List.Folds.{list_any_at}
 use Rattle.std.proofs.lemmas.List.Quantifiers.{all_pairs_push}
 use Rattle.trace_types.specs.Firsts.{firsts_of}
 use Rattle.event_table.specs.Texts.{AreDifferent}
+use Rattle.trace_types.proofs.ShortLemmas.{any-filter}
 
 -- the list with one more at its end, unless it is there
 abbrev pub with_key : {X : Type 0} → (X → X → Bool) → List X → X → List X
 with_key same xs x = if list_any (same x) xs then xs else xs ++ x ∷ []
-
--- a filter that loses none that passes p leaves whether some passes p
-any-filter : {X : Type 0} (p q : X → Bool) → ((z : X) → p z ≡ true → q z ≡ true) → (xs : List X) → list_any p (filter q xs) ≡ list_any p xs
-any-filter p q keeps [] = refl
-any-filter p q keeps (x ∷ xs) = by (q x) (p x) refl refl (any-filter p q keeps xs)
-  where
-    by : (b c : Bool) → q x ≡ b → p x ≡ c → list_any p (filter q xs) ≡ list_any p xs → list_any p (filter q (x ∷ xs)) ≡ list_any p (x ∷ xs)
-    by true c e f rest = rw (e, rest) refl
-    by false true e f rest = absurd (true≢false (sym (keeps x f) ∙ e))
-    by false false e f rest = rw (e, f, rest) refl
 
 -- where all pass, a filter keeps all
 filter-whole : {X : Type 0} (p : X → Bool) (xs : List X) → ((k : ℕ) (d : X) → k < length xs → p (get_or xs k d) ≡ true) → filter p xs ≡ xs

@@ -10,11 +10,11 @@ use Rattle.trace_types.specs.Parts.{by_number, by_text}
 use Rattle.trace_types.specs.Renaming.{AreOptionsMatched, IsSegmentRenamed}
 use Rattle.trace_types.specs.SegmentLists.{NamesDiffer, TasksStandTogether, JoinInTasks, ElementsCountUp}
 use Rattle.trace_types.specs.Segments.{SegmentName, name_of, task_of, start_of, end_of}
+use Rattle.trace_types.proofs.ComparingLemmas.{text_means, text_own}
 use Rattle.segment_names.specs.Known.{Known}
 use Rattle.event_table.specs.Texts.{AreDifferent}
 use Rattle.segment_names.specs.inner.Numbering.{AreNumbered, IsElementAt}
 use Rattle.segment_names.proofs.FindLemmas.{index-means}
-use Rattle.segment_names.proofs.TextLemmas.{text_means, text_own}
 
 -- one index has one element
 one_there : {X : Type 0} (xs : List X) (i j : ℕ) (x y : X) → slice_get xs i ≡ Some x → slice_get xs j ≡ Some y → i ≡ j → x ≡ y

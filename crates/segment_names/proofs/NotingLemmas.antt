@@ -1,5 +1,5 @@
 -- A segment is noted: its name and its task stand in the tables.
-use Rattle.std.proofs.Common.{◌≡◌, ℕ, suc, ◌<◌, List, [], ◌∷◌, ◌++◌, length, get_or, map, position, Option, Some, None, is_some, Bool, true, false, ◌&&◌, nat_eq, refl, sym, ap, ◌∙◌, subst, true≢false, append-nil, append_assoc, take, IfNone, IfSome, ◌+◌, ◌≤◌, filter, not, arith}
+use Rattle.std.proofs.Common.{◌≡◌, ℕ, suc, ◌<◌, List, [], ◌∷◌, ◌++◌, length, get_or, map, position, Option, Some, None, is_some, Bool, true, false, ◌&&◌, nat_eq, refl, sym, ap, ◌∙◌, subst, true≢false, append-nil, append_assoc, take, IfNone, IfSome, ◌+◌, arith}
 use Rattle.std.proofs.lemmas.List.{length-append, length-map, map-append, map_more}
 use Rattle.std.proofs.lemmas.List.Folds.{Any-from_list_any, list_any_at}
 use Rattle.std.proofs.lemmas.Option.{get_or_from_slice_get, slice_get_within}
@@ -9,6 +9,8 @@ use Rattle.indexmap.specs.IndexMap.{insert_entry}
 use Rattle.trace_types.specs.declared.segment.Segment.{Segment}
 use Rattle.trace_types.specs.Firsts.{firsts_of}
 use Rattle.trace_types.specs.Segments.{SegmentName, name_of, task_of}
+use Rattle.trace_types.proofs.ComparingLemmas.{text_means, text_own}
+use Rattle.trace_types.proofs.ShortLemmas.{firsts-short}
 use Rattle.segment_names.specs.declared.name_key.NameKey.{NameKey}
 use Rattle.segment_names.specs.Known.{Known, same_name, name_number, with_segments}
 use Rattle.event_table.specs.Texts.{AreDifferent}
@@ -16,7 +18,7 @@ use Rattle.segment_names.specs.inner.Filing.{Filed, Grows, IsFiled, IsFiledAs, k
 use Rattle.segment_names.proofs.FilingLemmas.{key_tells}
 use Rattle.segment_names.proofs.FindLemmas.{any-some, any-none}
 use Rattle.segment_names.proofs.FirstLemmas.{firsts-there, firsts-new, firsts-same, firsts-step, none-at}
-use Rattle.segment_names.proofs.TextLemmas.{text_means, text_own, name_means, name_own}
+use Rattle.segment_names.proofs.TextLemmas.{name_means, name_own}
 
 any-map : {E X : Type 0} (f : E → X) (p : X → Bool) (es : List E) → list_any p (map f es) ≡ list_any (λ (e : E). p (f e)) es
 any-map f p [] = refl
@@ -125,18 +127,6 @@ grows_more f g h a b = record {
 }
 
 -- ---- how many are known
-
-filter-short : {X : Type 0} (p : X → Bool) (xs : List X) → length (filter p xs) ≤ length xs
-filter-short p [] = omega arith
-filter-short p (x ∷ xs) = by (p x) refl (filter-short p xs)
-  where
-    by : (b : Bool) → p x ≡ b → length (filter p xs) ≤ length xs → length (filter p (x ∷ xs)) ≤ length (x ∷ xs)
-    by true e h = rw e (omega arith)
-    by false e h = rw e (omega arith)
-
-pub firsts-short : {X : Type 0} (same : X → X → Bool) (xs : List X) → length (firsts_of same xs) ≤ length xs
-firsts-short same [] = omega arith
-firsts-short same (x ∷ xs) = let a = filter-short (λ y. not (same x y)) (firsts_of same xs) in let b = firsts-short same xs in omega arith
 
 pub few_known : {X : Type 0} (same : X → X → Bool) (f : Segment → X) (xs ys : List X) (segments : List Segment) (n : ℕ) → ys ≡ firsts_of same (xs ++ map f segments) → length xs + length segments < n → length ys < n
 few_known same f xs ys segments n e h =

@@ -1,6 +1,6 @@
 -- One segment more is numbered.
 use Rattle.std.proofs.Common.{◌≡◌, ℕ, ◌+◌, ◌<◌, ◌≤◌, List, [], ◌∷◌, ◌++◌, length, get_or, slice_get, Option, Some, None, Bool, true, false, nat_eq, refl, sym, ap, ◌∙◌, subst, ⊎_elim, true≢false, append-nil, arith}
-use Rattle.std.proofs.lemmas.Bool.{cases_order, eq-eqb, eqb-true, ne_eqb}
+use Rattle.std.proofs.lemmas.Bool.{cases_order, eq-eqb, ne_eqb}
 use Rattle.std.proofs.lemmas.List.{get_or_append_left, get_or_default, length-append}
 use Rattle.std.proofs.lemmas.List.Elements.{filter_map-append}
 use Rattle.std.proofs.lemmas.List.Folds.{list_any_at, list_any_none}
@@ -14,20 +14,14 @@ use Rattle.trace_types.specs.declared.segment.Segment.{Segment}
 use Rattle.trace_types.specs.Firsts.{firsts_of}
 use Rattle.trace_types.specs.NamedSegments.{number_of_element}
 use Rattle.trace_types.specs.Segments.{name_of}
+use Rattle.trace_types.proofs.ComparingLemmas.{text_means, text_own, nat_own, nat_means}
+use Rattle.trace_types.proofs.ShortLemmas.{firsts-short}
 use Rattle.segment_names.specs.Known.{Known, name_number}
 use Rattle.segment_names.specs.Naming.{IsUnknownAt}
 use Rattle.event_table.specs.Texts.{AreDifferent}
 use Rattle.segment_names.specs.inner.Numbering.{CountsUp, IsElementAt, IsNumbered, NumbersFirst}
 use Rattle.segment_names.proofs.FilingLemmas.{still_there}
 use Rattle.segment_names.proofs.FirstLemmas.{firsts-push, firsts-same, firsts-there, firsts-new, with_key}
-use Rattle.segment_names.proofs.NotingLemmas.{firsts-short}
-use Rattle.segment_names.proofs.TextLemmas.{text_means, text_own}
-
-nat_means : (x y : ℕ) → nat_eq x y ≡ true → x ≡ y
-nat_means x y h = eqb-true x y h
-
-nat_own : (x : ℕ) → nat_eq x x ≡ true
-nat_own x = eq-eqb x x refl
 
 -- an element stays where it stands
 element_stays : (texts new more : List (List ℕ)) → new ≡ texts ++ more → (number : Option ℕ) (text : Option (List ℕ)) → IsElementAt texts number text → IsElementAt new number text

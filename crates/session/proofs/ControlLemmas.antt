@@ -16,11 +16,11 @@ use Rattle.text_rows.specs.PartsFollow.{CallPrintsOnePart, NoPartIsPrinted}
 use Rattle.text_rows.specs.Printing.{PrintsText}
 use Rattle.text_rows.specs.TextsOfParts.{PrintsPart, PrintsTexts}
 use Rattle.text_rows.specs.declared.print_fault.PrintFault.{PrintFault}
+use Rattle.trace_types.proofs.ZipLemmas.{zip_length}
 use Rattle.session.specs.Carrying.{kept_count}
 use Rattle.session.specs.SessionStates.{SessionState, Shows}
 use Rattle.session.specs.inner.Changes.{session_with_book, session_with_grace, session_with_watch}
 use Rattle.session.specs.inner.Steps.{PrintsSteps}
-use Rattle.session.proofs.SheetLemmas.{zip_length}
 
 module _ {S : Type 0} (written : S → Option (List ℕ)) (faults : S → ℕ) where
   pub drop_step : (drop : DropShows) (one : CallPrintsOnePart written faults IsPart (Unit {0})) (before after : SessionState) (day count : ℕ) (result : Result (Unit {0}) PrintFault) (old new : S) (held holds : List ℕ)

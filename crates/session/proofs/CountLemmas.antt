@@ -1,10 +1,9 @@
 -- How many traces a book has after sheets are added, or after a day is dropped.
-use Rattle.std.proofs.Common.{◌≡◌, ℕ, ◌+◌, ◌*◌, ◌<◌, ◌≤◌, ◌^◌, inl, inr, not, ◌==◌, nat_lt, if◌then◌else◌, List, [], ◌∷◌, ◌++◌, length, All, refl, sym, ap, ◌∙◌, subst, zero-add, arith}
-use Rattle.std.proofs.lemmas.Bool.{cases_Bool, cond-true, cond-false}
-use Rattle.std.proofs.lemmas.List.{append-nil, length-append, length-map}
+use Rattle.std.proofs.Common.{◌≡◌, ℕ, ◌+◌, ◌*◌, ◌<◌, ◌≤◌, ◌^◌, List, [], ◌∷◌, length, All, refl, sym, ap, ◌∙◌, subst, arith}
+use Rattle.std.proofs.lemmas.List.{length-map}
 use Rattle.std.proofs.lemmas.List.Sums.{sum_by-cons}
 use Rattle.day_partitions.specs.Batches.{AreSheetsFor, trace_count, with_all}
-use Rattle.day_partitions.specs.Books.{BookState, IsSheetOf, KeptDay, all_traces, kept_day, with_added, with_day_traces, days_without}
+use Rattle.day_partitions.specs.Books.{BookState, IsSheetOf, all_traces, with_added}
 use Rattle.day_partitions.specs.declared.dated_sheet.DatedSheet.{DatedSheet}
 use Rattle.batch_sheets.specs.declared.recording.DayLines.{DayLines}
 use Rattle.book_laws.specs.Shown.{AreShown, IsShown}
@@ -12,53 +11,27 @@ use Rattle.segment_names.specs.Known.{Known}
 use Rattle.session_rules.specs.KeptTraces.{kept_with}
 use Rattle.trace_types.specs.declared.named_trace.NamedTrace.{NamedTrace}
 use Rattle.trace_types.specs.declared.trace.Trace.{Trace}
+use Rattle.trace_types.proofs.ZipLemmas.{zip_length}
+use Rattle.day_partitions.proofs.DayLemmas.{with_count}
 use Rattle.session.specs.AddLaws.{NoMoreAreSheeted}
 use Rattle.session.specs.Carrying.{kept_count}
 use Rattle.session.specs.SessionStates.{SessionState}
 use Rattle.session.specs.inner.AddSteps.{AreNamed}
 use Rattle.session.specs.Sheets.{AreSheets, graced_by}
-use Rattle.session.proofs.SheetLemmas.{zip_length}
-
--- sums of plain numbers
-below : (all own rest mine more : ℕ) → all ≡ own + rest → rest ≡ mine + more → all ≡ (own + mine) + more
-below all own rest mine more e f = omega (arith, e, f)
 
 same : (all own more rest one : ℕ) → all ≡ one + rest → one ≡ own + more → all ≡ (own + rest) + more
 same all own more rest one e f = omega (arith, e, f)
-
-above : (all one rest : ℕ) → all ≡ one + rest → all ≡ rest + one
-above all one rest e = omega (arith, e)
 
 along : (all mid old one rest count : ℕ) → all ≡ mid + rest → mid ≡ old + one → count ≡ one + rest → all ≡ old + count
 along all mid old one rest count e f g = omega (arith, e, f, g)
 
 -- ---- more traces of a day
-long_with : (day : ℕ) (ts : List NamedTrace) (ks : List KeptDay) → length (all_traces (with_day_traces day ts ks)) ≡ length (all_traces ks) + length ts
-long_with day ts [] = ap length (append-nil ts) ∙ sym (zero-add (length ts))
-long_with day ts (k ∷ ks) = elim (cases_Bool (nat_lt k.day day)) [
-  | inl low ↦
-      ap (λ l. length (all_traces l)) (cond-true (nat_lt k.day day) (k ∷ with_day_traces day ts ks) (if k.day == day then kept_day day (k.traces ++ ts) ∷ ks else kept_day day ts ∷ k ∷ ks) low)
-      ∙ below _ _ _ _ _ (length-append k.traces (all_traces (with_day_traces day ts ks))) (long_with day ts ks)
-      ∙ ap (λ n. n + length ts) (sym (length-append k.traces (all_traces ks)))
-  | inr other ↦
-      ap (λ l. length (all_traces l)) (cond-false (nat_lt k.day day) (k ∷ with_day_traces day ts ks) (if k.day == day then kept_day day (k.traces ++ ts) ∷ ks else kept_day day ts ∷ k ∷ ks) other)
-      ∙ elim (cases_Bool (k.day == day)) [
-        | inl is ↦
-            ap (λ l. length (all_traces l)) (cond-true (k.day == day) (kept_day day (k.traces ++ ts) ∷ ks) (kept_day day ts ∷ k ∷ ks) is)
-            ∙ same _ _ _ _ _ (length-append (k.traces ++ ts) (all_traces ks)) (length-append k.traces ts)
-            ∙ ap (λ n. n + length ts) (sym (length-append k.traces (all_traces ks)))
-        | inr high ↦
-            ap (λ l. length (all_traces l)) (cond-false (k.day == day) (kept_day day (k.traces ++ ts) ∷ ks) (kept_day day ts ∷ k ∷ ks) high)
-            ∙ above _ _ _ (length-append ts (all_traces (k ∷ ks)))
-      ]
-]
-
 abbrev sheet_long : DatedSheet → ℕ
 sheet_long s = length s.sheet.traces
 
 long_all : (b : BookState) (sheets : List DatedSheet) → length (all_traces (with_all b sheets).days) ≡ length (all_traces b.days) + trace_count sheets
 long_all b [] = omega arith
-long_all b (s ∷ ss) = along _ _ _ _ _ _ (long_all (with_added b s.day s.sheet.traces) ss) (long_with s.day s.sheet.traces b.days) (sum_by-cons sheet_long s ss)
+long_all b (s ∷ ss) = along _ _ _ _ _ _ (long_all (with_added b s.day s.sheet.traces) ss) (with_count s.day s.sheet.traces b.days) (sum_by-cons sheet_long s ss)
 
 -- ---- the sheets of a batch
 module _ (few : NoMoreAreSheeted) (known : Known) (workers every grace : ℕ) (valid : List Trace) (sheets : List DatedSheet) (watched : List DayLines) (r : AreSheets known workers every (graced_by grace valid) sheets watched) where
@@ -89,19 +62,6 @@ module _ (few : NoMoreAreSheeted) (known : Known) (workers every grace : ℕ) (v
       under all old count long e l = omega (arith, e, l)
 
 -- ---- a day dropped
-pub drop_few : (day : ℕ) (ks : List KeptDay) → length (all_traces (days_without day ks)) ≤ length (all_traces ks)
-drop_few day [] = omega arith
-drop_few day (k ∷ ks) = elim (cases_Bool (not (k.day == day))) [
-  | inl stays ↦ more _ _ _ _ _ (ap (λ l. length (all_traces l)) (cond-true (not (k.day == day)) (k ∷ days_without day ks) (days_without day ks) stays) ∙ length-append k.traces (all_traces (days_without day ks))) (length-append k.traces (all_traces ks)) (drop_few day ks)
-  | inr goes ↦ less _ _ _ _ _ (ap (λ l. length (all_traces l)) (cond-false (not (k.day == day)) (k ∷ days_without day ks) (days_without day ks) goes)) (length-append k.traces (all_traces ks)) (drop_few day ks)
-]
-  where
-    more : (left all own rest old : ℕ) → left ≡ own + rest → all ≡ own + old → rest ≤ old → left ≤ all
-    more left all own rest old e f l = omega (arith, e, f, l)
-
-    less : (left rest all own old : ℕ) → left ≡ rest → all ≡ own + old → rest ≤ old → left ≤ all
-    less left rest all own old e f l = omega (arith, e, f, l)
-
 -- traces that show kept ones are as many
 pub shown_long : (known : Known) (named : List NamedTrace) (grace : ℕ) (valid : List Trace) → AreShown known named (graced_by grace valid) → length valid ≡ length named
 shown_long known named grace valid shown = sym (zip_length (IsShown known) named (graced_by grace valid) shown ∙ length-map valid (kept_with (1000 * grace)))

@@ -1,8 +1,7 @@
 -- How many days there would be with those of named traces, before any is recorded.
-use Rattle.std.proofs.Common.{◌≡◌, ℕ, zero, suc, ◌^◌, ◌+◌, ◌<◌, ◌≤◌, inl, inr, ◌==◌, List, [], ◌∷◌, length, map, get_or, All, Contains, refl, sym, ap, subst, arith, length-append}
+use Rattle.std.proofs.Common.{◌≡◌, ℕ, suc, ◌^◌, ◌+◌, ◌<◌, ◌≤◌, List, [], ◌∷◌, length, map, get_or, All, Contains, refl, sym, ap, subst, arith, length-append}
 use Rattle.std.specs.Ordering.{nat_cmp}
 use Rattle.std.specs.declared.cmp.Ordering.TheVariants.{Less}
-use Rattle.std.proofs.lemmas.Bool.{cases_eq, eq-eqb, ne_eqb, cond-true, cond-false}
 use Rattle.std.proofs.lemmas.Cmp.{ranked}
 use Rattle.std.proofs.lemmas.List.{length-map, get_or-map}
 use Rattle.std.proofs.lemmas.List.Elements.{All-nil, All-cons, All-head, All-tail, All-weaker, All-contains_itself}
@@ -15,6 +14,7 @@ use Rattle.book_laws.specs.BookLaws.{AreSheetsOf}
 use Rattle.book_laws.specs.Shown.{named_on}
 use Rattle.trace_types.specs.Listing.{ListsExactly}
 use Rattle.trace_types.specs.declared.named_trace.NamedTrace.{NamedTrace}
+use Rattle.batch_sheets.proofs.DayLemmas.{on_some, all_in}
 use Rattle.session.specs.inner.AddSteps.{LacksRoom}
 use Rattle.session.proofs.SplitLemmas.{sheets_few}
 
@@ -36,16 +36,6 @@ each_on : (named : List NamedTrace) (ds : List ℕ) → All (HasThose named) (sh
 each_on named [] = All-nil (HasThose named)
 each_on named (d ∷ ds) = All-cons (HasThose named) (sheet_on named d) (sheets_on named ds) refl (each_on named ds)
 
-on_some : (d : ℕ) (named : List NamedTrace) → Contains (map named_day named) d → 0 < length (named_on d named)
-on_some d [] (k, l, e) = absurd (omega (arith, l))
-on_some d (t ∷ ts) (zero, l, e) = rw (cond-true (t.day == d) (t ∷ named_on d ts) (named_on d ts) (eq-eqb t.day d e)) (omega arith)
-on_some d (t ∷ ts) (suc k, l, e) =
-    let rest = on_some d ts (k, omega (arith, l), e) in
-    elim (cases_eq t.day d) [
-      | inl is ↦ rw (cond-true (t.day == d) (t ∷ named_on d ts) (named_on d ts) (eq-eqb t.day d is)) (omega arith)
-      | inr other ↦ rw (cond-false (t.day == d) (t ∷ named_on d ts) (named_on d ts) (ne_eqb t.day d other)) rest
-    ]
-
 abbrev HasSome : DatedSheet → Type 0
 HasSome s = 0 < length s.sheet.traces
 
@@ -54,9 +44,6 @@ some_on named [] h = All-nil HasSome
 some_on named (d ∷ ds) h = All-cons HasSome (sheet_on named d) (sheets_on named ds)
     (on_some d named (All-head (λ d. Contains (map named_day named) d) d ds h))
     (some_on named ds (All-tail (λ d. Contains (map named_day named) d) d ds h))
-
-all_in : (xs : List NamedTrace) → All (λ (t : NamedTrace). Contains (map named_day xs) t.day) xs
-all_in xs k d l = (k, rw (length-map xs named_day) l, get_or-map named_day xs k d (get_or xs k d).day l)
 
 -- there are sheets of the named traces, one for each of their days
 pub are_sheets : (named : List NamedTrace) (days : List ℕ) → ListsExactly nat_cmp (Contains (map named_day named)) days → AreSheetsOf (sheets_on named days) named

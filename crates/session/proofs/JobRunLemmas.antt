@@ -1,5 +1,5 @@
 -- Jobs one after another.
-use Rattle.std.proofs.Common.{◌≡◌, ℕ, ◌+◌, ◌<◌, ◌≤◌, ◌^◌, List, [], ◌∷◌, ◌++◌, length, take, Option, Some, None, refl, sym, ◌∙◌, ap, subst, append_assoc, arith, inl, inr}
+use Rattle.std.proofs.Common.{◌≡◌, ℕ, ◌+◌, ◌<◌, ◌≤◌, ◌^◌, List, [], ◌∷◌, ◌++◌, length, take, Option, refl, sym, ◌∙◌, ap, subst, append_assoc, arith, inl, inr}
 use Rattle.std.specs.Prelude.{All, sum_by}
 use Rattle.std.specs.Io.KnownBytes.{append_known}
 use Rattle.std.proofs.lemmas.List.{append-nil}
@@ -10,6 +10,8 @@ use Rattle.day_partitions.specs.Books.{all_traces}
 use Rattle.book_laws.specs.Shown.{AreShown}
 use Rattle.mystery_io.specs.Prefixes.{AppendsPrefix}
 use Rattle.segment_names.specs.Known.{Known}
+use Rattle.mystery_io.proofs.KnownLemmas.{known_append_twice, append_nothing}
+use Rattle.text_rows.proofs.PartLemmas.{texts_more}
 use Rattle.session.specs.Carrying.{CarriesOut, CutsShort, HasCommandCause, kept_count}
 use Rattle.session_rules.specs.ReadyJobs.{IsReady, requests_in}
 use Rattle.session.specs.SessionStates.{SessionState, Shows}
@@ -19,7 +21,6 @@ use Rattle.session_rules.specs.Parts.{Part, IsPart}
 use Rattle.session_rules.specs.Sessions.{Does, Leads, Passes, State, first_state}
 use Rattle.session_rules.specs.declared.job.Job.{Job}
 use Rattle.session_rules.specs.declared.limit.Limit.{Limit}
-use Rattle.text_rows.specs.TextsOfParts.{AreTexts}
 use Rattle.trace_types.specs.declared.named_trace.NamedTrace.{NamedTrace}
 use Rattle.session_rules.specs.JobTexts.{IsText}
 use Rattle.session.specs.Running.{EndsIn, WritesFirst, WritesToLimit}
@@ -35,19 +36,6 @@ leads_more w (j ∷ js) ks a b c ps qs h k = (h.0, h.1, h.2 ++ qs, h.3, leads_mo
 leads_one : (w : ℕ) (j : Job) (a b : State) (ps : List Part) → Does w j a ps b → Leads w (j ∷ []) a ps b
 leads_one w j a b ps h = (ps, b, [], h, (refl, refl), sym (append-nil ps))
 
--- texts of some parts and then of others
-texts_more : {X : Type 0} (R : X → List ℕ → Type 0) (ps qs : List X) (a b : List ℕ) → AreTexts R ps a → AreTexts R qs b → AreTexts R (ps ++ qs) (a ++ b)
-texts_more R [] qs a b h k = rw h k
-texts_more R (p ∷ ps) qs a b h k = (h.0, h.1 ++ b, h.2, texts_more R ps qs h.1 b h.3 k, ap (λ (t : List ℕ). t ++ b) h.4 ∙ append_assoc h.0 h.1 b)
-
-append_both : (o : Option (List ℕ)) (a b : List ℕ) → append_known (append_known o a) b ≡ append_known o (a ++ b)
-append_both None a b = refl
-append_both (Some x) a b = ap Some (append_assoc x a b)
-
-append_nothing : (o : Option (List ℕ)) → append_known o [] ≡ o
-append_nothing None = refl
-append_nothing (Some x) = ap Some (append-nil x)
-
 prefix_whole : (before now : Option (List ℕ)) (text : List ℕ) → now ≡ append_known before text → AppendsPrefix before now text
 prefix_whole before now text w = record { count = length text; appended = w ∙ ap (append_known before) (sym (take-length text)) }
 
@@ -55,7 +43,7 @@ prefix_after : (before mid now : Option (List ℕ)) (text more : List ℕ) → m
 prefix_after before mid now text more w p = record {
   count = length text + p.count;
   appended = p.appended ∙ ap (λ (o : Option (List ℕ)). append_known o (take p.count more)) w
-      ∙ append_both before text (take p.count more) ∙ ap (append_known before) (sym (take-append-add text more p.count));
+      ∙ known_append_twice before text (take p.count more) ∙ ap (append_known before) (sym (take-append-add text more p.count));
 }
 
 -- ---- the loop
@@ -95,7 +83,7 @@ more_done workers done job old new before mid now d same carried kept = let c : 
     told = texts_more IsPart d.told.parts c.parts d.text c.text d.told.told c.told;
   };
   shows = c.shows;
-  written = c.written ∙ ap (λ (o : Option (List ℕ)). append_known o c.text) d.written ∙ append_both before d.text c.text;
+  written = c.written ∙ ap (λ (o : Option (List ℕ)). append_known o c.text) d.written ∙ known_append_twice before d.text c.text;
   few = omega (arith, d.few, kept, sum_by_push requests_in done job);
 }
 

@@ -1,30 +1,21 @@
 -- How many names there are once the traces of a batch are added, and how many traces a batch has.
-use Rattle.std.proofs.Common.{◌≡◌, ◌≢◌, ℕ, suc, ◌≤◌, inl, inr, Bool, true, false, not, ◌&&◌, Option, Some, None, List, [], ◌∷◌, ◌++◌, length, map, filter, All, AllPairs, refl, ap, ◌∙◌, arith}
-use Rattle.std.proofs.lemmas.Bool.{cases_Bool, and_parts, not_from_false, cond-true, cond-false}
+use Rattle.std.proofs.Common.{◌≡◌, ◌≢◌, suc, ◌≤◌, inl, inr, Bool, true, false, not, Option, Some, None, List, [], ◌∷◌, ◌++◌, length, map, filter, All, AllPairs, refl, ap, ◌∙◌, arith}
+use Rattle.std.proofs.lemmas.Bool.{cases_Bool, not_from_false, cond-true}
 use Rattle.std.proofs.lemmas.List.{length-append}
 use Rattle.std.proofs.lemmas.List.Elements.{All-head, All-tail, All-weaker, filter-append}
-use Rattle.std.proofs.lemmas.Slice.Eq.{bytes_eq-Decides}
-use Rattle.std.specs.Str.{bytes_eq}
-use Rattle.std.specs.List.{AllZip, flat_map, filter_map}
+use Rattle.std.specs.List.{flat_map, filter_map}
 use Rattle.segment_names.specs.Known.{Known, same_name, with_traces}
 use Rattle.segment_names.specs.Limits.{IsKept}
 use Rattle.trace_types.specs.Firsts.{firsts_of}
-use Rattle.trace_types.specs.Segments.{SegmentName, name_of}
+use Rattle.trace_types.specs.Segments.{name_of}
 use Rattle.trace_types.specs.declared.trace.Trace.{Trace}
 use Rattle.trace_types.specs.declared.event.Event.{Event}
 use Rattle.trace_types.specs.Batch.{requests_of, trace_of, traces_of}
 use Rattle.session_rules.specs.Batches.{AreJudged, IsJudged, valid_in}
 use Rattle.session_rules.specs.declared.refused.Refused.{Refused}
 use Rattle.std.proofs.lemmas.List.{length-map}
-
-text_means : (x y : List ℕ) → bytes_eq x y ≡ true → x ≡ y
-text_means x y h = (bytes_eq-Decides x y).0 h
-
-name_means : (x y : SegmentName) → same_name x y ≡ true → x ≡ y
-name_means x y h =
-    let p = and_parts (bytes_eq x.0 y.0) (bytes_eq x.1 y.1 && bytes_eq x.2 y.2) h in
-    let q = and_parts (bytes_eq x.1 y.1) (bytes_eq x.2 y.2) p.1 in
-    λ k. (text_means x.0 y.0 p.0 k, text_means x.1 y.1 q.0 k, text_means x.2 y.2 q.1 k)
+use Rattle.segment_names.proofs.TextLemmas.{name_means}
+use Rattle.trace_types.proofs.ZipLemmas.{zip_length}
 
 -- known things stay where more are noted
 module _ {X : Type 0} (same : X → X → Bool) (means : (x y : X) → same x y ≡ true → x ≡ y) where
@@ -62,39 +53,10 @@ filtered h (x ∷ xs) = by (h x) refl (filtered h xs)
     by None e l = rw e (omega (arith, l))
     by (Some y) e l = rw e (omega (arith, l))
 
-zip_long : {X Y : Type 0} (R : X → Y → Type 0) (xs : List X) (ys : List Y) → AllZip R xs ys → length xs ≡ length ys
-zip_long R [] [] z = refl
-zip_long R [] (y ∷ ys) z = absurd z
-zip_long R (x ∷ xs) [] z = absurd z
-zip_long R (x ∷ xs) (y ∷ ys) z = ap suc (zip_long R xs ys z.1)
-
 pub valid_few : (events : List Event) (valid : List Trace) (refused : List Refused) → AreJudged (traces_of events) valid refused → length valid ≤ length (requests_of events)
 valid_few events valid refused j =
     let a = ap length j.valid_are in
     let b = filtered valid_in j.verdicts in
-    let c = zip_long IsJudged (traces_of events) j.verdicts j.each in
+    let c = zip_length IsJudged (traces_of events) j.verdicts j.each in
     let d = length-map (requests_of events) (trace_of events) in
     omega (arith, a, b, c, d)
-
-few_filter : {X : Type 0} (p : X → Bool) (xs : List X) → length (filter p xs) ≤ length xs
-few_filter p [] = omega arith
-few_filter p (x ∷ xs) =
-    let rest = few_filter p xs in
-    elim (cases_Bool (p x)) [
-      | inl good ↦ let e = ap length (cond-true (p x) (x ∷ filter p xs) (filter p xs) good) in omega (arith, e, rest)
-      | inr bad ↦ let e = ap length (cond-false (p x) (x ∷ filter p xs) (filter p xs) bad) in omega (arith, e, rest)
-    ]
-
-few_firsts : {X : Type 0} (same : X → X → Bool) (xs : List X) → length (firsts_of same xs) ≤ length xs
-few_firsts same [] = omega arith
-few_firsts same (x ∷ xs) =
-    let fewer = few_filter (λ y. not (same x y)) (firsts_of same xs) in
-    let rest = few_firsts same xs in
-    omega (arith, fewer, rest)
-
--- events have no more requests than there are events
-pub requests_few : (events : List Event) → length (requests_of events) ≤ length events
-requests_few events =
-    let few = few_firsts bytes_eq (map (λ (e : Event). e.request) events) in
-    let long = length-map events (λ (e : Event). e.request) in
-    omega (arith, few, long)

@@ -1,13 +1,10 @@
 -- Sheets and watch lines of the traces of a batch, from the traces of each day.
 use Rattle.std.proofs.Common.{◌≡◌, ℕ, zero, suc, ◌<◌, inl, inr, Bool, ◌==◌, List, [], ◌∷◌, length, map, filter, get_or, All, AllPairs, Contains, refl, sym, ap, ◌∙◌, subst, arith}
-use Rattle.std.proofs.lemmas.Bool.{cases_Bool, cases_eq, cases_order, eq-eqb, ne_eqb, cond-true, cond-false}
+use Rattle.std.proofs.lemmas.Bool.{cases_Bool, cond-true, cond-false}
 use Rattle.std.proofs.lemmas.List.Elements.{All-nil, All-cons, All-head, All-tail, All-weaker, All-filter, All-contains_itself}
-use Rattle.std.specs.Cmp.{nat_cmp_is}
 use Rattle.std.specs.List.{AllZip}
 use Rattle.std.specs.Ordering.{nat_cmp}
-use Rattle.std.specs.Prelude.{IfOk, Result, Ok, Err}
-use Rattle.std.specs.declared.cmp.Ordering.{Ordering}
-use Rattle.std.specs.declared.cmp.Ordering.TheVariants.{Less, Equal, Greater}
+use Rattle.std.specs.declared.cmp.Ordering.TheVariants.{Less}
 use Rattle.batch_sheets.specs.Recorded.{AreLinesOfDay, AreRecorded, IsSheetOfDay}
 use Rattle.batch_sheets.specs.Splitting.{AreSplit, named_day, split_day}
 use Rattle.batch_sheets.specs.declared.days.DayTraces.{DayTraces}
@@ -22,6 +19,8 @@ use Rattle.session_rules.specs.KeptTraces.{Kept, day_of, traces_on}
 use Rattle.trace_types.specs.Listing.{ListsExactly}
 use Rattle.trace_types.specs.declared.named_trace.NamedTrace.{NamedTrace}
 use Rattle.book_laws.specs.TextBounds.{WatchLinesAreToldByText}
+use Rattle.trace_types.proofs.ComparingLemmas.{less_means}
+use Rattle.book_laws.proofs.SheetLemmas.{named_of}
 use Rattle.session.specs.Sheets.{AreLinesOn, AreSheets}
 
 -- ---- lists place by place
@@ -43,39 +42,17 @@ zip_map R f g same [] (y ∷ ys) z = absurd z
 zip_map R f g same (x ∷ xs) [] z = absurd z
 zip_map R f g same (x ∷ xs) (y ∷ ys) z = ap (λ v. v ∷ map f xs) (same x y z.0) ∙ ap (λ l. g y ∷ l) (zip_map R f g same xs ys z.1)
 
-pub zip_length : {X Y : Type 0} (R : X → Y → Type 0) (xs : List X) (ys : List Y) → AllZip R xs ys → length xs ≡ length ys
-zip_length R [] [] z = refl
-zip_length R [] (y ∷ ys) z = absurd z
-zip_length R (x ∷ xs) [] z = absurd z
-zip_length R (x ∷ xs) (y ∷ ys) z = ap suc (zip_length R xs ys z.1)
-
-pub if_ok : {T E : Type 0} (r : Result T E) (P Q : T → Type 0) → ((x : T) → P x → Q x) → IfOk r P → IfOk r Q
-if_ok (Ok x) P Q f h = f x h
-if_ok (Err e) P Q f h = h
-
 -- ---- the order of numbers
-abbrev is_less : Ordering → Type 0
-is_less Less = Unit {0}
-is_less Equal = ⊥
-is_less Greater = ⊥
-
-pub less_means : (x y : ℕ) → nat_cmp x y ≡ Less → x < y
-less_means x y e = elim (cases_order x y) [
-  | inl same ↦ absurd (subst is_less (sym e ∙ sym (nat_cmp_is x y Equal same)) tt)
-  | inr (inl low) ↦ low
-  | inr (inr high) ↦ absurd (subst is_less (sym e ∙ sym (nat_cmp_is x y Greater high)) tt)
-]
-
 -- ---- sheets of the days
 abbrev pub sheet_day : DatedSheet → ℕ
 sheet_day s = s.day
 
-day_there : (sheets : List DatedSheet) (i : ℕ) (d : DatedSheet) (e : ℕ) → i < length sheets → get_or (map sheet_day sheets) i e ≡ (get_or sheets i d).day
+pub day_there : (sheets : List DatedSheet) (i : ℕ) (d : DatedSheet) (e : ℕ) → i < length sheets → get_or (map sheet_day sheets) i e ≡ (get_or sheets i d).day
 day_there [] i d e l = absurd (omega (arith, l))
 day_there (s ∷ ss) zero d e l = refl
 day_there (s ∷ ss) (suc i) d e l = day_there ss i d e (omega (arith, l))
 
-length_days : (sheets : List DatedSheet) → length (map sheet_day sheets) ≡ length sheets
+pub length_days : (sheets : List DatedSheet) → length (map sheet_day sheets) ≡ length sheets
 length_days [] = refl
 length_days (s ∷ ss) = ap suc (length_days ss)
 
@@ -86,13 +63,6 @@ rising_sheets sheets days same p i j d l m =
     let a = day_there sheets i d 0 (omega (arith, l, m)) in
     let b = day_there sheets j d 0 m in
     omega (arith, less, a, b)
-
-of_day : (d : ℕ) (named : List NamedTrace) → AreOfDay d (named_on d named)
-of_day d [] = All-nil (λ (t : NamedTrace). t.day ≡ d)
-of_day d (t ∷ ts) = elim (cases_eq t.day d) [
-  | inl is ↦ rw (cond-true (t.day == d) (t ∷ named_on d ts) (named_on d ts) (eq-eqb t.day d is)) (All-cons (λ (u : NamedTrace). u.day ≡ d) t (named_on d ts) is (of_day d ts))
-  | inr other ↦ rw (cond-false (t.day == d) (t ∷ named_on d ts) (named_on d ts) (ne_eqb t.day d other)) (of_day d ts)
-]
 
 abbrev HasThose : List NamedTrace → DayTraces → Type 0
 HasThose named s = s.traces.items ≡ named_on s.day named
@@ -110,7 +80,7 @@ one_sheet names named split s h those some below =
       record {
         width = h.width;
         some = more;
-        dated = subst (AreOfDay s.day) (sym own) (of_day s.day named);
+        dated = subst (AreOfDay s.day) (sym own) (named_of s.day named);
         named = subst (All (HaveNamesBelow names)) (sym own) (All-filter (λ (t : NamedTrace). t.day == s.day) (HaveNamesBelow names) named below);
       },
     )

@@ -1,5 +1,5 @@
 -- The traces of days that were split, and how many all sheets have.
-use Rattle.std.proofs.Common.{◌≡◌, ◌≢◌, ℕ, zero, suc, ◌<◌, ◌≤◌, ◌+◌, inl, inr, ◌==◌, List, [], ◌∷◌, length, map, get_or, All, AllPairs, refl, sym, ap, subst, arith}
+use Rattle.std.proofs.Common.{◌≡◌, ◌≢◌, ℕ, suc, ◌<◌, ◌≤◌, ◌+◌, inl, inr, ◌==◌, List, [], ◌∷◌, length, map, All, AllPairs, refl, sym, ap, subst, arith}
 use Rattle.std.proofs.lemmas.Bool.{cases_eq, eq-eqb, ne_eqb, cond-true, cond-false}
 use Rattle.std.proofs.lemmas.List.Elements.{All-head, All-tail, All-weaker, All-filter}
 use Rattle.std.proofs.lemmas.List.Sums.{sum_by-cons}
@@ -12,6 +12,8 @@ use Rattle.book_laws.specs.BookLaws.{AreSheetsOf}
 use Rattle.book_laws.specs.Shown.{named_on}
 use Rattle.refute_tests.specs.Clearing.{HaveNamesBelow}
 use Rattle.trace_types.specs.declared.named_trace.NamedTrace.{NamedTrace}
+use Rattle.batch_sheets.proofs.DayLemmas.{heads, tails}
+use Rattle.session.proofs.SheetLemmas.{length_days, day_there}
 
 pub below_each : (n : ℕ) (days : List ℕ) (named : List NamedTrace) (split : List DayTraces) → All (HaveNamesBelow n) named → AreSplit days named split → All (λ (s : DayTraces). All (HaveNamesBelow n) s.traces.items) split
 below_each n days named split b h = All-weaker (λ (s : DayTraces). s.traces.items ≡ named_on s.day named) (λ (s : DayTraces). All (HaveNamesBelow n) s.traces.items)
@@ -55,12 +57,6 @@ at_most all one rest all' one' rest' e f g h = omega (arith, e, f, g, h)
 at_least : (all one rest all' one' rest' : ℕ) → all ≡ one + rest → all' ≡ one' + rest' → one ≡ one' → rest ≤ rest' + 1 → all ≤ all' + 1
 at_least all one rest all' one' rest' e f g h = omega (arith, e, f, g, h)
 
-heads : (x : ℕ) (xs : List ℕ) → AllPairs (λ x y. x ≢ y) (x ∷ xs) → All (λ y. x ≢ y) xs
-heads x xs p k d l = p 0 (suc k) d (omega arith) (omega (arith, l))
-
-tails : (x : ℕ) (xs : List ℕ) → AllPairs (λ x y. x ≢ y) (x ∷ xs) → AllPairs (λ x y. x ≢ y) xs
-tails x xs p i j d l m = p (suc i) (suc j) d (omega (arith, l)) (omega (arith, m))
-
 one_more : (t : NamedTrace) (ts : List NamedTrace) (ds : List ℕ) → AllPairs (λ x y. x ≢ y) ds → total ds (t ∷ ts) ≤ total ds ts + 1
 one_more t ts [] p = omega arith
 one_more t ts (d ∷ ds) p = elim (cases_eq t.day d) [
@@ -97,22 +93,13 @@ count_total named (s ∷ ss) h =
     (ap length (All-head (λ (r : DatedSheet). r.sheet.traces ≡ named_on r.day named) s ss h))
     (count_total named ss (All-tail (λ (r : DatedSheet). r.sheet.traces ≡ named_on r.day named) s ss h))
 
-day_at : (sheets : List DatedSheet) (i : ℕ) (d : DatedSheet) (e : ℕ) → i < length sheets → get_or (map sheet_day sheets) i e ≡ (get_or sheets i d).day
-day_at [] i d e l = absurd (omega (arith, l))
-day_at (s ∷ ss) zero d e l = refl
-day_at (s ∷ ss) (suc i) d e l = day_at ss i d e (omega (arith, l))
-
-long_days : (sheets : List DatedSheet) → length (map sheet_day sheets) ≡ length sheets
-long_days [] = refl
-long_days (s ∷ ss) = ap suc (long_days ss)
-
 days_differ : (sheets : List DatedSheet) → AllPairs (λ (r s : DatedSheet). r.day < s.day) sheets → AllPairs (λ x y. x ≢ y) (map sheet_day sheets)
 days_differ [] p i j d l m = absurd (omega (arith, m))
 days_differ (s ∷ ss) p i j d l m =
-    let n = long_days (s ∷ ss) in
+    let n = length_days (s ∷ ss) in
     let less = p i j s l (omega (arith, m, n)) in
-    let a = day_at (s ∷ ss) i s d (omega (arith, l, m, n)) in
-    let b = day_at (s ∷ ss) j s d (omega (arith, m, n)) in
+    let a = day_there (s ∷ ss) i s d (omega (arith, l, m, n)) in
+    let b = day_there (s ∷ ss) j s d (omega (arith, m, n)) in
     λ same. apart _ _ _ _ less a b same
   where
     apart : (x y u v : ℕ) → u < v → x ≡ u → y ≡ v → x ≡ y → ⊥

@@ -1,3 +1,2 @@
 pub mod PairLemmas
-pub mod SharedLemmas
 pub mod RequestLemmas

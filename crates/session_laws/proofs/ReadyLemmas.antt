@@ -1,9 +1,7 @@
 -- Lines make jobs that sessions carry out.
-use Rattle.std.proofs.Common.{◌≡◌, ◌⊎◌, ℕ, zero, suc, ◌+◌, ◌<◌, ◌≤◌, ◌^◌, List, [], ◌∷◌, ◌++◌, length, map, refl, sym, ◌∙◌, ap, subst, append_assoc, arith, inl, inr, AllPairs}
-use Rattle.std.specs.Prelude.{All, Bool, not, sum_by, filter}
-use Rattle.std.specs.Str.{bytes_eq}
-use Rattle.std.proofs.lemmas.Bool.{cases_Bool, cond-true, cond-false}
-use Rattle.std.proofs.lemmas.List.{length-append, length-map, map-append}
+use Rattle.std.proofs.Common.{◌≡◌, ◌⊎◌, ℕ, zero, suc, ◌+◌, ◌<◌, ◌≤◌, ◌^◌, List, [], ◌∷◌, ◌++◌, length, refl, sym, ◌∙◌, ap, subst, append_assoc, arith, inl, inr, AllPairs}
+use Rattle.std.specs.Prelude.{All, sum_by}
+use Rattle.std.proofs.lemmas.List.{length-append, map-append}
 use Rattle.std.proofs.lemmas.List.Elements.{All-append, All-cons, All-head, All-nil, All-push, All-tail}
 use Rattle.std.proofs.lemmas.List.Sums.{sum_by-append, sum_by-cons}
 use Rattle.event_lines.specs.GoodLines.{IsLimited, IsTimely}
@@ -15,28 +13,13 @@ use Rattle.session_rules.specs.ReadyJobs.{IsReady, IsReadyCommand, requests_in}
 use Rattle.session_rules.specs.Jobs.{batch_after, job_of, jobs_from, jobs_of}
 use Rattle.session_rules.specs.declared.job.Job.{Job}
 use Rattle.session_rules.specs.declared.job.Job.TheVariants.{Add}
-use Rattle.trace_types.specs.Batch.{requests_of}
-use Rattle.trace_types.specs.Firsts.{firsts_of}
 use Rattle.trace_types.specs.Times.{AreTimely, latest_time}
 use Rattle.trace_types.specs.declared.event.Event.{Event}
+use Rattle.trace_types.proofs.ShortLemmas.{requests_few}
 use Rattle.session_laws.specs.ReadyLaws.{IsFurther}
 use Rattle.session_rules.specs.ReadyJobs.{AreReady}
 
 -- ---- requests
-
-no_more : {X : Type 0} (p : X → Bool) (xs : List X) → length (filter p xs) ≤ length xs
-no_more p [] = omega arith
-no_more p (x ∷ xs) = elim (cases_Bool (p x)) [
-  | inl good ↦ rw (cond-true (p x) (x ∷ filter p xs) (filter p xs) good) (omega (arith, no_more p xs))
-  | inr bad ↦ rw (cond-false (p x) (x ∷ filter p xs) (filter p xs) bad) (omega (arith, no_more p xs))
-]
-
-firsts_few : {X : Type 0} (same : X → X → Bool) (xs : List X) → length (firsts_of same xs) ≤ length xs
-firsts_few same [] = omega arith
-firsts_few same (x ∷ xs) = omega (arith, firsts_few same xs, no_more (λ y. not (same x y)) (firsts_of same xs))
-
-pub requests_few : (events : List Event) → length (requests_of events) ≤ length events
-requests_few events = omega (arith, firsts_few bytes_eq (map (λ (e : Event). e.request) events), length-map events (λ (e : Event). e.request))
 
 -- a job and the events that are left have no more requests than there were events
 job_few : (batch : List Event) (command : Command) → requests_in (job_of batch command) + length (batch_after batch command) ≤ length batch

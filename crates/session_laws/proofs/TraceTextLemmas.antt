@@ -1,45 +1,28 @@
 -- A kept trace has one text of its critical path, one of its slacks and one of its graph.
-use Rattle.std.proofs.Common.{◌≡◌, ◌⊎◌, ◌↔◌, ℕ, zero, suc, ◌+◌, ◌<◌, List, [], ◌∷◌, ◌++◌, length, get_or, AllPairs, Ordering, refl, sym, ◌∙◌, ap, subst, arith, inl, inr, nat_cmp, codes, decimal}
+use Rattle.std.proofs.Common.{◌≡◌, ◌↔◌, ℕ, zero, suc, ◌+◌, ◌<◌, List, [], ◌∷◌, ◌++◌, length, get_or, AllPairs, refl, sym, ◌∙◌, ap, subst, arith, inl, inr, nat_cmp, codes, decimal}
 use Rattle.std.specs.Prelude.{slice_index}
 use Rattle.std.specs.List.{flat_map, range_with_len}
 use Rattle.std.specs.List.Sorted.{IsStrictlyIncreasing}
-use Rattle.std.specs.Ordering.{MatchOrdering}
-use Rattle.std.specs.declared.cmp.Ordering.TheVariants.{Less, Equal, Greater}
-use Rattle.std.proofs.lemmas.Bool.{cases_lt}
-use Rattle.std.proofs.lemmas.Cmp.{nat_cmp_total, ranked}
+use Rattle.std.specs.declared.cmp.Ordering.TheVariants.{Less}
+use Rattle.std.proofs.lemmas.Cmp.{nat_cmp_total}
 use Rattle.std.proofs.lemmas.List.{ext_get_or}
 use Rattle.std.proofs.lemmas.List.Kept.{AllPairs-from_increasing}
 use Rattle.text_rows.specs.Rows.{row_of}
 use Rattle.trace_graph.specs.GraphLaws.{HasOneGraph}
-use Rattle.weighted_dag.specs.Chains.{IsBefore, IsLongest, IsLongestLength, NoLongestIsBefore}
+use Rattle.weighted_dag.specs.Chains.{IsLongest, IsLongestLength, NoLongestIsBefore}
 use Rattle.weighted_dag.specs.Graphs.{Graph, IsEdge, IsGraph, order_of, successors_of, weight_of}
 use Rattle.weighted_dag.specs.Reductions.{IsKeptEdge}
 use Rattle.weighted_dag.specs.Slacks.{IsSlack}
 use Rattle.session_rules.specs.KeptTraces.{Kept, by_kept}
 use Rattle.session_rules.specs.TraceTexts.{IsGraphOf, IsGraphText, IsPathText, IsSlackText, graph_text, name_of_vertex, path_text, slack_text, trace_row}
+use Rattle.trace_types.proofs.ComparingLemmas.{less_to}
+use Rattle.trace_paths.proofs.OnePathLemmas.{one_before}
 use Rattle.session_laws.proofs.JobLemmas.{OneRisingList}
 
 -- ---- chains, lengths and slacks
 
--- of two different lists one comes before the other
-ordered : (c d : List ℕ) → (c ≡ d) ⊎ (IsBefore c d ⊎ IsBefore d c)
-ordered [] [] = inl refl
-ordered [] (b ∷ d) = inr (inl tt)
-ordered (a ∷ c) [] = inr (inr tt)
-ordered (a ∷ c) (b ∷ d) = elim (cases_lt a b) [
-  | inl less ↦ inr (inl (inl less))
-  | inr more ↦ elim (cases_lt b a) [
-    | inl less ↦ inr (inr (inl less))
-    | inr le ↦ let same : a ≡ b = omega arith in elim (ordered c d) [
-      | inl rest ↦ inl (ap (λ (x : ℕ). x ∷ c) same ∙ ap (λ (xs : List ℕ). b ∷ xs) rest)
-      | inr (inl before) ↦ inr (inl (inr (same, before)))
-      | inr (inr after) ↦ inr (inr (inr (sym same, after)))
-    ]
-  ]
-]
-
 chain_one : (g : Graph) (c d : List ℕ) → IsLongest g c → NoLongestIsBefore g c → IsLongest g d → NoLongestIsBefore g d → c ≡ d
-chain_one g c d h first k other = elim (ordered c d) [
+chain_one g c d h first k other = elim (one_before c d) [
   | inl same ↦ same
   | inr (inl before) ↦ absurd (other c h before)
   | inr (inr after) ↦ absurd (first d k after)
@@ -59,16 +42,8 @@ rows_agree f g a (suc n) h = ap (λ (ys : List ℕ). ys ++ flat_map f (range_wit
 
 -- ---- graphs
 
-nat_less : (x y : ℕ) → x < y → nat_cmp x y ≡ Less
-nat_less x y lt = go (nat_cmp x y) (ranked x y (nat_cmp x y) refl)
-  where
-    go : (o : Ordering) → MatchOrdering o (x < y) (x ≡ y) (y < x) → o ≡ Less
-    go Less m = refl
-    go Equal m = let e : x ≡ y = m in absurd (omega arith)
-    go Greater m = let g : y < x = m in absurd (omega arith)
-
 rising_less : (xs : List ℕ) → IsStrictlyIncreasing xs → AllPairs (λ (x y : ℕ). nat_cmp x y ≡ Less) xs
-rising_less xs rises i j d lt within = nat_less (get_or xs i d) (get_or xs j d) (AllPairs-from_increasing xs rises i j d lt within)
+rising_less xs rises i j d lt within = less_to (get_or xs i d) (get_or xs j d) (AllPairs-from_increasing xs rises i j d lt within)
 
 module _ (listed : OneRisingList ℕ) where
   -- graphs with the same weights and edges are one graph

@@ -119,14 +119,6 @@ longest_fits g most limit longest shorter =
     let low = shorter longest.0 best.chain in
     omega arith
 
--- no chain is longer than the longest length
-pub none_longer_than : (g : Graph) (most : ℕ) → IsLongestLength g most → NoneIsLonger g most
-none_longer_than g most longest c h =
-    let best : IsLongest g longest.0 = longest.1 in
-    let is : chain_length g longest.0 ≡ most = longest.2 in
-    let up = best.none_longer c h in
-    omega arith
-
 module _ (g : Graph) (form : IsGraph g) (v : ℕ) (inside : v < order_of g) (into from most : ℕ) (below : IsLongestInto g v into) (above : IsLongestFrom g v from) (none_longer : NoneIsLonger g most) (longest : IsLongestLength g most) where
   through_chain : IsChain g (lead below.reached.0 (v ∷ above.reached.0))
   through_chain = IsChain-lead g form below.reached.0 v above.reached.0 below.reached.1 above.reached.1

@@ -55,8 +55,3 @@ count_split p b low m high is = sum_by-append (λ x. cond (p x) 1 0) low (m ∷ 
 pub count_map : {X Y : Type 0} (p : Y → Bool) (f : X → Y) (xs : List X) → count_by p (map f xs) ≡ count_by (λ x. p (f x)) xs
 count_map p f [] = refl
 count_map p f (x ∷ xs) = count_cons p (f x) (map f xs) ∙ (ap (λ k. cond (p (f x)) 1 0 + k) (count_map p f xs) ∙ sym (count_cons (λ y. p (f y)) x xs))
-
--- tests that agree give one list of answers
-pub map_agree : {X Y : Type 0} (f g : X → Y) → ((x : X) → f x ≡ g x) → (xs : List X) → map f xs ≡ map g xs
-map_agree f g same [] = refl
-map_agree f g same (x ∷ xs) = ap (λ y. y ∷ map f xs) (same x) ∙ ap (λ l. g x ∷ l) (map_agree f g same xs)

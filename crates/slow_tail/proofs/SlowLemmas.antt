@@ -12,7 +12,8 @@ use Rattle.std.proofs.lemmas.List.FromFn.{length-enumerate_from}
 use Rattle.std.proofs.lemmas.List.Elements.{All-map, All-weaker, Contains-append_right, filter_passes}
 use Rattle.std.proofs.lemmas.List.Sorted.{Contains-permutation, IsPermutation-sym, length_permutation, sum_by-IsPermutation}
 use Rattle.trace_rules.specs.SlowTraces.{IsFloor, IsLeast, comes_after, is_slow, marked, slow_count, slow_marks, slow_of, with_indices}
-use Rattle.slow_tail.proofs.CountLemmas.{count_all, count_cons, count_le, count_map, count_none, count_split, map_agree, none_counted}
+use Rattle.trace_types.proofs.ElementLemmas.{map_same}
+use Rattle.slow_tail.proofs.CountLemmas.{count_all, count_cons, count_le, count_map, count_none, count_split, none_counted}
 
 abbrev pub Place : Type 0
 Place = ℕ × ℕ
@@ -195,7 +196,7 @@ slow_from_first latencies p first x = go (comes_after x p) refl
         ap not e ∙ sym (lt-ltb (count_by (comes_after x) (with_indices latencies)) (slow_count (length latencies)) (omega arith))
 
 pub marks_from_first : (latencies : List ℕ) (p : Place) → IsFirst latencies p → map (not_before p) (with_indices latencies) ≡ slow_marks latencies
-marks_from_first latencies p first = map_agree (not_before p) (is_slow latencies) (slow_from_first latencies p first) (with_indices latencies)
+marks_from_first latencies p first = map_same (not_before p) (is_slow latencies) (slow_from_first latencies p first) (with_indices latencies)
 
 -- and exactly so many are slow
 pub count_from_first : (latencies : List ℕ) (p : Place) → IsFirst latencies p → count_by (λ (m : Bool). m) (slow_marks latencies) ≡ slow_count (length latencies)

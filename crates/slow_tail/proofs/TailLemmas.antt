@@ -10,13 +10,14 @@ use Rattle.trace_types.specs.Parts.{Parts, by_number}
 use Rattle.trace_paths.specs.NumberedPaths.{IsNamedPath}
 use Rattle.trace_rules.specs.Durations.{has_name, durations_of}
 use Rattle.trace_paths.specs.Tables.{IsTableOf}
+use Rattle.trace_paths.proofs.PathTimeLemmas.{joined}
 use Rattle.slow_tail.specs.declared.tail_row.TailRow.{TailRow}
 use Rattle.slow_tail.specs.inner.TableRows.{IsTailRowFrom}
 use Rattle.slow_tail.specs.SlowLaws.{AddUp}
 use Rattle.trace_rules.specs.ReportRows.{AreSlowAndRest}
 use Rattle.trace_rules.specs.SlowTraces.{rest_of, slow_marks, slow_of, with_indices, is_slow}
 use Rattle.slow_tail.proofs.MarkLemmas.{sums_add_up}
-use Rattle.slow_tail.proofs.PathLemmas.{joined, table_has}
+use Rattle.slow_tail.proofs.PathLemmas.{table_has}
 use Rattle.slow_tail.proofs.SlowLemmas.{length_places}
 
 -- a list has exactly the elements with a property that says the same

@@ -1,7 +1,7 @@
 -- What an event that has no fault can rely on.
-use Rattle.std.proofs.Common.{◌≡◌, ◌≢◌, ℕ, zero, suc, ◌<◌, Bool, true, false, not, ◌||◌, ◌==◌, nat_lt, cond, List, [], ◌∷◌, length, get_or, refl, subst, ⊎_elim, arith}
-use Rattle.std.specs.Prelude.{Option, Some, None}
-use Rattle.std.proofs.lemmas.Bool.{not-false, eqb-false, eqb-true, ltb-true, or_cases, or_parts, and_parts, false≢true}
+use Rattle.std.proofs.Common.{◌≡◌, ◌≢◌, ℕ, ◌<◌, true, not, ◌||◌, ◌==◌, nat_lt, List, length, subst, ⊎_elim, arith}
+use Rattle.std.specs.Prelude.{None}
+use Rattle.std.proofs.lemmas.Bool.{not-false, eqb-false, ltb-true, or_cases, or_parts}
 use Rattle.word_rows.specs.declared.entries.Entry.{Entry}
 use Rattle.word_rows.specs.declared.events.StepEvent.TheVariants.{Clear as clear, Load as load, Split as split, Join as join}
 use Rattle.word_rows.specs.declared.views.View.{View}
@@ -9,17 +9,10 @@ use Rattle.word_rows.specs.Rows.{is_row, below, same_row}
 use Rattle.word_rows.specs.Changes.{is_idle}
 use Rattle.word_rows.specs.Meeting.{SameRowIsOne}
 use Rattle.word_rows.specs.Sound.{IsPartWay}
-use Rattle.word_rows.specs.Machine.{StepState, Fault, fault_of, is_live, view_at, can_clear, no_seat, row_open, bad_share, bad_word}
-
--- a test that finds no fault is false, and so are those after it
-passed : (b : Bool) (fault : Fault) (next : Option Fault) → ◌≡◌ {A = Option Fault} (cond b (Some fault) next) None → (b ≡ false) × (next ≡ None)
-passed true fault next e = cc
-passed false fault next e = (refl, e)
-
-live_inside : (l : List Bool) (i : ℕ) → get_or l i false ≡ true → i < length l
-live_inside [] i t = absurd (false≢true t)
-live_inside (b ∷ bs) zero t = omega arith
-live_inside (b ∷ bs) (suc i) t = let h = live_inside bs i t in omega arith
+use Rattle.word_rows.specs.Machine.{StepState, fault_of, is_live, view_at, can_clear, no_seat, row_open, bad_share, bad_word}
+use Rattle.word_rows.proofs.MachineLemmas.{passed, live_inside}
+use Rattle.word_rows.proofs.ViewLemmas.{idle_cleared}
+use Rattle.word_rows.proofs.RowLemmas.{row_long}
 
 -- the seat of an event that has no fault is one of those that were made
 pub inside : (s : StepState) (seat : ℕ) → length s.live ≡ length s.views → is_live s seat ≡ true → seat < length s.views
@@ -59,14 +52,6 @@ module _ (s : StepState) (seat : ℕ) where
       let p = or_parts (not (is_live s other)) (seat == other) b.0 in
       (not-false _ a.0, not-false _ p.0, eqb-false _ _ p.1)
 
--- an entry is left of the row that is cleared
-row_long : (row : List Entry) → is_row row ≡ true → 0 < length row
-row_long [] t = absurd (false≢true t)
-row_long (e ∷ es) t = omega arith
-
-idle_cleared : (v : View) → is_idle v ≡ true → v.cleared ≡ 0
-idle_cleared v t = eqb-true v.cleared 0 (and_parts (length v.row == 0) (v.cleared == 0) t).1
-
 pub some_left : SameRowIsOne → (v : View) (row : List Entry) → IsPartWay v → is_row row ≡ true → can_clear v row ≡ true → v.cleared < length row
 some_left one v row p r o =
     let long = row_long row r in
@@ -78,9 +63,3 @@ some_left one v row p r o =
     (λ (h : (0 < v.cleared) × (v.cleared < length v.row)). subst (λ (l : List Entry). v.cleared < length l) same h.1)
     p)
     (or_cases _ _ o)
-
--- an entry of the row names a word of the table
-pub entry_below : (width : ℕ) (row : List Entry) (i : ℕ) (d : Entry) → below width row ≡ true → i < length row → (get_or row i d).word < width
-entry_below width [] i d b h = absurd (omega arith)
-entry_below width (e ∷ es) zero d b h = ltb-true _ _ (and_parts (nat_lt e.word width) (below width es) b).0
-entry_below width (e ∷ es) (suc i) d b h = entry_below width es i d (and_parts (nat_lt e.word width) (below width es) b).1 (omega arith)

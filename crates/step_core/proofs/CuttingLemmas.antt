@@ -1,14 +1,11 @@
 -- Bytes that are cut at the first separator.
-use Rattle.std.proofs.Common.{◌≡◌, ℕ, ◌+◌, ◌-◌, ◌<◌, List, [], ◌∷◌, length, take, drop, Bool, true, false, Some, None, arith, refl, sym, ap, ◌∙◌}
+use Rattle.std.proofs.Common.{◌≡◌, ℕ, ◌+◌, ◌-◌, ◌<◌, List, [], ◌∷◌, length, take, drop, Bool, Some, None, arith, sym, ap, ◌∙◌}
 use Rattle.std.specs.List.{position_or_len, slice_split}
 use Rattle.std.proofs.lemmas.List.{take_rest}
 use Rattle.std.proofs.lemmas.List.Splits.{slice_split_first, slice_split_none}
 use Rattle.std.proofs.lemmas.List.Sums.{fails_before_first, position_or_len_is}
 use Rattle.memchr.specs.Find.{IsFirstByte}
-
-false_from_not : (b : Bool) → (b ≡ true → ⊥) → b ≡ false
-false_from_not true h = absurd (h refl)
-false_from_not false h = refl
+use Rattle.trace_types.proofs.TruthLemmas.{false_from_not}
 
 -- where the separator is, the first part ends
 pub cut_found : (separates : ℕ → Bool) (bytes : List ℕ) (i : ℕ) → IsFirstByte separates bytes (Some i) → slice_split separates bytes ≡ take i bytes ∷ slice_split separates (take (length bytes - (i + 1)) (drop (i + 1) bytes))

@@ -9,16 +9,13 @@ use Rattle.word_rows.specs.declared.replies.Reply.{Reply}
 use Rattle.word_rows.specs.declared.views.View.{View}
 use Rattle.word_rows.specs.Changes.{next_view, left_view, new_view, joined_view, empty_view}
 use Rattle.word_rows.specs.Keeping.{StepKeepsSound}
-use Rattle.word_rows.specs.Machine.{StepState, IsSoundState, Fault, no_seat, row_open, bad_share, bad_word, shares_out, HasRow, fault_of, reply_of, next_state, outcome, view_at, step, steps, after, opening_state}
+use Rattle.word_rows.specs.Machine.{StepState, IsSoundState, Fault, no_seat, row_open, bad_share, bad_word, shares_out, HasRow, fault_of, reply_of, next_state, outcome, view_at, step, after, opening_state}
+use Rattle.word_rows.proofs.HistoryLemmas.{steps_snoc}
 use Rattle.step_core.specs.declared.step_fault.StepFault.{StepFault}
 use Rattle.step_core.specs.StepFaults.{HasStepFault}
 use Rattle.step_core.specs.inner.Briefs.{brief_view, brief_state, Follows, IsSteady, AreBriefOf}
 use Rattle.step_core.specs.inner.Naming.{step_fault}
 use Rattle.step_core.proofs.BriefLemmas.{fault_brief, reply_brief, steady_brief}
-
-steps_more : (s : StepState) (es : List StepEvent) (e : StepEvent) → (steps s (es ++ e ∷ [])).0 ≡ (step (steps s es).0 e).0
-steps_more s [] e = refl
-steps_more s (x ∷ xs) e = steps_more (step s x).0 xs e
 
 -- a fault by its name in the program
 named : (s : StepState) (e : StepEvent) (fault : Fault) → fault_of s e ≡ Some fault → HasStepFault s e (step_fault fault)
@@ -66,7 +63,7 @@ module _ (width all : ℕ) (es : List StepEvent) (t : StepState) (k : AreBriefOf
     stepped = ap (outcome s e) (sym fault_is ∙ none_told (fault_of t e) q)
 
     after_step : (after width all more).0 ≡ (step s e).0
-    after_step = ap (λ (l : List StepEvent). (after width all l).0) is ∙ steps_more (opening_state width all) es e
+    after_step = ap (λ (l : List StepEvent). (after width all l).0) is ∙ steps_snoc (opening_state width all) es e
 
     next_is : (after width all more).0 ≡ next_state s e
     next_is = after_step ∙ ap (λ (p : StepState × Result Reply Fault). p.0) stepped

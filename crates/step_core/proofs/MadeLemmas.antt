@@ -11,8 +11,9 @@ use Rattle.word_rows.specs.Changes.{empty_view, next_view}
 use Rattle.word_rows.specs.Meeting.{SameRowIsOne}
 use Rattle.word_rows.specs.Sound.{IsPartWay}
 use Rattle.word_rows.specs.Machine.{StepState, fault_of, view_at, entry_at, can_clear}
+use Rattle.word_rows.proofs.RowLemmas.{entry_below}
 use Rattle.step_core.specs.inner.Briefs.{brief_view, Follows, IsSteady}
-use Rattle.step_core.proofs.AllowedLemmas.{inside, clear_allowed, split_allowed, join_allowed, some_left, entry_below}
+use Rattle.step_core.proofs.AllowedLemmas.{inside, clear_allowed, split_allowed, join_allowed, some_left}
 use Rattle.step_core.proofs.FollowLemmas.{clear_follows, split_follows, join_follows}
 
 abbrev pub blank : Entry

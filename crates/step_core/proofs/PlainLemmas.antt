@@ -1,5 +1,5 @@
 -- A number in plain digits is what is printed for it.
-use Rattle.std.proofs.Common.{◌≡◌, ◌↔◌, ℕ, ◌^◌, ◌<◌, List, length, get_or, Bool, true, false, not, ◌&&◌, Some, None, arith, refl, sym, ap, ◌∙◌, rules, subst, inl, inr}
+use Rattle.std.proofs.Common.{◌≡◌, ◌↔◌, ℕ, ◌^◌, ◌<◌, List, length, get_or, Bool, true, false, not, ◌&&◌, Some, None, arith, refl, sym, ap, ◌∙◌, subst, inl, inr}
 use Rattle.std.specs.Prelude.{decimal, nat_lt, ◌==◌}
 use Rattle.std.specs.List.{list_all}
 use Rattle.std.specs.Char.{is_ascii_digit}
@@ -7,14 +7,9 @@ use Rattle.std.specs.Str.Parse.{digits_value}
 use Rattle.std.proofs.lemmas.Bool.{cases_lt, eqb-true, lt-ltb, ltb-true}
 use Rattle.std.proofs.lemmas.Bool.Decides.{nat_tests}
 use Rattle.std.proofs.lemmas.Fmt.{decimal-digits_value, digits_decimal, digits_value-decimal, decimal_nonempty, first_decimal, decimal_digit}
-use Rattle.std.proofs.lemmas.Str.Parse.{IsNumeralModel, IsDigitsTest, numerals_by_value}
+use Rattle.trace_types.proofs.TruthLemmas.{and_false}
+use Rattle.trace_types.proofs.DecimalLemmas.{decimal_numerals}
 use Rattle.step_core.specs.Numbers.{has_leading_zero, is_plain, plain_number}
-
-tells : IsDigitsTest (λ ds. list_all is_ascii_digit ds ≡ true)
-tells = search rules
-
-own : IsNumeralModel (λ ds. list_all is_ascii_digit ds ≡ true) (digits_value 10)
-own = numerals_by_value _ tells
 
 parts : (a b c : Bool) → (a && b && c) ≡ true → (a ≡ true) × (b ≡ true) × (c ≡ true)
 parts true true true h = (refl, refl, refl)
@@ -33,11 +28,7 @@ printed : (word : List ℕ) → is_plain word ≡ true → digits_value 10 word 
 printed word h lt =
     let p = parts (not (length word == 0)) (not (has_leading_zero word)) (list_all is_ascii_digit word) h in
     let pos : 0 < length word = some_byte (length word) p.0 in
-    decimal-digits_value own word p.2 pos (λ zero. no_leading_zero (length word) (get_or word 0 0) p.1 pos zero) (omega (arith, lt))
-
-and_false : (a : Bool) → (a && false) ≡ false
-and_false true = refl
-and_false false = refl
+    decimal-digits_value decimal_numerals word p.2 pos (λ zero. no_leading_zero (length word) (get_or word 0 0) p.1 pos zero) (omega (arith, lt))
 
 joined : (a b c : Bool) → a ≡ true → b ≡ true → c ≡ true → (a && b && c) ≡ true
 joined a b c e f g = rw (e, f, g) refl
@@ -61,7 +52,7 @@ first_plain n lt e = elim (cases_lt 0 n) [
 -- what is printed for a number is plain digits
 plain : (n : ℕ) → n < 2 ^ 32 → is_plain (decimal n) ≡ true
 plain n lt =
-    joined _ _ _ (not_zero_byte (length (decimal n)) (decimal_nonempty n (omega (arith, lt)))) (starts_plain (length (decimal n)) (get_or (decimal n) 0 0) (first_plain n lt)) (digits_decimal own n (omega (arith, lt)))
+    joined _ _ _ (not_zero_byte (length (decimal n)) (decimal_nonempty n (omega (arith, lt)))) (starts_plain (length (decimal n)) (get_or (decimal n) 0 0) (first_plain n lt)) (digits_decimal decimal_numerals n (omega (arith, lt)))
 
 of_word : (n : ℕ) (word : List ℕ) (a b : Bool) → is_plain word ≡ a → nat_lt (digits_value 10 word) (2 ^ 32) ≡ b → plain_number word ≡ Some n → decimal n ≡ word
 of_word n word true true e f h =
@@ -71,9 +62,9 @@ of_word n word true true e f h =
 of_word n word true false e f h = let k : None ≡ Some n = rw (e, f) at h in cc
 of_word n word false b e f h = let k : None ≡ Some n = rw e at h in cc
 
-of_number : (n : ℕ) → n < 2 ^ 32 → plain_number (decimal n) ≡ Some n
+pub of_number : (n : ℕ) → n < 2 ^ 32 → plain_number (decimal n) ≡ Some n
 of_number n lt =
-    let v : digits_value 10 (decimal n) ≡ n = digits_value-decimal own n (omega (arith, lt)) in
+    let v : digits_value 10 (decimal n) ≡ n = digits_value-decimal decimal_numerals n (omega (arith, lt)) in
     let p : is_plain (decimal n) ≡ true = plain n lt in
     let b : nat_lt (digits_value 10 (decimal n)) (2 ^ 32) ≡ true = lt-ltb (digits_value 10 (decimal n)) (2 ^ 32) (omega (arith, v, lt)) in
     rw (p, b) (ap Some v)

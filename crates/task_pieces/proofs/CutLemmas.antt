@@ -10,7 +10,7 @@ use Rattle.task_pieces.specs.PieceNames.{cut_length, is_inner_byte}
 inner_bounds : (b : ℕ) → is_inner_byte b ≡ true → (128 ≤ b) × (b ≤ 191)
 inner_bounds b h = let p = and_parts (nat_le 128 b) (nat_le b 191) h in (leb-true 128 b p.0, leb-true b 191 p.1)
 
-first_bounds : (b : ℕ) → is_inner_byte b ≡ false → 128 ≤ b → 192 ≤ b
+pub first_bounds : (b : ℕ) → is_inner_byte b ≡ false → 128 ≤ b → 192 ≤ b
 first_bounds b h low = by (and_cases (nat_le 128 b) (nat_le b 191) h)
   where
     by : (nat_le 128 b ≡ false) ⊎ (nat_le b 191 ≡ false) → 192 ≤ b

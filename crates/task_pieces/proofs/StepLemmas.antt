@@ -4,6 +4,7 @@ use Rattle.std.specs.List.{AllByRecursion, count_by, list_any}
 use Rattle.std.proofs.lemmas.Bool.{and_left, and_right}
 use Rattle.std.proofs.lemmas.Bool.Decides.{nat_tests}
 use Rattle.std.proofs.lemmas.List.Sums.{sum_by-append, sum_by-cons}
+use Rattle.trace_types.proofs.TruthLemmas.{or_true}
 use Rattle.task_pieces.specs.TaskEvents.{TaskEvent, is_before}
 use Rattle.task_pieces.specs.Pieces.{ends_wait, is_right_before, piece_of}
 
@@ -37,10 +38,6 @@ any_none p (x ∷ xs) h =
     let first = h.0 in
     let rest = any_none p xs h.1 in
     λ i. first i || rest i
-
-or_true : (b : Bool) → (b || true) ≡ true
-or_true true = refl
-or_true false = refl
 
 -- an element that passes
 any_there : {X : Type 0} (p : X → Bool) (front : List X) (x : X) (rest : List X) → p x ≡ true → list_any p (front ++ x ∷ rest) ≡ true

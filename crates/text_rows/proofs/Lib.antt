@@ -1,2 +1,2 @@
-mod PartLemmas
-mod PrintLemmas
+pub mod PartLemmas
+pub mod PrintLemmas

@@ -4,10 +4,11 @@ use Rattle.std.proofs.lemmas.List.{append-nil, map-append, take_all, take_more, 
 use Rattle.std.specs.Prelude.{Result, Ok, Err}
 use Rattle.std.specs.Io.KnownBytes.{append_known}
 use Rattle.mystery_io.specs.Prefixes.{AppendsPrefix}
+use Rattle.mystery_io.proofs.KnownLemmas.{append_nothing}
 use Rattle.text_rows.specs.Printing.{Prints, PrintsText, print_faults}
 use Rattle.text_rows.specs.TextsOfParts.{AreTexts, PrintsParts, PrintsPrefix, PrintsTexts}
 use Rattle.text_rows.specs.declared.print_fault.PrintFault.{PrintFault}
-use Rattle.text_rows.proofs.PrintLemmas.{append_nothing, prints_more, prints_nothing, prefix_after, prefix_flushed, flushed_all}
+use Rattle.text_rows.proofs.PrintLemmas.{prints_more, prints_nothing, prefix_after, prefix_flushed, flushed_all}
 
 -- a text of some parts and one of others are one of both
 pub texts_more : {X : Type 0} (R : X → List ℕ → Type 0) (ps qs : List X) (a b : List ℕ) → AreTexts R ps a → AreTexts R qs b → AreTexts R (ps ++ qs) (a ++ b)

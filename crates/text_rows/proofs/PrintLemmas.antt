@@ -1,5 +1,5 @@
 -- Printing one text after another.
-use Rattle.std.proofs.Common.{◌≡◌, ℕ, ◌+◌, ◌-◌, ◌≤◌, ◌<◌, min, List, [], ◌∷◌, ◌++◌, length, take, drop, get_or, map, Option, Some, None, arith, refl, sym, ◌∙◌, ap, append_assoc}
+use Rattle.std.proofs.Common.{◌≡◌, ℕ, ◌+◌, ◌-◌, ◌≤◌, ◌<◌, min, List, [], ◌∷◌, ◌++◌, length, take, drop, get_or, map, Option, arith, sym, ◌∙◌, ap, append_assoc}
 use Rattle.std.proofs.Math.Seq.{take-add}
 use Rattle.std.proofs.lemmas.List.{append-nil, length-append, take_all, take-append-le, drop-append-le, drop-drop, length-drop, take_min, drop_all}
 use Rattle.std.specs.Prelude.{Result, Ok, Err}
@@ -8,18 +8,11 @@ use Rattle.std.specs.Io.KnownBytes.{append_known}
 use Rattle.mystery_io.specs.Prefixes.{AppendsPrefix}
 use Rattle.std.proofs.lemmas.List.{flat_map_more, take_more, drop_more, take-append-drop}
 use Rattle.std.proofs.lemmas.Grind.{flat_map-append}
+use Rattle.mystery_io.proofs.KnownLemmas.{known_append_twice, append_nothing}
 use Rattle.text_rows.specs.Fields.{field_text}
 use Rattle.text_rows.specs.Printing.{Prints, PrintsText, print_faults}
 use Rattle.text_rows.specs.declared.print_fault.PrintFault.{PrintFault}
 use Rattle.text_rows.specs.declared.field.Field.{Field}
-
-append_twice : (w : Option (List ℕ)) (a b : List ℕ) → append_known (append_known w a) b ≡ append_known w (a ++ b)
-append_twice None a b = refl
-append_twice (Some xs) a b = ap Some (append_assoc xs a b)
-
-pub append_nothing : (w : Option (List ℕ)) → append_known w [] ≡ w
-append_nothing None = refl
-append_nothing (Some xs) = ap Some (append-nil xs)
 
 -- the first c bytes of xs, and then the first d of what is left and of t
 taken : (c d : ℕ) (xs t : List ℕ) → c ≤ length xs → take c xs ++ take d (drop c xs ++ t) ≡ take (c + d) (xs ++ t)
@@ -33,7 +26,7 @@ written_more : (before mid now : Option (List ℕ)) (waited between a b : List �
     → now ≡ append_known before (take (c + d) ((waited ++ a) ++ b))
 written_more before mid now waited between a b c d le e m n =
     n ∙ ap (λ t. append_known mid (take d (t ++ b))) e ∙ ap (λ w. append_known w (take d (drop c (waited ++ a) ++ b))) m
-    ∙ append_twice before (take c (waited ++ a)) (take d (drop c (waited ++ a) ++ b)) ∙ ap (append_known before) (taken c d (waited ++ a) b le)
+    ∙ known_append_twice before (take c (waited ++ a)) (take d (drop c (waited ++ a) ++ b)) ∙ ap (append_known before) (taken c d (waited ++ a) b le)
 
 -- a text and then another are printed as both
 pub prints_more : (before mid now : Option (List ℕ)) (waited between waits a b : List ℕ) → Prints before mid waited between a → Prints mid now between waits b → Prints before now waited waits (a ++ b)
@@ -129,7 +122,7 @@ prefix_flushed before mid now between a p f = rw (← append-nil a) (prefix_afte
 
 -- what the buffer holds after a text was printed, and what was written, are the whole text
 whole : (c : ℕ) (before : Option (List ℕ)) (a : List ℕ) → append_known (append_known before (take c a)) (drop c a) ≡ append_known before a
-whole c before a = append_twice before (take c a) (drop c a) ∙ ap (append_known before) (take-append-drop c a)
+whole c before a = known_append_twice before (take c a) (drop c a) ∙ ap (append_known before) (take-append-drop c a)
 
 -- a text that was printed and flushed was written
 pub flushed_all : (before mid now : Option (List ℕ)) (between a : List ℕ) → Prints before mid [] between a → now ≡ append_known mid between → now ≡ append_known before a

@@ -1,17 +1,13 @@
 -- The vertices, weights and lists of successors make the graph of the trace.
-use Rattle.std.proofs.Common.{◌≡◌, ◌≢◌, ◌⊎◌, ℕ, ◌<◌, ◌≤◌, ◌^◌, ℤ, pos, negsuc, ◌+ℤ◌, ◌-ℤ◌, ◌<ℤ◌, ◌≤ℤ◌, List, [], map, length, get_or, slice_get, Some, unwrap_or, Contains, All, AllPairs, arith, refl, sym, ap, ◌∙◌, subst, ⊎_elim, inl, inr}
+use Rattle.std.proofs.Common.{◌≡◌, ◌≢◌, ℕ, ◌<◌, ◌≤◌, ◌^◌, ℤ, pos, negsuc, ◌+ℤ◌, ◌-ℤ◌, ◌<ℤ◌, ◌≤ℤ◌, List, [], map, length, get_or, slice_get, Some, unwrap_or, Contains, All, arith, refl, sym, ap, ◌∙◌, subst, ⊎_elim, inl, inr}
 use Rattle.std.specs.Prelude.{unsigned_abs}
 use Rattle.std.specs.Option.{option_map}
 use Rattle.std.specs.List.Sorted.{IsStrictlyIncreasing}
-use Rattle.std.proofs.lemmas.Bool.{cases_lt, eqb-true}
-use Rattle.std.proofs.lemmas.Bool.Decides.{Decides-eqb}
+use Rattle.std.proofs.lemmas.Bool.{cases_lt}
 use Rattle.std.proofs.lemmas.Int.{ints}
 use Rattle.std.proofs.lemmas.List.{get_or_default, get_or-map, get_or_past, length-map}
 use Rattle.std.proofs.lemmas.List.Elements.{All-from_get_or}
-use Rattle.std.proofs.lemmas.Map.Steps.{length-le_from_distinct_below}
-use Rattle.std.proofs.lemmas.Map.Made.{IsDistinct-from_AllPairs}
-use Rattle.std.proofs.lemmas.Map.Views.{Contains-from_any}
-use Rattle.std.proofs.lemmas.Option.{slice_get_cases, slice_get_within, get_or_from_slice_get}
+use Rattle.std.proofs.lemmas.Option.{slice_get_within, get_or_from_slice_get}
 use Rattle.trace_types.specs.declared.named_segment.NamedSegment.{NamedSegment}
 use Rattle.trace_types.specs.declared.named_trace.NamedTrace.{NamedTrace}
 use Rattle.trace_types.specs.NamedSegments.{number_of_name}
@@ -22,54 +18,10 @@ use Rattle.model_meet.specs.RelationBits.{KeepsExclusion}
 use Rattle.weighted_dag.specs.Graphs.{Graph, IsEdge, IsGraph, weight_of}
 use Rattle.trace_rules.specs.VertexOrder.{IsEarlier, IsVertexOrder}
 use Rattle.trace_rules.specs.TraceGraphs.{HasVertices, IsDependencyBy, IsGraphBy}
+use Rattle.trace_types.proofs.ComparingLemmas.{time_asym}
+use Rattle.trace_types.proofs.FewSegmentLemmas.{few_names}
 use Rattle.trace_graph.specs.inner.Keys.{AreKeys, IsKeyBefore, Key, duration_of, index_in, key_at, name_in, no_key}
 use Rattle.trace_graph.specs.inner.Successors.{AreKnown, AreLists, name_at}
-
--- within a list there is an element
-at_index : {X : Type 0} (xs : List X) (i : ℕ) → i < length xs → (x : X) × (slice_get xs i ≡ Some x)
-at_index xs i lt = ⊎_elim
-    (λ (x, within, got, read). (x, got))
-    (λ (past, none). absurd (omega arith))
-    (slice_get_cases xs i).1
-
--- an element of a list that is mapped
-mapped_at : {X : Type 0} (f : X → ℕ) (xs : List X) (i d : ℕ) (x : X) → slice_get xs i ≡ Some x → get_or (map f xs) i d ≡ f x
-mapped_at f xs i d x got = get_or-map f xs i x d (slice_get_within xs i x got) ∙ ap f (get_or_from_slice_get xs i x x got)
-
--- segments with different names below a number are no more than that
-pub few_names : (n : ℕ) (segments : List NamedSegment) → NamesDiffer number_of_name segments → All (λ (s : NamedSegment). s.name < n) segments → length segments ≤ n
-few_names n segments differ below = subst (λ (k : ℕ). k ≤ n) same_length
-    (length-le_from_distinct_below names n (IsDistinct-from_AllPairs Decides-eqb names apart) (λ q found. under q (Contains-from_any (λ x y. eqb-true x y) q names found)))
-  where
-    names : List ℕ
-    names = map number_of_name segments
-
-    same_length : length names ≡ length segments
-    same_length = length-map segments number_of_name
-
-    apart : AllPairs (λ a b. a ≢ b) names
-    apart i j d lt within same =
-        let before : j < length segments = omega (arith, same_length) in
-        let (s, is) = at_index segments i (omega arith) in
-        let (t, ts) = at_index segments j before in
-        differ i j s lt before (
-        ap number_of_name (get_or_from_slice_get segments i s s is)
-        ∙ (sym (mapped_at number_of_name segments i d s is) ∙ (same ∙ (mapped_at number_of_name segments j d t ts
-        ∙ sym (ap number_of_name (get_or_from_slice_get segments j t s ts))))))
-
-    under : (q : ℕ) → Contains names q → q < n
-    under q (k, lt, is) =
-        let (s, got) = at_index segments k (omega (arith, same_length)) in
-        let name : s.name ≡ q = sym (mapped_at number_of_name segments k q s got) ∙ is in
-        let small : s.name < n = subst (λ (x : NamedSegment). x.name < n) (get_or_from_slice_get segments k s s got) (below k s (omega (arith, same_length))) in
-        omega arith
-
--- one key is not before itself, nor before and after another
-time_asym : (x y : ℤ) (i j : ℕ) → ((x <ℤ y) ⊎ ((x ≡ y) × (i < j))) → ((y <ℤ x) ⊎ ((y ≡ x) × (j < i))) → ⊥
-time_asym x y i j (inl a) (inl b) = omega (arith, ints)
-time_asym x y i j (inl a) (inr b) = let e : y ≡ x = b.0 in omega (arith, ints)
-time_asym x y i j (inr a) (inl b) = let e : x ≡ y = a.0 in omega (arith, ints)
-time_asym x y i j (inr a) (inr b) = let l : i < j = a.1 in let r : j < i = b.1 in omega arith
 
 pub earlier_asym : (s t : NamedSegment) (i j : ℕ) → IsEarlier by_number s i t j → IsEarlier by_number t j s i → ⊥
 earlier_asym s t i j (inl a) (inl b) = omega (arith, ints)

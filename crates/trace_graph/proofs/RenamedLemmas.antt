@@ -1,5 +1,5 @@
 -- A graph of a trace is one of the renamed trace.
-use Rattle.std.proofs.Common.{◌≡◌, ℕ, ◌<◌, ℤ, pos, ◌+ℤ◌, ◌<ℤ◌, List, length, get_or, slice_get, Option, Some, None, MatchOption, refl, sym, ap, ◌∙◌, subst, inl, inr, arith}
+use Rattle.std.proofs.Common.{◌≡◌, ℕ, ◌<◌, ℤ, pos, ◌+ℤ◌, ◌<ℤ◌, List, length, get_or, slice_get, Option, Some, MatchOption, sym, ap, ◌∙◌, subst, inl, inr, arith}
 use Rattle.std.specs.List.{AllZip}
 use Rattle.std.specs.Option.{IsSomeAnd}
 use Rattle.std.proofs.lemmas.Slice.Zip.{AllZip-left, AllZip-long, AllZip-right}
@@ -10,6 +10,7 @@ use Rattle.trace_types.specs.Surviving.{Survives}
 use Rattle.weighted_dag.specs.Graphs.{Graph, weight_of}
 use Rattle.trace_rules.specs.VertexOrder.{ComesBefore, IsEarlier, IsVertexOrder}
 use Rattle.trace_rules.specs.TraceGraphs.{IsDependency, IsTraceGraph}
+use Rattle.trace_types.proofs.MatchLemmas.{some_and}
 
 -- what matches the element at an index stands at that index
 right_of : {X Y : Type 0} (R : X → Y → Type 0) (xs : List X) (ys : List Y) → AllZip R xs ys → (k : ℕ) (x : X) → slice_get xs k ≡ Some x → IsSomeAnd (slice_get ys k) (R x)
@@ -17,10 +18,6 @@ right_of {X} R xs ys z k x e = subst (λ (o : Option X). MatchOption o (Unit {0}
 
 left_of : {X Y : Type 0} (R : X → Y → Type 0) (xs : List X) (ys : List Y) → AllZip R xs ys → (k : ℕ) (y : Y) → slice_get ys k ≡ Some y → IsSomeAnd (slice_get xs k) (λ x. R x y)
 left_of {X} {Y} R xs ys z k y e = subst (λ (o : Option Y). MatchOption o (Unit {0}) (λ v. IsSomeAnd (slice_get xs k) (λ x. R x v))) e (AllZip-right R xs ys z k)
-
-some_and : {Y : Type 0} (o : Option Y) (P : Y → Type 0) → IsSomeAnd o P → (y : Y) × (o ≡ Some y) × P y
-some_and None P h = absurd h
-some_and (Some y) P h = (y, refl, h)
 
 module _ {A S N T E B X M U F : Type 0} (p : Parts A S N T E) (q : Parts B X M U F) (names : List (N × M)) (tasks : List (T × U)) (traces : List A) (others : List B) (trace : A) (other : B) (alike : Agree names (λ a b. Survives (RefutesExclusive p a b) traces) (λ c d. Survives (RefutesExclusive q c d) others)) (renamed : IsTraceRenamed p q names tasks trace other) where
   abbrev pub Same : S → X → Type 0

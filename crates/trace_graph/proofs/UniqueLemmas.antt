@@ -1,5 +1,5 @@
 -- A trace has one graph: its lists are told in one way.
-use Rattle.std.proofs.Common.{◌≡◌, ◌⊎◌, ◌↔◌, ℕ, ◌<◌, ℤ, pos, ◌+ℤ◌, ◌<ℤ◌, List, [], length, get_or, slice_get, Some, unwrap_or, Contains, AllPairs, arith, refl, sym, ap, ◌∙◌, subst, ⊎_elim, inl, inr, Ordering, nat_cmp}
+use Rattle.std.proofs.Common.{◌≡◌, ◌⊎◌, ◌↔◌, ℕ, ◌<◌, ℤ, pos, ◌+ℤ◌, ◌<ℤ◌, List, [], length, get_or, slice_get, Some, unwrap_or, Contains, AllPairs, arith, refl, sym, ap, ◌∙◌, subst, inl, inr, Ordering, nat_cmp}
 use Rattle.std.specs.Option.{option_map}
 use Rattle.std.specs.Cmp.{IsTotalOrder}
 use Rattle.std.specs.Ordering.{int_cmp, ordering_then, MatchOrdering}
@@ -9,29 +9,20 @@ use Rattle.std.proofs.lemmas.Cmp.{nat_cmp_total, int_cmp_total, then_total, on_t
 use Rattle.std.proofs.lemmas.Int.{ints}
 use Rattle.std.proofs.lemmas.List.{ext_get_or, get_or_default}
 use Rattle.std.proofs.lemmas.List.Kept.{AllPairs-from_increasing}
-use Rattle.std.proofs.lemmas.Option.{slice_get-get_or, slice_get_cases}
+use Rattle.std.proofs.lemmas.Option.{slice_get-get_or}
 use Rattle.trace_types.specs.Parts.{Parts}
 use Rattle.weighted_dag.specs.Graphs.{Graph, IsEdge, IsGraph, successors_of, weight_of}
 use Rattle.trace_rules.specs.VertexOrder.{ComesBefore, IsEarlier, IsVertexOrder}
 use Rattle.trace_rules.specs.TraceGraphs.{IsTraceGraph}
-
-slice_get_some : {X : Type 0} (xs : List X) (k : ℕ) → k < length xs → (x : X) × (slice_get xs k ≡ Some x)
-slice_get_some xs k lt = ⊎_elim (λ (x, within, got, read). (x, got)) (λ (past, none). absurd (omega arith)) (slice_get_cases xs k).1
+use Rattle.trace_types.proofs.ComparingLemmas.{less_to}
+use Rattle.trace_types.proofs.ElementLemmas.{at_index}
 
 -- lists of numbers in one strict order with the same members are one list
 abbrev pub OneRisingList : Type 0
 OneRisingList = (cmp : ℕ → ℕ → Ordering) → IsTotalOrder cmp → (xs ys : List ℕ) → AllPairs (λ x y. cmp x y ≡ Less) xs → AllPairs (λ x y. cmp x y ≡ Less) ys → ((x : ℕ) → Contains xs x ↔ Contains ys x) → xs ≡ ys
 
-nat_less : (x y : ℕ) → x < y → nat_cmp x y ≡ Less
-nat_less x y lt = go (nat_cmp x y) (ranked x y (nat_cmp x y) refl)
-  where
-    go : (o : Ordering) → MatchOrdering o (x < y) (x ≡ y) (y < x) → o ≡ Less
-    go Less m = refl
-    go Equal m = let e : x ≡ y = m in absurd (omega arith)
-    go Greater m = let g : y < x = m in absurd (omega arith)
-
 rising_less : (xs : List ℕ) → IsStrictlyIncreasing xs → AllPairs (λ x y. nat_cmp x y ≡ Less) xs
-rising_less xs rises i j d lt within = nat_less (get_or xs i d) (get_or xs j d) (AllPairs-from_increasing xs rises i j d lt within)
+rising_less xs rises i j d lt within = less_to (get_or xs i d) (get_or xs j d) (AllPairs-from_increasing xs rises i j d lt within)
 
 module _ {A S N T E : Type 0} (p : Parts A S N T E) (trace : A) where
   abbrev pub start_at : ℕ → ℤ
@@ -108,7 +99,7 @@ module _ {A S N T E : Type 0} (p : Parts A S N T E) (trace : A) where
     same_weight : (v : ℕ) → v < length order → weight_of g v ≡ weight_of h v
     same_weight v lt =
         let inside : get_or order v 0 < length (p.segments trace) = (a.has.vertices.all (get_or order v 0)).0 (v, lt, get_or_default order v (get_or order v 0) 0 lt) in
-        let (s, got) = slice_get_some (p.segments trace) (get_or order v 0) inside in
+        let (s, got) = at_index (p.segments trace) (get_or order v 0) inside in
         cancelled (p.start s) (p.end s) (weight_of g v) (weight_of h v) (a.has.weights v (get_or order v 0) s (index_at v lt) got) (b.has.weights v (get_or order v 0) s (index_at v lt) got)
 
 pub one_graph : {A S N T E : Type 0} (p : Parts A S N T E) → OneRisingList → (traces : List A) (trace : A) (order other : List ℕ) (g h : Graph) → IsGraph g → IsGraph h → IsTraceGraph p traces trace order g → IsTraceGraph p traces trace other h → (order ≡ other) × (g ≡ h)

@@ -1,5 +1,5 @@
 -- Two blocks of workers as one.
-use Rattle.std.proofs.Common.{◌≡◌, ℕ, ◌+◌, ◌/◌, ◌<◌, List, [], ◌∷◌, ◌++◌, length, sym, ap, ap₂, ◌∙◌, subst, append_assoc, arith}
+use Rattle.std.proofs.Common.{◌≡◌, ℕ, ◌+◌, ◌/◌, ◌<◌, List, ◌++◌, length, sym, ap, ap₂, ◌∙◌, subst, append_assoc, arith}
 use Rattle.std.proofs.lemmas.List.{take-append-drop}
 use Rattle.std.proofs.lemmas.List.Concat.{flat_map-append}
 use Rattle.std.specs.List.{flat_map}
@@ -9,15 +9,12 @@ use Rattle.word_rows.specs.Changes.{readings_from}
 use Rattle.word_rows.specs.declared.events.StepEvent.{StepEvent}
 use Rattle.word_rule.specs.Histories.{ArePrefixes}
 use Rattle.trace_rules.specs.Halving.{first_part, shares_of}
+use Rattle.word_rule.proofs.PastLemmas.{of_left}
 use Rattle.trace_pass.specs.States.{HasStopped, RecorderState, RecordingState, both_recordings}
 use Rattle.trace_rules.specs.declared.watch_line.WatchLine.{WatchLine}
 use Rattle.trace_pass.specs.inner.Working.{AreHalves, AreLines, HasWorked}
 use Rattle.trace_pass.proofs.HalvingLemmas.{length_shares, shares_split}
 use Rattle.trace_pass.proofs.WatchLemmas.{lines_both}
-
-of_first : (ps qs : List (List StepEvent)) (history : List StepEvent) → ArePrefixes (ps ++ qs) history → ArePrefixes ps history
-of_first [] qs history h = tt
-of_first (p ∷ ps) qs history h = (h.0, of_first ps qs history h.1)
 
 module _ (recorder : RecorderState) (every worker : ℕ) (old : RecordingState) (traces : List NamedTrace) (first : RecordingState) (firsts : List NamedTrace) (other : RecordingState) (rest : List NamedTrace)
     (several : 1 < old.pass.view.shares) (halves : AreHalves recorder worker old traces first firsts other rest) where
@@ -40,7 +37,7 @@ module _ (recorder : RecorderState) (every worker : ℕ) (old : RecordingState) 
     recorded =
         ap₂ (λ (xs ys : List NamedTrace). xs ++ ys) (a.recorded ∙ ap (λ (xs : List NamedTrace). xs ++ firsts) halves.first_traces) (b.recorded ∙ ap (λ (xs : List NamedTrace). xs ++ rest) halves.other_traces)
         ∙ append_assoc old.traces firsts rest ∙ ap (λ (xs : List NamedTrace). old.traces ++ xs) whole;
-    more = λ history begins. subst (λ (ps : List (List StepEvent)). ArePrefixes ps history) halves.first_pasts (a.more history (of_first one.pass.pasts two.pass.pasts history begins));
+    more = λ history begins. subst (λ (ps : List (List StepEvent)). ArePrefixes ps history) halves.first_pasts (a.more history (of_left one.pass.pasts two.pass.pasts history begins));
     watched = record {
       blocks = a.watched.blocks ++ b.watched.blocks;
       readings =

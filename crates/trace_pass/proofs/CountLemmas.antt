@@ -9,6 +9,7 @@ use Rattle.std.specs.Int.{bit_at, bit_not, count_zeros, w64}
 use Rattle.std.specs.Int.RustNames.{count_ones}
 use Rattle.std.specs.List.{All, AllPairs}
 use Rattle.word_rows.specs.Words.{AreWords, bit_of}
+use Rattle.trace_types.proofs.TruthLemmas.{and_false}
 use Rattle.trace_pass.specs.Counts.{zeros}
 
 abbrev one_if : Bool → ℕ
@@ -62,15 +63,11 @@ and-true : (b : Bool) → (b && true) ≡ b
 and-true true = refl
 and-true false = refl
 
-and-false : (b : Bool) → (b && false) ≡ false
-and-false true = refl
-and-false false = refl
-
 without_same : (p : ℕ → Bool) (k m : ℕ) → (m ≡ k → ⊥) → without p k m ≡ p m
 without_same p k m ne = ap (λ (b : Bool). p m && not b) (ne_eqb m k ne) ∙ and-true (p m)
 
 without_here : (p : ℕ → Bool) (k m : ℕ) → m ≡ k → without p k m ≡ false
-without_here p k m e = ap (λ (b : Bool). p m && not b) (eq-eqb m k e) ∙ and-false (p m)
+without_here p k m e = ap (λ (b : Bool). p m && not b) (eq-eqb m k e) ∙ and_false (p m)
 
 count_without : (p : ℕ → Bool) (n k : ℕ) → k < n → p k ≡ true → count_below p n ≡ suc (count_below (without p k) n)
 count_without p zero k l h = absurd (omega arith)

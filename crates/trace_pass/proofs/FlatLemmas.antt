@@ -7,6 +7,9 @@ use Rattle.std.proofs.lemmas.List.Kept.{AllPairs-cons}
 use Rattle.std.specs.List.{All, AllPairs}
 use Rattle.trace_types.specs.declared.named_trace.NamedTrace.{NamedTrace}
 use Rattle.word_rows.specs.Words.{AreWords}
+use Rattle.trace_types.proofs.ListingLemmas.{pairs_tail}
+use Rattle.trace_types.proofs.ElementLemmas.{All-weaker}
+use Rattle.trace_types.proofs.PairLemmas.{AllPairs-nil}
 use Rattle.trace_pass.specs.Counts.{IsAtLeastRefutedCount, zeros}
 use Rattle.trace_rules.specs.Halving.{share_at}
 use Rattle.trace_pass.specs.States.{RecordingState}
@@ -30,9 +33,6 @@ Rises k l = k.worker ≡ l.worker → k.refuted ≤ l.refuted
 abbrev IsLeast : List (List NamedTrace) → WatchLine → Type 0
 IsLeast shares l = IsAtLeastRefutedCount (take l.done (share_at shares l.worker)) l.refuted
 
-pairs_tail : {X : Type 0} (R : X → X → Type 0) (x : X) (xs : List X) → AllPairs R (x ∷ xs) → AllPairs R xs
-pairs_tail R x xs h i j d l m = h (suc i) (suc j) d (omega arith) (omega arith)
-
 pairs_head : {X : Type 0} (R : X → X → Type 0) (x : X) (xs : List X) → AllPairs R (x ∷ xs) → All (R x) xs
 pairs_head R x xs h k d l = h 0 (suc k) d (omega arith) (omega arith)
 
@@ -45,18 +45,12 @@ all_head F x xs h = h 0 x (omega arith)
 all_none : {X : Type 0} (F : X → Type 0) → All F []
 all_none F k d l = absurd (omega arith)
 
-pairs_none : {X : Type 0} (R : X → X → Type 0) → AllPairs R []
-pairs_none R i j d l m = absurd (omega arith)
-
 pairs_both : {X : Type 0} (R : X → X → Type 0) (F G : X → Type 0) → ((x y : X) → F x → G y → R x y) → (xs ys : List X) → All F xs → All G ys → AllPairs R xs → AllPairs R ys → AllPairs R (xs ++ ys)
 pairs_both R F G cross [] ys f g a b = b
 pairs_both R F G cross (x ∷ xs) ys f g a b =
     AllPairs-cons R x (xs ++ ys)
     (All-append (R x) xs ys (pairs_head R x xs a) (λ k d l. cross x (get_or ys k d) (all_head F x xs f) (g k d l)))
     (pairs_both R F G cross xs ys (all_tail F x xs f) g (pairs_tail R x xs a) b)
-
-all_weaker : {X : Type 0} (F G : X → Type 0) → ((x : X) → F x → G x) → (xs : List X) → All F xs → All G xs
-all_weaker F G w xs f k d l = w (get_or xs k d) (f k d l)
 
 -- ---- facts on the lines of workers from one on
 
@@ -87,11 +81,11 @@ module _ (every width : ℕ) where
   flat_from worker [] lines blocks a = subst (All (λ (l : WatchLine). worker ≤ l.worker)) (sym a.0) (all_none (λ (l : WatchLine). worker ≤ l.worker))
   flat_from worker (share ∷ shares) lines blocks a = subst (All (λ (l : WatchLine). worker ≤ l.worker)) (sym a.4)
       (All-append (λ (l : WatchLine). worker ≤ l.worker) a.0 a.1
-      (all_weaker (λ (l : WatchLine). l.worker ≡ worker) (λ (l : WatchLine). worker ≤ l.worker) (λ l e. omega arith) a.0 a.6.of_worker)
-      (all_weaker (λ (l : WatchLine). worker + 1 ≤ l.worker) (λ (l : WatchLine). worker ≤ l.worker) (λ l e. omega arith) a.1 (flat_from (worker + 1) shares a.1 a.3 a.7)))
+      (All-weaker (λ (l : WatchLine). l.worker ≡ worker) (λ (l : WatchLine). worker ≤ l.worker) (λ l e. omega arith) a.0 a.6.of_worker)
+      (All-weaker (λ (l : WatchLine). worker + 1 ≤ l.worker) (λ (l : WatchLine). worker ≤ l.worker) (λ l e. omega arith) a.1 (flat_from (worker + 1) shares a.1 a.3 a.7)))
 
   flat_rising : (worker : ℕ) (shares : List (List NamedTrace)) (lines : List WatchLine) (blocks : List (List ℕ)) → AreLines every width worker shares lines blocks → AllPairs Rises lines
-  flat_rising worker [] lines blocks a = subst (AllPairs Rises) (sym a.0) (pairs_none Rises)
+  flat_rising worker [] lines blocks a = subst (AllPairs Rises) (sym a.0) (AllPairs-nil Rises)
   flat_rising worker (share ∷ shares) lines blocks a = subst (AllPairs Rises) (sym a.4)
       (pairs_both Rises (λ (l : WatchLine). l.worker ≡ worker) (λ (l : WatchLine). worker + 1 ≤ l.worker) (λ k l e f g. absurd (omega arith)) a.0 a.1
       a.6.of_worker (flat_from (worker + 1) shares a.1 a.3 a.7) (λ i j d l m _. a.6.rising i j d l m) (flat_rising (worker + 1) shares a.1 a.3 a.7))

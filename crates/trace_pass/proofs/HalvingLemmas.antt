@@ -1,11 +1,12 @@
 -- Halving gives each worker one share, and the shares in order are the traces.
 use Rattle.std.proofs.Common.{◌≡◌, ℕ, zero, suc, ◌-◌, ◌*◌, ◌/◌, ◌<◌, ◌≤◌, Bool, true, false, List, [], ◌∷◌, ◌++◌, length, length-append, take, drop, refl, sym, ap, ap₂, ◌∙◌, ⊎_elim, arith}
 use Rattle.std.proofs.Math.Nat.{div-le_of_le-mul, mul-le-mul_left}
-use Rattle.std.proofs.lemmas.Bool.{le-ltb, lt-ltb, cases_order}
+use Rattle.std.proofs.lemmas.Bool.{le-ltb, cases_order}
 use Rattle.std.proofs.lemmas.List.{append-nil, take-append-drop}
 use Rattle.std.proofs.lemmas.List.Concat.{flat_map-append}
 use Rattle.std.specs.List.{flat_map}
 use Rattle.trace_rules.specs.Halving.{first_part, halving, shares_of}
+use Rattle.trace_rules.proofs.HalvingLemmas.{no_rounds, halving_more}
 
 pub part_within : (n workers : ℕ) → 0 < workers → first_part n workers ≤ n
 part_within n workers some = div-le_of_le-mul workers (let h : n * (workers / 2) ≤ n * workers = mul-le-mul_left n (omega arith) in omega arith)
@@ -17,14 +18,6 @@ halving_one {T} (suc rounds) workers xs h = ap (λ (b : Bool). elim b as (λ _. 
   | true ↦ halving rounds (workers / 2) (take (first_part (length xs) workers) xs) ++ halving rounds (workers - workers / 2) (drop (first_part (length xs) workers) xs)
   | false ↦ xs ∷ []
 ]) (le-ltb 1 workers h)
-
-halving_more : {T : Type 0} (rounds workers : ℕ) (xs : List T) → 1 < workers
-    → halving (suc rounds) workers xs ≡ halving rounds (workers / 2) (take (first_part (length xs) workers) xs) ++ halving rounds (workers - workers / 2) (drop (first_part (length xs) workers) xs)
-unfolding halving
-halving_more {T} rounds workers xs h = ap (λ (b : Bool). elim b as (λ _. List (List T)) [
-  | true ↦ halving rounds (workers / 2) (take (first_part (length xs) workers) xs) ++ halving rounds (workers - workers / 2) (drop (first_part (length xs) workers) xs)
-  | false ↦ xs ∷ []
-]) (lt-ltb 1 workers h)
 
 -- more rounds than there are workers change nothing
 halving_same : {T : Type 0} (rounds others workers : ℕ) (xs : List T) → workers ≤ rounds → workers ≤ others → halving rounds workers xs ≡ halving others workers xs
@@ -71,10 +64,6 @@ length_halving (suc rounds) workers xs some h =
 -- there is one share for each worker
 pub length_shares : {T : Type 0} (xs : List T) (workers : ℕ) → 0 < workers → length (shares_of xs workers) ≡ workers
 length_shares xs workers some = length_halving workers workers xs some (omega arith)
-
-no_rounds : {T : Type 0} (workers : ℕ) (xs : List T) → halving zero workers xs ≡ xs ∷ []
-unfolding halving
-no_rounds workers xs = refl
 
 whole_halving : {T : Type 0} (rounds workers : ℕ) (xs : List T) → flat_map (λ (x : List T). x) (halving rounds workers xs) ≡ xs
 whole_halving {T} zero workers xs = ap (flat_map (λ (x : List T). x)) (no_rounds workers xs) ∙ append-nil xs

@@ -6,7 +6,6 @@ use Rattle.hypothesis_index.specs.Places.{IsRelation, NamesBelow, pairs_below, p
 use Rattle.hypothesis_index.specs.Refuting.{Refutes}
 use Rattle.hypothesis_index.specs.declared.bit_place.BitPlace.{BitPlace}
 use Rattle.hypothesis_index.specs.declared.relation.Relation.{Relation}
-use Rattle.hypothesis_index.specs.declared.relation.Relation.TheVariants.{Before, Exclusive, Apart, Pipe, Unshared}
 use Rattle.pipeline_tests.specs.DayLaws.{RowsClearRefuted}
 use Rattle.refute_tests.specs.Survivors.{IsRefutedPlace}
 use Rattle.trace_types.specs.Surviving.{IsRefuted}
@@ -16,6 +15,7 @@ use Rattle.word_rows.specs.Accounts.{AreZero}
 use Rattle.word_rows.specs.Meeting.{ClearsBelow}
 use Rattle.word_rows.specs.Rows.{below, clears, rows_below, rows_clear}
 use Rattle.word_rows.specs.Words.{AreWords, bit_of}
+use Rattle.hypothesis_index.proofs.PairLemmas.{pairs_below-512, all_below}
 use Rattle.trace_pass.specs.Counts.{IsAtLeastRefutedCount, IsAtMostRefutedCount, zeros}
 use Rattle.trace_pass.specs.Rows.{AreRowsWithin}
 use Rattle.trace_pass.proofs.CountLemmas.{chosen, is_zero, pigeons, zeros_count}
@@ -30,15 +30,8 @@ PlacesFit = (names : ℕ) (r : Relation) → names ≤ 512 → IsRelation r → 
 abbrev pub number_of : Relation → ℕ
 number_of r = 64 * (place_of r).word + (place_of r).bit
 
-below_most : (r : Relation) → IsRelation r → NamesBelow 512 r
-below_most (Before a b) h = (h.1, h.2)
-below_most (Exclusive a b) h = h.1
-below_most (Apart a b) h = h.1
-below_most (Pipe t u) h = tt
-below_most (Unshared t u) h = tt
-
 pub bit_fits : PlacesFit → (r : Relation) → IsRelation r → (place_of r).bit < 64
-bit_fits fit r h = (fit 512 r (omega arith) h (below_most r h)).1
+bit_fits fit r h = (fit 512 r (omega arith) h (all_below r h)).1
 
 numbers_differ : PlacesDiffer → PlacesFit → (r s : Relation) → IsRelation r → IsRelation s → number_of r ≡ number_of s → r ≡ s
 numbers_differ differ fit r s hr hs e = let p = place_of r in let q = place_of s in
@@ -104,13 +97,9 @@ most_refuted ts words bound only =
 abbrev pub PairsFollow : Type 0
 PairsFollow = (high higher : ℕ) → high < higher → (pairs_below high + high) ≤ pairs_below higher
 
-most_pairs : pairs_below 512 ≡ 130816
-unfolding pairs_below
-most_pairs = refl
-
 -- the words of at most 512 names are few
 pub few_words : PairsFollow → (names : ℕ) → names ≤ 512 → width_of names ≤ 8302
-few_words follow names h = let top = most_pairs in ⊎_elim
+few_words follow names h = let top = pairs_below-512 in ⊎_elim
     (λ (e : names ≡ 512). let p : pairs_below names ≡ pairs_below 512 = ap pairs_below e in let r : width_of names ≤ 8302 = omega arith in r)
     (λ (ne : names ≡ 512 → ⊥). let p = follow names 512 (omega arith) in let r : width_of names ≤ 8302 = omega arith in r)
     (cases_eq names 512)

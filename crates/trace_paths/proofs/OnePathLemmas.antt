@@ -10,7 +10,7 @@ use Rattle.weighted_dag.specs.Chains.{IsBefore, IsLongest, NoLongestIsBefore}
 use Rattle.weighted_dag.specs.Graphs.{Graph}
 
 -- of two lists one comes before the other, or they are one
-one_before : (c d : List ℕ) → (c ≡ d) ⊎ (IsBefore c d ⊎ IsBefore d c)
+pub one_before : (c d : List ℕ) → (c ≡ d) ⊎ (IsBefore c d ⊎ IsBefore d c)
 one_before [] [] = inl refl
 one_before [] (b ∷ d) = inr (inl tt)
 one_before (a ∷ c) [] = inr (inr tt)

@@ -1,15 +1,10 @@
 -- The segments on a chain of a trace's graph: their names differ, and there are at most 512.
-use Rattle.std.proofs.Common.{◌≡◌, ◌≢◌, ◌⊎◌, ℕ, zero, suc, ◌+◌, ◌<◌, ◌≤◌, ◌<ℤ◌, List, [], ◌∷◌, map, length, get_or, slice_get, Some, Contains, All, AllPairs, arith, rules, refl, sym, ap, ◌∙◌, subst, ⊎_elim, inl, inr}
+use Rattle.std.proofs.Common.{◌≡◌, ◌≢◌, ◌⊎◌, ℕ, zero, suc, ◌+◌, ◌<◌, ◌≤◌, ◌<ℤ◌, List, [], ◌∷◌, length, get_or, slice_get, Some, Contains, All, AllPairs, arith, rules, refl, sym, ap, ◌∙◌, subst, ⊎_elim, inl, inr}
 use Rattle.std.specs.List.{AllZip}
-use Rattle.std.proofs.lemmas.Bool.{cases_lt, eqb-true}
-use Rattle.std.proofs.lemmas.Bool.Decides.{Decides-eqb}
+use Rattle.std.proofs.lemmas.Bool.{cases_lt}
 use Rattle.std.proofs.lemmas.Int.{ints}
-use Rattle.std.proofs.lemmas.List.{get_or-map, length-map}
 use Rattle.std.proofs.lemmas.List.Elements.{All-nil, All-cons, All-head, All-tail, All-weaker, All-from_get_or}
-use Rattle.std.proofs.lemmas.Map.Steps.{length-le_from_distinct_below}
-use Rattle.std.proofs.lemmas.Map.Made.{IsDistinct-from_AllPairs}
-use Rattle.std.proofs.lemmas.Map.Views.{Contains-from_any}
-use Rattle.std.proofs.lemmas.Option.{slice_get_within, get_or_from_slice_get, slice_get_cases}
+use Rattle.std.proofs.lemmas.Option.{slice_get_within, get_or_from_slice_get}
 use Rattle.std.proofs.lemmas.Slice.Zip.{AllZip-long}
 use Rattle.trace_types.specs.declared.named_segment.NamedSegment.{NamedSegment}
 use Rattle.trace_types.specs.declared.named_trace.NamedTrace.{NamedTrace}
@@ -17,10 +12,12 @@ use Rattle.trace_types.specs.NamedSegments.{number_of_name}
 use Rattle.trace_types.specs.Parts.{by_number}
 use Rattle.trace_types.specs.SegmentLists.{NamesDiffer}
 use Rattle.weighted_dag.specs.Chains.{IsChain}
-use Rattle.weighted_dag.specs.Graphs.{Graph, IsGraph, order_of}
+use Rattle.weighted_dag.specs.Graphs.{Graph, IsGraph}
 use Rattle.trace_rules.specs.TraceGraphs.{HasVertices}
 use Rattle.trace_rules.specs.VertexOrder.{ComesBefore, IsEarlier}
 use Rattle.trace_rules.specs.CriticalPaths.{StandsFor}
+use Rattle.trace_types.proofs.ElementLemmas.{one_item}
+use Rattle.trace_types.proofs.FewSegmentLemmas.{few_names}
 use Rattle.trace_paths.specs.NumberedPaths.{IsNamedPath}
 
 -- two lists side by side, at an index
@@ -44,58 +41,11 @@ rises g form (v ∷ c) chain i zero d lt within = absurd (omega arith)
 rises g form (v ∷ c) chain zero (suc j) d lt within = later g form v c chain j d (omega arith)
 rises g form (v ∷ c) chain (suc i) (suc j) d lt within = rises g form c chain.2 i j d (omega arith) (omega arith)
 
--- each of them is a vertex
-pub vertices_within : (g : Graph) (c : List ℕ) → IsChain g c → All (λ v. v < order_of g) c
-vertices_within g [] chain = All-nil (λ v. v < order_of g)
-vertices_within g (v ∷ c) chain = All-cons (λ u. u < order_of g) v c chain.0 (vertices_within g c chain.2)
-
-at_index : {X : Type 0} (xs : List X) (i : ℕ) → i < length xs → (x : X) × (slice_get xs i ≡ Some x)
-at_index xs i lt = ⊎_elim
-    (λ (x, within, got, read). (x, got))
-    (λ (past, none). absurd (omega arith))
-    (slice_get_cases xs i).1
-
--- one element stands at an index
-one_at : {X : Type 0} (xs : List X) (i : ℕ) (x y : X) → slice_get xs i ≡ Some x → slice_get xs i ≡ Some y → x ≡ y
-one_at xs i x y is js = sym (get_or_from_slice_get xs i x x is) ∙ get_or_from_slice_get xs i y x js
-
 -- no segment comes before itself
 not_earlier : (s : NamedSegment) (i : ℕ) → IsEarlier by_number s i s i → ⊥
 not_earlier s i (inl a) = omega (arith, ints)
 not_earlier s i (inr (e, inl a)) = omega (arith, ints)
 not_earlier s i (inr (e, inr (f, a))) = omega arith
-
--- an element of a list that is mapped
-mapped_at : {X : Type 0} (f : X → ℕ) (xs : List X) (i d : ℕ) (x : X) → slice_get xs i ≡ Some x → get_or (map f xs) i d ≡ f x
-mapped_at f xs i d x got = get_or-map f xs i x d (slice_get_within xs i x got) ∙ ap f (get_or_from_slice_get xs i x x got)
-
--- segments with different names below a number are no more than that
-few_names : (n : ℕ) (segments : List NamedSegment) → NamesDiffer number_of_name segments → All (λ (s : NamedSegment). s.name < n) segments → length segments ≤ n
-few_names n segments differ below = subst (λ (k : ℕ). k ≤ n) same_length
-    (length-le_from_distinct_below names n (IsDistinct-from_AllPairs Decides-eqb names apart) (λ q found. under q (Contains-from_any (λ x y. eqb-true x y) q names found)))
-  where
-    names : List ℕ
-    names = map number_of_name segments
-
-    same_length : length names ≡ length segments
-    same_length = length-map segments number_of_name
-
-    apart : AllPairs (λ a b. a ≢ b) names
-    apart i j d lt within same =
-        let before : j < length segments = omega (arith, same_length) in
-        let (s, is) = at_index segments i (omega arith) in
-        let (t, ts) = at_index segments j before in
-        differ i j s lt before (
-        ap number_of_name (get_or_from_slice_get segments i s s is)
-        ∙ (sym (mapped_at number_of_name segments i d s is) ∙ (same ∙ (mapped_at number_of_name segments j d t ts
-        ∙ sym (ap number_of_name (get_or_from_slice_get segments j t s ts))))))
-
-    under : (q : ℕ) → Contains names q → q < n
-    under q (k, lt, is) =
-        let (s, got) = at_index segments k (omega (arith, same_length)) in
-        let name : s.name ≡ q = sym (mapped_at number_of_name segments k q s got) ∙ is in
-        let small : s.name < n = subst (λ (x : NamedSegment). x.name < n) (get_or_from_slice_get segments k s s got) (below k s (omega (arith, same_length))) in
-        omega arith
 
 module _ (trace : NamedTrace) (order : List ℕ) (g : Graph) (has : HasVertices by_number trace order g) where
   -- the indices are those of segments
@@ -129,7 +79,7 @@ module _ (trace : NamedTrace) (order : List ℕ) (g : Graph) (has : HasVertices 
         (λ (l : m < k). names_apart m k (get_or path j d) (get_or path i d) ts is l (sym same))
         (λ (le : k ≤ m).
         let one : m ≡ k = omega arith in
-        let both : t ≡ s = one_at trace.segments k t s (subst (λ (x : ℕ). slice_get trace.segments x ≡ Some t) one st) ss in
+        let both : t ≡ s = one_item trace.segments k t s (subst (λ (x : ℕ). slice_get trace.segments x ≡ Some t) one st) ss in
         not_earlier s k (subst (λ (x : NamedSegment). IsEarlier by_number s k x k) both (subst (λ (x : ℕ). IsEarlier by_number s k t x) one earlier)))
         (cases_lt m k))
         (cases_lt k m)

@@ -1,10 +1,8 @@
 -- What a parallel map over traces gives where each of its calls succeeds, and lists of lent traces
 -- that are taken a chunk at a time.
-use Rattle.std.proofs.Common.{◌≡◌, ℕ, ◌+◌, ◌-◌, ◌<◌, ◌≤◌, List, [], ◌∷◌, ◌++◌, length, take, drop, map, Option, Result, Ok, Err, IfOk, refl, sym, ◌∙◌, ap, subst, append_assoc, arith}
-use Rattle.std.specs.Prelude.{MatchResult, Contains}
+use Rattle.std.proofs.Common.{◌≡◌, ℕ, ◌+◌, ◌-◌, ◌<◌, ◌≤◌, List, [], ◌∷◌, ◌++◌, length, take, drop, map, Option, Err, refl, sym, ◌∙◌, ap, subst, append_assoc, arith}
 use Rattle.std.specs.Borrow.{Bor}
-use Rattle.std.specs.List.{AllZip, flat_map}
-use Rattle.std.specs.declared.vec.Vec.{Vec}
+use Rattle.std.specs.List.{flat_map}
 use Rattle.std.proofs.Math.Seq.{take-add}
 use Rattle.std.proofs.lemmas.List.{map-append, take_all, take-append-drop}
 use Rattle.session_rules.specs.KeptTraces.{Kept}
@@ -15,20 +13,6 @@ use Rattle.trace_types.specs.declared.named_trace.NamedTrace.{NamedTrace}
 use Rattle.kept_books.specs.KeptBooks.{KeptState}
 use Rattle.trace_rows.specs.inner.ShownTraces.{PrintsShown}
 use Rattle.trace_rows.proofs.PrintLemmas.{done, shown_follow, shown_goes_on}
-
--- each result is a value, and the values are as asked
-values_of : (E : Type 0) {X Y : Type 0} (R : X → Y → Type 0) (xs : List X) (ys : List Y) → AllZip (λ x (y : Result Y E). IfOk y (R x)) xs (map Ok ys) → AllZip R xs ys
-values_of E R [] [] all = all
-values_of E R [] (y ∷ ys) all = all
-values_of E R (x ∷ xs) [] all = all
-values_of E R (x ∷ xs) (y ∷ ys) all = (all.0, values_of E R xs ys all.1)
-
--- the collected values are as asked, where there is no error
-pub collected : {X Y Z E : Type 0} (R : X → Y → Type 0) (xs : List X) (results : List (Result Y E)) (r : Result (Vec Y Z) E) → AllZip (λ x y. IfOk y (R x)) xs results
-    → MatchResult r (λ v. (ys : List Y) × (results ≡ map Ok ys) × (v.items ≡ ys)) (λ e. Contains results (Err e)) → IfOk r (λ v. AllZip R xs v.items)
-collected {X} {Y} {Z} {E} R xs results (Ok v) all (ys, are, is) =
-    subst (AllZip R xs) (sym is) (values_of E R xs ys (subst (λ (l : List (Result Y E)). AllZip (λ x y. IfOk y (R x)) xs l) are all))
-collected R xs results (Err e) all found = tt
 
 -- the traces that are lent
 abbrev pub lent : List (Bor NamedTrace) → List NamedTrace

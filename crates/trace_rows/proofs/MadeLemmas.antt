@@ -19,11 +19,12 @@ use Rattle.text_rows.specs.TextSinks.{all_bytes}
 use Rattle.text_rows.specs.TextsOfParts.{AreTexts}
 use Rattle.text_rows.specs.declared.print_fault.PrintFault.{PrintFault}
 use Rattle.trace_types.specs.declared.named_trace.NamedTrace.{NamedTrace}
+use Rattle.trace_types.proofs.ZipLemmas.{collected}
 use Rattle.trace_rows.specs.declared.chunks.Piece.{Piece}
 use Rattle.trace_rows.specs.inner.Pieces.{traces_of_pieces}
 use Rattle.kept_books.specs.KeptBooks.{KeptState}
 use Rattle.trace_rows.specs.inner.ShownTraces.{IsShownText, PrintsShown}
-use Rattle.trace_rows.proofs.ChunkLemmas.{collected, lent}
+use Rattle.trace_rows.proofs.ChunkLemmas.{lent}
 use Rattle.trace_rows.proofs.PrintLemmas.{done, zip_split}
 
 -- what all items of two lists have, those of each have

@@ -1,25 +1,18 @@
 -- A trace by numbers and the kept trace that it shows.
-use Rattle.std.proofs.Common.{◌≡◌, ℕ, zero, suc, ◌<◌, List, [], ◌∷◌, length, slice_get, slice_index, Some, Contains, ◌↔◌, refl, sym, ◌∙◌, ap, arith}
-use Rattle.std.specs.List.{AllZip, enumerate_from}
+use Rattle.std.proofs.Common.{◌≡◌, ℕ, ◌<◌, List, [], length, slice_get, slice_index, Some, Contains, ◌↔◌, sym, ◌∙◌, ap}
+use Rattle.std.specs.List.{enumerate_from}
 use Rattle.std.specs.Option.{option_map_or, unwrap_or}
 use Rattle.book_laws.specs.Shown.{IsShown}
 use Rattle.segment_names.specs.Known.{Known}
 use Rattle.session_rules.specs.KeptTraces.{Kept, by_kept}
 use Rattle.session_rules.specs.TraceTexts.{name_of_vertex}
+use Rattle.trace_types.proofs.ZipLemmas.{zip_at}
 use Rattle.trace_rows.specs.inner.NumberedTraces.{IsNumbered, NumberedTrace, name_of_number, vertex_name}
 use Rattle.trace_types.specs.Parts.{by_number}
 use Rattle.trace_types.specs.Renaming.{IsSegmentRenamed}
 use Rattle.trace_types.specs.Segments.{SegmentName, name_of}
 use Rattle.trace_types.specs.declared.named_segment.NamedSegment.{NamedSegment}
 use Rattle.trace_types.specs.declared.segment.Segment.{Segment}
-
--- what stands at one place of two lists that are alike
-pub zip_at : {A B : Type 0} (R : A → B → Type 0) (xs : List A) (ys : List B) (i : ℕ) → AllZip R xs ys → i < length xs → (x : A) × (y : B) × (slice_get xs i ≡ Some x) × (slice_get ys i ≡ Some y) × R x y
-zip_at R [] [] i h lt = absurd (omega (arith, lt))
-zip_at R [] (y ∷ ys) i h lt = absurd h
-zip_at R (x ∷ xs) [] i h lt = absurd h
-zip_at R (x ∷ xs) (y ∷ ys) zero h lt = (x, y, refl, refl, h.0)
-zip_at R (x ∷ xs) (y ∷ ys) (suc i) h lt = zip_at R xs ys i h.1 (omega (arith, lt))
 
 -- the name of a segment by its number is the name of the segment that it shows
 name_by_number : (names : List SegmentName) (s : NamedSegment) (x : Segment) → ((i : ℕ) (name : SegmentName) → Contains (enumerate_from 0 names) (i, name) ↔ (slice_get names i ≡ Some name))

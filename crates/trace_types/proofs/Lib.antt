@@ -1,5 +1,15 @@
+pub mod ComparingLemmas
+pub mod DecimalLemmas
+pub mod ElementLemmas
+pub mod ExactLemmas
+pub mod FewSegmentLemmas
+pub mod FourSegmentLemmas
 pub mod ListingLemmas
 pub mod MatchLemmas
 pub mod NumberingLemmas
 pub mod OrderLemmas
+pub mod PairLemmas
 pub mod RenamingLemmas
+pub mod ShortLemmas
+pub mod TruthLemmas
+pub mod ZipLemmas

@@ -10,23 +10,23 @@ use Rattle.trace_types.specs.Listing.{CountsDistinct}
 use Rattle.trace_types.specs.NameOrder.{name_cmp, pair_cmp}
 use Rattle.trace_types.specs.Segments.{SegmentName}
 
-Contains-nil : {X : Type 0} (x : X) → Contains [] x → ⊥
+pub Contains-nil : {X : Type 0} (x : X) → Contains [] x → ⊥
 Contains-nil x c = let lt : c.0 < 0 = c.1 in absurd (omega arith)
 
-Contains-cons : {X : Type 0} (x : X) (xs : List X) (y : X) → Contains xs y → Contains (x ∷ xs) y
+pub Contains-cons : {X : Type 0} (x : X) (xs : List X) (y : X) → Contains xs y → Contains (x ∷ xs) y
 Contains-cons x xs y c = let lt : c.0 < length xs = c.1 in (suc c.0, omega arith, c.2)
 
-cons_cases : {X : Type 0} (x : X) (xs : List X) (z : X) → Contains (x ∷ xs) z → (x ≡ z) ⊎ Contains xs z
+pub cons_cases : {X : Type 0} (x : X) (xs : List X) (z : X) → Contains (x ∷ xs) z → (x ≡ z) ⊎ Contains xs z
 cons_cases x xs z (zero, lt, is) = inl is
 cons_cases x xs z (suc k, lt, is) = inr (k, omega arith, is)
 
-cons_here : {X : Type 0} (x : X) (xs : List X) → Contains (x ∷ xs) x
+pub cons_here : {X : Type 0} (x : X) (xs : List X) → Contains (x ∷ xs) x
 cons_here x xs = (zero, omega arith, refl)
 
-pairs_tail : {X : Type 0} (R : X → X → Type 0) (x : X) (xs : List X) → AllPairs R (x ∷ xs) → AllPairs R xs
+pub pairs_tail : {X : Type 0} (R : X → X → Type 0) (x : X) (xs : List X) → AllPairs R (x ∷ xs) → AllPairs R xs
 pairs_tail R x xs p = λ i j d lt within. p (suc i) (suc j) d (omega arith) (omega arith)
 
-head_before : {X : Type 0} (R : X → X → Type 0) (x : X) (xs : List X) (z : X) → AllPairs R (x ∷ xs) → Contains xs z → R x z
+pub head_before : {X : Type 0} (R : X → X → Type 0) (x : X) (xs : List X) (z : X) → AllPairs R (x ∷ xs) → Contains xs z → R x z
 head_before R x xs z p (k, lt, is) = subst (R x) is (p zero (suc k) z (omega arith) (omega arith))
 
 -- two lists in one strict order with the same members are one list

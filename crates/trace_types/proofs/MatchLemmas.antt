@@ -81,7 +81,7 @@ flip_zip R [] (y ∷ ys) z = absurd z
 flip_zip R (x ∷ xs) [] z = absurd z
 flip_zip R (x ∷ xs) (y ∷ ys) z = (z.0, flip_zip R xs ys z.1)
 
-some_and : {Y : Type 0} (o : Option Y) (P : Y → Type 0) → IsSomeAnd o P → (y : Y) × (o ≡ Some y) × P y
+pub some_and : {Y : Type 0} (o : Option Y) (P : Y → Type 0) → IsSomeAnd o P → (y : Y) × (o ≡ Some y) × P y
 some_and None P h = absurd h
 some_and (Some y) P h = (y, refl, h)
 

@@ -1,12 +1,10 @@
 -- How long segments last, by number and by text.
-use Rattle.std.proofs.Common.{◌≡◌, ◌≢◌, ◌⊎◌, ℕ, ◌<◌, Bool, true, false, ◌&&◌, eqb, Some, List, length, refl, sym, ap, ◌∙◌, subst, ⊎_elim}
+use Rattle.std.proofs.Common.{◌≡◌, ◌≢◌, ◌⊎◌, ℕ, ◌<◌, true, false, eqb, Some, List, length, sym, ap, ◌∙◌, subst, ⊎_elim}
 use Rattle.std.specs.Prelude.{◌-ℤ◌, unsigned_abs, filter, sum, sum_by}
 use Rattle.std.specs.List.{AllPairs}
-use Rattle.std.specs.Str.{bytes_eq}
-use Rattle.std.proofs.lemmas.Bool.{false≢true, false_from_ne_true}
+use Rattle.std.proofs.lemmas.Bool.{false_from_ne_true}
 use Rattle.std.proofs.lemmas.Bool.Decides.{eqb_tells}
 use Rattle.std.proofs.lemmas.Option.{get_or_from_slice_get, slice_get-get_or}
-use Rattle.std.proofs.lemmas.Slice.Eq.{bytes_eq-Decides}
 use Rattle.segment_names.specs.Known.{Known, same_name}
 use Rattle.session_rules.specs.KeptTraces.{by_kept}
 use Rattle.trace_rules.specs.Durations.{duration, durations_of, has_name, path_length, paths_with, time_on}
@@ -16,32 +14,12 @@ use Rattle.trace_types.specs.declared.segment.Segment.{Segment}
 use Rattle.trace_types.specs.NamedSegments.{named_start, number_of_name}
 use Rattle.trace_types.specs.Parts.{by_number}
 use Rattle.trace_types.specs.Segments.{SegmentName, end_of, name_of}
+use Rattle.segment_names.proofs.TextLemmas.{name_means, name_own}
+use Rattle.trace_types.proofs.ElementLemmas.{one_place}
 use Rattle.view_rows.specs.inner.ShownPaths.{ArePathsShown, AreSegmentsShown, IsSegmentShown}
 use Rattle.view_rows.proofs.ReportZipLemmas.{zip_any, zip_count, zip_filter, zip_map, zip_sum}
-use Rattle.view_rows.proofs.ListingLemmas.{one_place}
 
 -- ---- names
-both : (a b : Bool) → (a && b) ≡ true → (a ≡ true) × (b ≡ true)
-both true true e = (refl, refl)
-both true false e = absurd (false≢true e)
-both false b e = absurd (false≢true e)
-
-one_name : (a b : SegmentName) → same_name a b ≡ true → a ≡ b
-one_name a b e =
-    let t = both (bytes_eq a.0 b.0) (bytes_eq a.1 b.1 && bytes_eq a.2 b.2) e in
-    let u = both (bytes_eq a.1 b.1) (bytes_eq a.2 b.2) t.1 in
-    let task : a.0 ≡ b.0 = (bytes_eq-Decides a.0 b.0).0 t.0 in
-    let start : a.1 ≡ b.1 = (bytes_eq-Decides a.1 b.1).0 u.0 in
-    let end : a.2 ≡ b.2 = (bytes_eq-Decides a.2 b.2).0 u.1 in
-    λ k. (task k, start k, end k)
-
-same_itself : (a : SegmentName) → same_name a a ≡ true
-same_itself a =
-    let task : bytes_eq a.0 a.0 ≡ true = (bytes_eq-Decides a.0 a.0).1 refl in
-    let start : bytes_eq a.1 a.1 ≡ true = (bytes_eq-Decides a.1 a.1).1 refl in
-    let end : bytes_eq a.2 a.2 ≡ true = (bytes_eq-Decides a.2 a.2).1 refl in
-    ap (λ (b : Bool). b && (bytes_eq a.1 a.1 && bytes_eq a.2 a.2)) task ∙ (ap (λ (b : Bool). b && bytes_eq a.2 a.2) start ∙ end)
-
 module _ (known : Known) where
   -- the name at the number of a segment is its name
   pub name_shown : (s : NamedSegment) (x : Segment) → IsSegmentShown known s x → name_with_number known.names (number_of_name s) ≡ name_of x
@@ -62,10 +40,10 @@ module _ (known : Known) where
     test_shown : (s : NamedSegment) (x : Segment) → IsSegmentShown known s x → eqb (number_of_name s) n ≡ same_name (name_of x) (name_with_number known.names n)
     test_shown s x shown = ⊎_elim
         (λ (yes : (eqb (number_of_name s) n ≡ true) × (number_of_name s ≡ n)).
-        yes.0 ∙ sym (subst (λ (m : SegmentName). same_name (name_of x) m ≡ true) (sym (name_shown s x shown) ∙ ap (name_with_number known.names) yes.1) (same_itself (name_of x))))
+        yes.0 ∙ sym (subst (λ (m : SegmentName). same_name (name_of x) m ≡ true) (sym (name_shown s x shown) ∙ ap (name_with_number known.names) yes.1) (name_own (name_of x))))
         (λ (no : (eqb (number_of_name s) n ≡ false) × (number_of_name s ≢ n)).
         no.0 ∙ sym (false_from_ne_true (same_name (name_of x) (name_with_number known.names n)) (λ t.
-        no.1 (one_place known.names differ (number_of_name s) n (name_of x) shown.name (slice_get-get_or known.names n _ lt ∙ ap Some (sym (one_name (name_of x) (name_with_number known.names n) t)))))))
+        no.1 (one_place known.names differ (number_of_name s) n (name_of x) shown.name (slice_get-get_or known.names n _ lt ∙ ap Some (sym (name_means (name_of x) (name_with_number known.names n) t)))))))
         (eqb_tells (number_of_name s) n)
 
     pub durations_shown : (path : List NamedSegment) (text : List Segment) → AreSegmentsShown known path text → durations_of by_number eqb n path ≡ durations_of by_kept same_name (name_with_number known.names n) text

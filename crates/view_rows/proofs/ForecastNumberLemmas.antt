@@ -1,44 +1,14 @@
 -- The number of a name in a list of different names.
-use Rattle.std.proofs.Common.{◌≡◌, ◌≢◌, ℕ, ◌<◌, List, [], ◌∷◌, length, get_or, position, slice_get, Some, None, Bool, true, false, ◌&&◌, cond, nat_lt, ◌==◌, refl, sym, ap, ◌∙◌, subst, ⊎_elim, true≢false, arith, rules}
-use Rattle.std.specs.Cmp.{IsEquivalence}
-use Rattle.std.specs.Cmp.Rules.{comparing}
-use Rattle.std.specs.Cmp.Lexicographic.{bytes_decides}
-use Rattle.std.specs.List.{AllPairs, position_or_len}
-use Rattle.std.specs.Str.{bytes_eq}
-use Rattle.std.proofs.lemmas.Bool.{and_parts, cases_order, lt-ltb, eq-eqb, ne_eqb}
+use Rattle.std.proofs.Common.{◌≡◌, ◌≢◌, ℕ, ◌<◌, List, [], ◌∷◌, length, get_or, position, slice_get, Some, None, Bool, true, false, ◌==◌, refl, sym, ap, ◌∙◌, subst, ⊎_elim, true≢false}
+use Rattle.std.specs.List.{AllPairs}
+use Rattle.std.proofs.lemmas.Bool.{cases_order, eq-eqb, ne_eqb}
 use Rattle.std.proofs.lemmas.List.{get_or_default}
-use Rattle.std.proofs.lemmas.List.Sums.{fails_before_first}
 use Rattle.std.proofs.lemmas.List.Quantifiers.{position-Some}
 use Rattle.std.proofs.lemmas.Option.{get_or_from_slice_get, slice_get_within, slice_get_read}
 use Rattle.trace_types.specs.Segments.{SegmentName}
 use Rattle.segment_names.specs.Known.{same_name}
-
-text_laws : IsEquivalence bytes_eq
-text_laws = search (comparing, rules)
-
-text_means : (x y : List ℕ) → bytes_eq x y ≡ true → x ≡ y
-text_means x y h = (bytes_decides x y).0 h
-
-text_own : (x : List ℕ) → bytes_eq x x ≡ true
-text_own x = text_laws.refl x
-
-name_means : (x y : SegmentName) → same_name x y ≡ true → x ≡ y
-name_means x y h =
-    let p = and_parts (bytes_eq x.0 y.0) (bytes_eq x.1 y.1 && bytes_eq x.2 y.2) h in
-    let q = and_parts (bytes_eq x.1 y.1) (bytes_eq x.2 y.2) p.1 in
-    λ k. (text_means x.0 y.0 p.0 k, text_means x.1 y.1 q.0 k, text_means x.2 y.2 q.1 k)
-
-name_own : (x : SegmentName) → same_name x x ≡ true
-name_own x = rw (text_own x.0, text_own x.1, text_own x.2) refl
-
-none_passes : {X : Type 0} (p : X → Bool) (xs : List X) → position p xs ≡ None → (k : ℕ) (d : X) → k < length xs → p (get_or xs k d) ≡ false
-none_passes p xs none k d h = ⊎_elim
-    (λ (e : position_or_len p xs ≡ length xs). fails_before_first p xs k d (omega arith))
-    (⊎_elim
-    (λ (l : position_or_len p xs < length xs). let t : nat_lt (position_or_len p xs) (length xs) ≡ true = lt-ltb (position_or_len p xs) (length xs) l in
-    absurd (let s : Some (position_or_len p xs) ≡ None = sym (ap (λ (b : Bool). cond b (Some (position_or_len p xs)) None) t) ∙ none in cc))
-    (λ (l : length xs < position_or_len p xs). fails_before_first p xs k d (omega arith)))
-    (cases_order (position_or_len p xs) (length xs))
+use Rattle.segment_names.proofs.TextLemmas.{name_means, name_own}
+use Rattle.trace_types.proofs.ElementLemmas.{none_passes}
 
 -- a name that has no number is no name of the list
 pub no_number : (names : List SegmentName) (name other : SegmentName) (k : ℕ) → position (same_name name) names ≡ None → slice_get names k ≡ Some other → same_name name other ≡ false

@@ -1,7 +1,7 @@
 -- A forecast by number is that of the kept trace.
-use Rattle.std.proofs.Common.{◌≡◌, ℕ, zero, suc, ◌*◌, ◌/◌, ◌<◌, List, [], ◌∷◌, length, get_or, slice_get, slice_index, Option, Some, None, Bool, Contains, ◌↔◌, refl, sym, ◌∙◌, ap, subst, arith}
+use Rattle.std.proofs.Common.{◌≡◌, ℕ, ◌*◌, ◌/◌, ◌<◌, List, [], length, get_or, slice_get, slice_index, Option, Some, None, Bool, Contains, ◌↔◌, refl, sym, ◌∙◌, ap, subst}
 use Rattle.std.specs.Prelude.{if◌then◌else◌}
-use Rattle.std.specs.List.{AllZip, enumerate_from}
+use Rattle.std.specs.List.{enumerate_from}
 use Rattle.std.specs.Option.{option_map_or}
 use Rattle.std.proofs.lemmas.Option.{get_or_from_slice_get, slice_get-get_or}
 use Rattle.book_laws.specs.GraphLaws.{GraphIsShown}
@@ -20,16 +20,9 @@ use Rattle.trace_types.specs.declared.named_trace.NamedTrace.{NamedTrace}
 use Rattle.weighted_dag.specs.Graphs.{Graph, order_of, weight_of}
 use Rattle.what_if.specs.Forecasts.{AreChanged, changed_time}
 use Rattle.trace_rules.specs.declared.forecast.Forecast.{Forecast}
+use Rattle.trace_types.proofs.ZipLemmas.{zip_at}
 use Rattle.view_rows.specs.inner.NumberedForecasts.{IsForecastIn, changes_by, changes_of}
 use Rattle.view_rows.proofs.ForecastNumberLemmas.{no_number, number_tells}
-
--- what stands at one place of two lists that are alike
-zip_at : {A B : Type 0} (R : A → B → Type 0) (xs : List A) (ys : List B) (i : ℕ) → AllZip R xs ys → i < length xs → (x : A) × (y : B) × (slice_get xs i ≡ Some x) × (slice_get ys i ≡ Some y) × R x y
-zip_at R [] [] i h lt = absurd (omega (arith, lt))
-zip_at R [] (y ∷ ys) i h lt = absurd h
-zip_at R (x ∷ xs) [] i h lt = absurd h
-zip_at R (x ∷ xs) (y ∷ ys) zero h lt = (x, y, refl, refl, h.0)
-zip_at R (x ∷ xs) (y ∷ ys) (suc i) h lt = zip_at R xs ys i h.1 (omega (arith, lt))
 
 -- each number stands beside its name
 abbrev AreNumbered : Known → Type 0

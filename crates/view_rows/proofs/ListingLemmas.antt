@@ -1,5 +1,5 @@
 -- Texts with their numbers.
-use Rattle.std.proofs.Common.{◌≡◌, ◌≢◌, ◌↔◌, ℕ, ◌+◌, ◌<◌, ◌≤◌, Bool, true, false, nat_lt, if◌then◌else◌, zero, suc, Some, List, [], ◌∷◌, ◌++◌, length, get_or, map, refl, sym, ap, ◌∙◌, subst, ⊎_elim, arith, IsPermutation, IsSorted, Ordering}
+use Rattle.std.proofs.Common.{◌≡◌, ◌≢◌, ◌↔◌, ℕ, ◌+◌, ◌<◌, ◌≤◌, Bool, true, false, nat_lt, if◌then◌else◌, Some, List, [], ◌∷◌, ◌++◌, length, get_or, map, refl, sym, ap, ◌∙◌, subst, ⊎_elim, arith, IsPermutation, IsSorted, Ordering}
 use Rattle.std.specs.declared.cmp.Ordering.TheVariants.{Less, Equal}
 use Rattle.std.specs.Cmp.{IsTotalOrder}
 use Rattle.std.specs.List.{AllPairs, Contains, slice_get}
@@ -10,29 +10,11 @@ use Rattle.std.proofs.lemmas.List.Elements.{Contains-get_or, Contains-append_lef
 use Rattle.std.proofs.lemmas.List.Quantifiers.{all_pairs_push}
 use Rattle.std.proofs.lemmas.List.Sorted.{Contains-permutation, IsPermutation-sym}
 use Rattle.std.proofs.lemmas.Option.{slice_get-get_or, slice_get_within, get_or_from_slice_get}
+use Rattle.trace_types.proofs.ListingLemmas.{Contains-nil}
+use Rattle.trace_types.proofs.ElementLemmas.{Contains-one, Contains-itself, Contains-map, one_item, one_place}
 use Rattle.view_rows.specs.inner.Listings.{AreItemsBelow, HoldsOfTexts, ListsMarked, HasNumber}
 use Rattle.view_rows.specs.inner.Marking.{IsMarked}
-use Rattle.view_rows.proofs.ElementLemmas.{Contains-nil, Contains-one, Contains-itself, Contains-map}
 use Rattle.view_rows.proofs.ModelOrderLemmas.{less_differs, not_both_less, not_less_itself, rising_from_sort}
-
-some_is : {X : Type 0} (x y : X) → Some x ≡ Some y → x ≡ y
-some_is x y e = cc
-
--- what stands at one place is one
-pub one_text : {X : Type 0} (texts : List X) (k : ℕ) (x y : X) → slice_get texts k ≡ Some x → slice_get texts k ≡ Some y → x ≡ y
-one_text texts k x y p q = some_is x y (sym p ∙ q)
-
--- in a list with nothing twice, what stands at two places is two
-pub one_place : {X : Type 0} (texts : List X) → AllPairs (λ x y. x ≢ y) texts → (a b : ℕ) (x : X) → slice_get texts a ≡ Some x → slice_get texts b ≡ Some x → a ≡ b
-one_place texts differ a b x p q =
-    let la = slice_get_within texts a x p in
-    let lb = slice_get_within texts b x q in
-    let ea = get_or_from_slice_get texts a x x p in
-    let eb = get_or_from_slice_get texts b x x q in
-    ⊎_elim
-    (λ (lt : a < b). absurd (differ a b x lt lb (ea ∙ sym eb)))
-    (λ (le : b ≤ a). ⊎_elim (λ (lt : b < a). absurd (differ b a x lt la (eb ∙ sym ea))) (λ (h : a ≤ b). let e : a ≡ b = omega arith in e) (cases_lt b a))
-    (cases_lt a b)
 
 -- the marked texts with numbers below n, none twice
 pub record Collects {X : Type 0} (texts : List X) (marks : List Bool) (n : ℕ) (items : List (X × ℕ)) : Type 0 where
@@ -76,7 +58,7 @@ module _ {X : Type 0} (texts : List X) (marks : List Bool) where
           let lt : item.1 < n + 1 = e.0 in
           let same : n ≡ item.1 = omega arith in
           let here : slice_get texts n ≡ Some item.0 = subst (λ (k : ℕ). slice_get texts k ≡ Some item.0) (sym same) e.1 in
-          let one : text ≡ item.0 = one_text texts n text item.0 at here in
+          let one : text ≡ item.0 = one_item texts n text item.0 at here in
           Contains-append_right items ((text, n) ∷ []) item (Contains-itself (text, n) item (λ k. (one k, same k))))
           (cases_lt item.1 n)),
     );
@@ -89,7 +71,7 @@ module _ {X : Type 0} (texts : List X) (marks : List Bool) where
   pub collects_next : (n : ℕ) (text : X) (items new : List (X × ℕ)) (wanted : Bool) → slice_get texts n ≡ Some text → slice_get marks n ≡ Some wanted
       → new ≡ (if wanted then items ++ (text, n) ∷ [] else items) → Collects texts marks n items → Collects texts marks (n + 1) new
   collects_next n text items new true at on is h = subst (Collects texts marks (n + 1)) (sym is) (collects_push n text items at on h)
-  collects_next n text items new false at off is h = subst (Collects texts marks (n + 1)) (sym is) (collects_skip n items (λ on. false≢true (one_text marks n false true off on)) h)
+  collects_next n text items new false at off is h = subst (Collects texts marks (n + 1)) (sym is) (collects_skip n items (λ on. false≢true (one_item marks n false true off on)) h)
 
   module _ (cmp : X → X → Ordering) (total : IsTotalOrder cmp) (exact : (x y : X) → cmp x y ≡ Equal → x ≡ y) (differ : AllPairs (λ (x y : X). x ≢ y) texts)
       (n : ℕ) (all : length texts ≤ n) (items sorted : List (X × ℕ)) (so_far : Collects texts marks n items)
@@ -123,7 +105,7 @@ are_listed {X} cmp total texts marks limit few items h = record {
       let y = get_or items j d in
       let sx = ((h.exactly x).0 (Contains-get_or items i d (omega arith))).0 in
       let sy = ((h.exactly y).0 (Contains-get_or items j d inside)).0 in
-      less_differs cmp total x.0 y.0 (h.rising i j d lt inside) (one_text texts y.1 x.0 y.0 (subst (λ (k : ℕ). slice_get texts k ≡ Some x.0) e sx) sy);
+      less_differs cmp total x.0 y.0 (h.rising i j d lt inside) (one_item texts y.1 x.0 y.0 (subst (λ (k : ℕ). slice_get texts k ≡ Some x.0) e sx) sy);
   below = λ k d lt. let s = ((h.exactly (get_or items k d)).0 (Contains-get_or items k d lt)).0 in let w = slice_get_within texts (get_or items k d).1 (get_or items k d).0 s in omega arith;
 }
 
@@ -170,11 +152,6 @@ module _ {X : Type 0} (cmp : X → X → Ordering) (total : IsTotalOrder cmp) (i
   holds_second R x y h = Contains-map (λ (i : X × ℕ). i.0) items (y, h.1) y h.3 refl
 
 -- ---- items by index
-pub item_of : {A : Type 0} (xs : List A) (k : ℕ) → k < length xs → (x : A) × (slice_get xs k ≡ Some x)
-item_of [] k lt = absurd (omega arith)
-item_of (x ∷ xs) zero lt = (x, refl)
-item_of (x ∷ xs) (suc k) lt = item_of xs k (omega arith)
-
 pub is_item : {A : Type 0} (xs : List A) (k : ℕ) (x y : A) → k < length xs → x ≡ get_or xs k x → slice_get xs k ≡ Some y → x ≡ y
 is_item xs k x y lt at e = at ∙ get_or_from_slice_get xs k y x e
 

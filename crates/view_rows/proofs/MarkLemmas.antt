@@ -3,15 +3,16 @@ use Rattle.std.proofs.Common.{◌≡◌, ℕ, ◌+◌, ◌<◌, ◌≤◌, Bool,
 use Rattle.std.proofs.lemmas.Bool.{false≢true}
 use Rattle.std.specs.List.{All, Contains, flat_map, slice_get}
 use Rattle.std.specs.Option.{option_map}
-use Rattle.std.proofs.lemmas.List.{append-nil, length-append, map-append, map_more, take_more}
+use Rattle.std.proofs.lemmas.List.{length-append, map-append, map_more}
 use Rattle.std.proofs.lemmas.List.Concat.{flat_map-append}
 use Rattle.std.proofs.lemmas.Option.{slice_get_within, get_or_from_slice_get}
 use Rattle.std.proofs.lemmas.List.Elements.{All-replicate, Contains-append_left, Contains-append_right, Contains-append_cases}
 use Rattle.trace_types.specs.declared.named_segment.NamedSegment.{NamedSegment}
 use Rattle.trace_types.specs.NamedSegments.{number_of_name, number_of_task}
+use Rattle.trace_types.proofs.ListingLemmas.{Contains-nil}
+use Rattle.trace_types.proofs.ElementLemmas.{map_flat_map-more, flat_more}
 use Rattle.view_rows.specs.declared.marks.Marks.{Marks}
 use Rattle.view_rows.specs.inner.Marking.{AddsMarks, AreMarksOf, HaveRoom, IsMarked, MarksMore}
-use Rattle.view_rows.proofs.ElementLemmas.{Contains-nil, map_flat_map-more}
 
 pub adds_none : (marks : List Bool) → AddsMarks [] marks marks
 adds_none marks = record {
@@ -75,16 +76,10 @@ at_map : {X Y : Type 0} (f : X → Y) (o : Option X) (y : Y) → option_map f o 
 at_map f None y e = cc
 at_map f (Some x) y e = (x, refl, cc)
 
--- the lists of one more element
-flat_map_more : {X Y : Type 0} (f : X → List Y) (xs : List X) (i : ℕ) (x : X) → i < length xs → x ≡ get_or xs i x → flat_map f (take (i + 1) xs) ≡ flat_map f (take i xs) ++ f x
-flat_map_more f xs i x lt e =
-    ap (flat_map f) (take_more xs i x lt ∙ ap (λ v. take i xs ++ v ∷ []) (sym e))
-    ∙ flat_map-append f (take i xs) (x ∷ []) ∙ ap (λ l. flat_map f (take i xs) ++ l) (append-nil (f x))
-
 pub lists_more : {X Y : Type 0} (f : X → List Y) (xs : List X) (i : ℕ) (ys : List Y) → option_map f (slice_get xs i) ≡ Some ys → flat_map f (take (i + 1) xs) ≡ flat_map f (take i xs) ++ ys
 lists_more {X} {Y} f xs i ys e =
     let r = at_map f (slice_get xs i) ys e in
-    flat_map_more f xs i r.0 (slice_get_within xs i r.0 r.1) (sym (get_or_from_slice_get xs i r.0 r.0 r.1)) ∙ ap (λ (l : List Y). flat_map f (take i xs) ++ l) r.2
+    flat_more f xs i r.0 (slice_get_within xs i r.0 r.1) (sym (get_or_from_slice_get xs i r.0 r.0 r.1)) ∙ ap (λ (l : List Y). flat_map f (take i xs) ++ l) r.2
 
 pub lists_within : {X Y : Type 0} (f : X → List Y) (xs : List X) (i : ℕ) → length (flat_map f (take i xs)) ≤ length (flat_map f xs)
 lists_within f [] zero = omega arith

@@ -4,10 +4,11 @@ use Rattle.std.specs.declared.cmp.Ordering.TheVariants.{Less}
 use Rattle.std.specs.Cmp.{IsTotalOrder}
 use Rattle.std.specs.List.{AllPairs, Contains, slice_get}
 use Rattle.std.proofs.lemmas.Option.{get_or_from_slice_get}
+use Rattle.trace_types.proofs.ElementLemmas.{at_index}
 use Rattle.view_rows.specs.inner.Growing.{AppendsExactly}
 use Rattle.trace_types.specs.Listing.{ListsExactly}
 use Rattle.trace_types.specs.NameOrder.{pair_cmp}
-use Rattle.view_rows.proofs.ListingLemmas.{get_item, is_item, item_of, text_at, texts_long, texts_of, texts_rise}
+use Rattle.view_rows.proofs.ListingLemmas.{get_item, is_item, text_at, texts_long, texts_of, texts_rise}
 use Rattle.view_rows.proofs.PairLemmas.{IsInRow, IsInRows, row_begun, row_done, row_more, rows_done, rows_more}
 
 module _ {X : Type 0} (cmp : X → X → Ordering) (total : IsTotalOrder cmp) (items : List (X × ℕ)) (rising : AllPairs (λ (i j : X × ℕ). cmp i.0 j.0 ≡ Less) items) (Q : X → X → Type 0) where
@@ -31,7 +32,7 @@ module _ {X : Type 0} (cmp : X → X → Ordering) (total : IsTotalOrder cmp) (i
       → ((first : X × ℕ) → slice_get items at ≡ Some first → AppendsExactly (pair_cmp cmp) (λ (p : X × X). (p.0 ≡ first.0) × Q p.0 p.1) now new)
       → ListsExactly (pair_cmp cmp) (IsInRows Q (take (at + 1) (texts_of items))) new
   rows_step at lt now new so_far row =
-      let f = item_of items at lt in
+      let f = at_index items at lt in
       let e : f.0 ≡ get_or items at f.0 = sym (get_or_from_slice_get items at f.0 f.0 f.1) in
       let inside : at < length (texts_of items) = omega (arith, texts_long items) in
       rows_more cmp total Q (texts_of items) (texts_rise cmp total items rising) at f.0.0 inside (text_at items at f.0 lt e) now new so_far (row f.0 f.1)

@@ -23,18 +23,23 @@ use Rattle.trace_types.specs.Parts.{by_number, segments_of}
 use Rattle.trace_types.specs.Pipelines.{RefutesUnshared}
 use Rattle.trace_types.specs.Refuting.{RefutesApart}
 use Rattle.trace_types.specs.Relations.{ExcludesUnordered, HappensBefore}
-use Rattle.trace_types.specs.Renaming.{Agree, AreRenamed, IsSegmentRenamed, IsTraceRenamed, LeaveAlike}
+use Rattle.trace_types.specs.Renaming.{Agree, IsSegmentRenamed, LeaveAlike}
 use Rattle.trace_types.specs.Segments.{SegmentName, name_of, task_of}
 use Rattle.trace_types.specs.Surviving.{IsRefuted}
 use Rattle.std.specs.Cmp.Lexicographic.{slice_cmp}
 use Rattle.std.specs.Ordering.{nat_cmp}
+use Rattle.trace_types.proofs.ListingLemmas.{name_total}
+use Rattle.trace_types.proofs.ComparingLemmas.{text_total}
+use Rattle.trace_types.proofs.ElementLemmas.{Contains-map, from_map, Contains-flat_map, from_flat_map, Contains-from_get, one_item, one_place}
+use Rattle.trace_types.proofs.ExactLemmas.{ListsExactly-same}
+use Rattle.trace_types.proofs.MatchLemmas.{partner_in}
 use Rattle.view_rows.specs.declared.found_model.FoundModel.{FoundModel}
 use Rattle.view_rows.specs.inner.Found.{IsFound, figures_in}
 use Rattle.view_rows.specs.inner.Listings.{HoldsOfTexts, IsExclusion, IsOrder, IsPipe, ListsMarked, less_always}
 use Rattle.view_rows.specs.inner.Marking.{AreMarksOf}
-use Rattle.view_rows.proofs.ElementLemmas.{AllZip-weaker, Contains-flat_map, Contains-from_get, Contains-map, from_flat_map, from_map, map_zip, zip_left, zip_right}
-use Rattle.view_rows.proofs.ListingLemmas.{one_place, one_text, texts_of, texts_rise}
-use Rattle.view_rows.proofs.ModelOrderLemmas.{ListsExactly-same, less_differs, name_total, text_total}
+use Rattle.view_rows.proofs.ElementLemmas.{map_zip, zip_right}
+use Rattle.view_rows.proofs.ListingLemmas.{texts_of, texts_rise}
+use Rattle.view_rows.proofs.ModelOrderLemmas.{less_differs}
 
 -- ---- the days
 a_trace : (traces : List NamedTrace) → 0 < length traces → (t : NamedTrace) × Contains traces t
@@ -69,9 +74,6 @@ days_counted b is = record {
 }
 
 -- ---- segments by number and by text
-pub are_renamed : (known : Known) (traces : List NamedTrace) (kept : List Kept) → AreShown known traces kept → AreRenamed by_number by_kept (enumerate_from 0 known.names) (enumerate_from 0 known.tasks) traces kept
-are_renamed known traces kept shown = AllZip-weaker (IsShown known) (IsTraceRenamed by_number by_kept (enumerate_from 0 known.names) (enumerate_from 0 known.tasks)) (λ t k s. s.renamed) traces kept shown
-
 -- the segment by text has the name and the task of these numbers
 abbrev Matches : Known → NamedSegment → Segment → Type 0
 Matches known s x = Contains (enumerate_from 0 known.names) (number_of_name s, name_of x) × Contains (enumerate_from 0 known.tasks) (number_of_task s, task_of x)
@@ -80,8 +82,8 @@ module _ (known : Known) (traces : List NamedTrace) (kept : List Kept) (shown : 
   segment_left : (s : NamedSegment) → Contains (segments_of by_number traces) s → (x : Segment) × Contains (segments_of by_kept kept) x × Matches known s x
   segment_left s c =
       let r = from_flat_map (λ (t : NamedTrace). t.segments) traces s c in
-      let z = zip_left (IsShown known) traces kept shown r.0 r.1 in
-      let w = zip_left (IsSegmentRenamed by_number by_kept (enumerate_from 0 known.names) (enumerate_from 0 known.tasks) z.2.renamed.elements) r.0.segments z.0.trace.segments z.2.renamed.segments s r.2 in
+      let z = partner_in (IsShown known) traces kept shown r.0 r.1 in
+      let w = partner_in (IsSegmentRenamed by_number by_kept (enumerate_from 0 known.names) (enumerate_from 0 known.tasks) z.2.renamed.elements) r.0.segments z.0.trace.segments z.2.renamed.segments s r.2 in
       (w.0, Contains-flat_map (λ (k : Kept). k.trace.segments) kept z.0 w.0 z.1 w.1, (w.2.name, w.2.task))
 
   segment_right : (x : Segment) → Contains (segments_of by_kept kept) x → (s : NamedSegment) × Contains (segments_of by_number traces) s × Matches known s x
@@ -102,7 +104,7 @@ module _ {X : Type 0} (texts : List X) (number : NamedSegment → ℕ) (text : S
       let r = from_map number segments a ((marked a).0 e.1) in
       let l = left r.0 r.1 in
       let at : slice_get texts a ≡ Some (text l.0) = subst (λ (k : ℕ). slice_get texts k ≡ Some (text l.0)) r.2 l.2 in
-      Contains-map text others l.0 x l.1 (one_text texts a (text l.0) x at e.0)
+      Contains-map text others l.0 x l.1 (one_item texts a (text l.0) x at e.0)
 
   occurs_item : (x : X) → Contains (map text others) x → (a : ℕ) × Contains items (x, a)
   occurs_item x c =
@@ -209,7 +211,7 @@ module _ (known : Known) (b : BookState) (m : FoundModel) (kept : List Kept) (is
           survives = (leave.pipe.survives k l v w ck cl).0 h.survives;
         }),
         (λ h. record {
-          differ = λ e. h.differ (one_text known.tasks l v w (subst (λ (n : ℕ). slice_get known.tasks n ≡ Some v) e p) q);
+          differ = λ e. h.differ (one_item known.tasks l v w (subst (λ (n : ℕ). slice_get known.tasks n ≡ Some v) e p) q);
           shared = (leave.unshared.refuted k l v w ck cl).1 h.shared;
           survives = (leave.pipe.survives k l v w ck cl).1 h.survives;
         }),

@@ -7,11 +7,12 @@ use Rattle.std.specs.Ordering.{ordering_then}
 use Rattle.std.proofs.lemmas.Bool.{false≢true}
 use Rattle.std.proofs.lemmas.Cmp.{tied_itself}
 use Rattle.std.proofs.lemmas.List.{append_assoc, append-nil, take_all}
+use Rattle.trace_types.proofs.ListingLemmas.{Contains-nil}
+use Rattle.trace_types.proofs.ElementLemmas.{Contains-more, Contains-before, Contains-now, before_place}
+use Rattle.trace_types.proofs.ExactLemmas.{ListsExactly-same, ListsExactly-nil, ListsExactly-one, ListsExactly-append}
 use Rattle.view_rows.specs.inner.Growing.{AppendsExactly}
 use Rattle.trace_types.specs.Listing.{ListsExactly}
 use Rattle.trace_types.specs.NameOrder.{pair_cmp}
-use Rattle.view_rows.proofs.ElementLemmas.{Contains-nil, Contains-more, Contains-before, Contains-now, before_place}
-use Rattle.view_rows.proofs.ModelOrderLemmas.{ListsExactly-same, ListsExactly-nil, ListsExactly-one, ListsExactly-append}
 
 -- the pair has Q, this first text and one of these second texts
 abbrev pub IsInRow : {X : Type 0} → (X → X → Type 0) → X → List X → X × X → Type 0

@@ -29,11 +29,12 @@ use Rattle.trace_types.specs.declared.segment.Segment.{Segment}
 use Rattle.trace_types.specs.NameOrder.{name_cmp}
 use Rattle.trace_types.specs.Parts.{by_number, segments_of}
 use Rattle.trace_types.specs.Segments.{SegmentName}
+use Rattle.trace_types.proofs.ElementLemmas.{map_twice}
 use Rattle.view_rows.specs.inner.NumberedTexts.{latency_row, report_head, segment_row, tail_head, tail_row}
 use Rattle.view_rows.specs.inner.ShownPaths.{ArePathsShown, AreSegmentsShown, PathsAreShown}
 use Rattle.view_rows.specs.inner.ShownReports.{AreReportTexts, AreTailTexts}
 use Rattle.view_rows.proofs.DurationLemmas.{counts_shown, durations_shown, lengths_shown, times_shown}
-use Rattle.view_rows.proofs.ListLemmas.{All-unmap, map_twice}
+use Rattle.view_rows.proofs.ListLemmas.{All-unmap}
 use Rattle.view_rows.proofs.ReportNameLemmas.{AreListedInOneWay, names_told, number_within}
 use Rattle.view_rows.proofs.ReportPathLemmas.{IsMatched, all_segments_shown}
 use Rattle.view_rows.proofs.ReportZipLemmas.{zip_map, zip_marked, zip_unmarked}

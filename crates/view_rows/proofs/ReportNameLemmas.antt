@@ -20,11 +20,13 @@ use Rattle.trace_types.specs.NamedSegments.{number_of_name}
 use Rattle.trace_types.specs.NameOrder.{name_cmp}
 use Rattle.trace_types.specs.Parts.{by_number, segments_of}
 use Rattle.trace_types.specs.Segments.{SegmentName, name_of}
+use Rattle.trace_types.proofs.ElementLemmas.{Contains-map, from_map, from_flat_map}
+use Rattle.trace_types.proofs.MatchLemmas.{partner_in}
 use Rattle.view_rows.specs.inner.ShownPaths.{AreSegmentsShown, IsSegmentShown}
 use Rattle.view_rows.specs.inner.ShownReports.{NamesAreBelow}
 use Rattle.view_rows.proofs.DurationLemmas.{name_shown}
 use Rattle.view_rows.proofs.ListLemmas.{All-unmap}
-use Rattle.view_rows.proofs.ElementLemmas.{Contains-map, from_flat_map, from_map, zip_left, zip_right}
+use Rattle.view_rows.proofs.ElementLemmas.{zip_right}
 
 -- elements are listed in rising order in one way
 abbrev pub AreListedInOneWay : Type 0
@@ -38,7 +40,7 @@ module _ (known : Known) (traces : List NamedTrace) (kept : List Kept) (shown : 
   pub number_within : (n : ℕ) → Contains ns n → n < length known.names
   number_within n c =
       let s = from_map number_of_name (segments_of by_number traces) n ((told.exactly n).0 c) in
-      let x = zip_left (IsSegmentShown known) (segments_of by_number traces) (segments_of by_kept kept) shown s.0 s.1 in
+      let x = partner_in (IsSegmentShown known) (segments_of by_number traces) (segments_of by_kept kept) shown s.0 s.1 in
       subst (λ (m : ℕ). m < length known.names) s.2 (slice_get_within known.names (number_of_name s.0) (name_of x.0) x.2.name)
 
   module _ (names : List SegmentName) (are : texts.AreKeptNames kept names) where
@@ -54,7 +56,7 @@ module _ (known : Known) (traces : List NamedTrace) (kept : List Kept) (shown : 
     name_listed x c =
         let n = from_map (name_with_number known.names) ns x c in
         let s = from_map number_of_name (segments_of by_number traces) n.0 ((told.exactly n.0).0 n.1) in
-        let y = zip_left (IsSegmentShown known) (segments_of by_number traces) (segments_of by_kept kept) shown s.0 s.1 in
+        let y = partner_in (IsSegmentShown known) (segments_of by_number traces) (segments_of by_kept kept) shown s.0 s.1 in
         (are.exactly x).1 (Contains-map name_of (segments_of by_kept kept) y.0 x y.1 (sym (name_shown known s.0 y.0 y.2) ∙ (ap (name_with_number known.names) s.2 ∙ n.2)))
 
     name_numbered : (x : SegmentName) → Contains names x → Contains (map (name_with_number known.names) ns) x

@@ -10,7 +10,7 @@ use Rattle.text_rows.specs.TextsOfParts.{PrintsPart, PrintsTexts}
 use Rattle.text_rows.specs.declared.print_fault.PrintFault.{PrintFault}
 use Rattle.text_rows.specs.declared.print_fault.PrintFault.TheVariants.{Memory}
 use Rattle.trace_types.specs.Segments.{SegmentName}
-use Rattle.view_rows.proofs.ListLemmas.{map_twice}
+use Rattle.trace_types.proofs.ElementLemmas.{map_twice}
 
 -- nothing went wrong
 abbrev pub done : Result (Unit {0}) PrintFault

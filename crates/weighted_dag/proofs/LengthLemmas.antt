@@ -1,11 +1,11 @@
 -- The greatest lengths of chains that begin with a vertex, from those of its successors.
 use Rattle.std.proofs.Common.{◌≡◌, ◌≢◌, ℕ, ◌+◌, ◌-◌, ◌<◌, ◌≤◌, List, [], ◌∷◌, length, get_or, set, take, drop, sum, max, All, Contains, ◌⊎◌, inl, inr, ⊎_elim, sym, ap, ◌∙◌, subst, arith, get_or-set_same, get_or-set_other, length-set}
 use Rattle.std.proofs.lemmas.Bool.{cases_lt, cases_eq}
-use Rattle.std.proofs.lemmas.List.Elements.{All-contains, All-weaker, All-more, Contains-get_or}
+use Rattle.std.proofs.lemmas.List.Elements.{All-contains, All-weaker, All-more, Contains-get_or, All-nil, All-cons}
 use Rattle.std.proofs.lemmas.List.Sums.{sum_by-cons, sum_by-drop_more, sum_by-take-drop}
 use Rattle.std.proofs.lemmas.List.{drop-drop}
 use Rattle.weighted_dag.specs.Graphs.{Graph, IsGraph, IsEdge, order_of, weight_of, successors_of, with_weights}
-use Rattle.weighted_dag.specs.Chains.{IsChain, AllAreShorter, IsLongestFrom, IsLongestLength, chain_length}
+use Rattle.weighted_dag.specs.Chains.{IsChain, AllAreShorter, IsLongestFrom, IsLongestLength, chain_length, NoneIsLonger, IsLongest}
 
 -- the numbers of the vertices from v on are their greatest lengths, and most is the greatest of them
 pub record IsKnownFrom (g : Graph) (v : ℕ) (lengths : List ℕ) (most : ℕ) : Type 0 where
@@ -162,3 +162,16 @@ IsLongestLength-known g v lengths most zero known = ⊎_elim
         let low = (known.from x (omega arith) h.0).none_longer c h in
         let high = known.upper x (omega arith) h.0 in
         omega arith
+
+-- no chain is longer than the longest length
+pub none_longer_than : (g : Graph) (most : ℕ) → IsLongestLength g most → NoneIsLonger g most
+none_longer_than g most longest c h =
+    let best : IsLongest g longest.0 = longest.1 in
+    let is : chain_length g longest.0 ≡ most = longest.2 in
+    let up = best.none_longer c h in
+    omega arith
+
+-- the vertices of a chain are vertices, and they rise
+pub chain_within : (g : Graph) (c : List ℕ) → IsChain g c → All (λ v. v < order_of g) c
+chain_within g [] chain = All-nil (λ v. v < order_of g)
+chain_within g (v ∷ c) chain = All-cons (λ u. u < order_of g) v c chain.0 (chain_within g c chain.2)

@@ -1,9 +1,10 @@
 -- Weights under changes.
-use Rattle.std.proofs.Common.{◌≡◌, ℕ, ◌+◌, ◌*◌, ◌/◌, ◌<◌, ◌≤◌, Bool, true, false, cond, eqb, List, [], ◌∷◌, length, get_or, slice_get, Some, All, Contains, arith, refl, sym, ap, ◌∙◌, subst, ⊎_elim}
+use Rattle.std.proofs.Common.{ℕ, ◌+◌, ◌*◌, ◌/◌, ◌<◌, ◌≤◌, Bool, true, false, cond, eqb, List, [], ◌∷◌, length, get_or, All, Contains, arith, refl, sym, ap, ◌∙◌, subst}
 use Rattle.std.proofs.Math.Nat.{div-le_of_le-mul, mul_comm, mul-le-mul_left}
 use Rattle.std.proofs.lemmas.List.Elements.{All-head, All-tail, Contains-get_or}
-use Rattle.std.proofs.lemmas.Option.{slice_get-get_or, slice_get_cases}
+use Rattle.std.proofs.lemmas.Option.{slice_get-get_or}
 use Rattle.trace_types.specs.declared.named_segment.NamedSegment.{NamedSegment}
+use Rattle.trace_types.proofs.ElementLemmas.{at_index}
 use Rattle.what_if.specs.declared.change.Change.{Change}
 use Rattle.what_if.specs.Forecasts.{changed_time}
 use Rattle.what_if.specs.ForecastLaws.{ChangesRaiseNoWeight, GraphHasSegments, IsNoGreater}
@@ -25,12 +26,6 @@ changed_le (c ∷ cs) name time less = go (changed_le cs name time (All-tail IsN
     go : changed_time cs name time ≤ time → (b : Bool) → cond b (time * c.num / c.den) (changed_time cs name time) ≤ time
     go rest true = part_le time c.num c.den (All-head IsNoGreater c cs less).1
     go rest false = rest
-
-at_index : {X : Type 0} (xs : List X) (i : ℕ) → i < length xs → (x : X) × (slice_get xs i ≡ Some x)
-at_index xs i lt = ⊎_elim
-    (λ (x, within, got, read). (x, got))
-    (λ (past, none). absurd (omega arith))
-    (slice_get_cases xs i).1
 
 pub changes_raise_no_weight : ChangesRaiseNoWeight
 changes_raise_no_weight segments order changes g weights has less are = record {

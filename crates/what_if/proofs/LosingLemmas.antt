@@ -9,6 +9,7 @@ use Rattle.std.proofs.lemmas.List.Sums.{sum_by-cons}
 use Rattle.weighted_dag.specs.Chains.{IsChain, IsLongestLength, LeadsTo, chain_length}
 use Rattle.weighted_dag.specs.Graphs.{Graph, IsEdge, IsGraph, order_of, weight_of, with_weights}
 use Rattle.weighted_dag.specs.Slacks.{IsSlack, KeepsLongest, raised}
+use Rattle.weighted_dag.proofs.LengthLemmas.{chain_within}
 use Rattle.what_if.specs.ForecastLaws.{AreNoGreater, LosesNoMore, SlackLosesNothing, all_lost}
 
 -- the weight of a vertex by a list
@@ -48,11 +49,6 @@ sum_plus f k (v ∷ c) =
     let b = sum_by-cons k v c in
     let d = sum_by-cons (λ u. f u + k u) v c in
     omega arith
-
--- the vertices of a chain are vertices, and they rise
-chain_within : (g : Graph) (c : List ℕ) → IsChain g c → All (λ v. v < order_of g) c
-chain_within g [] chain = All-nil (λ v. v < order_of g)
-chain_within g (v ∷ c) chain = All-cons (λ u. u < order_of g) v c chain.0 (chain_within g c chain.2)
 
 -- numbers from k on, each above the one before it and below n
 abbrev Rises : ℕ → ℕ → List ℕ → Type 0

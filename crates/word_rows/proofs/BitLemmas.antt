@@ -84,7 +84,7 @@ kept_bit n m b hm h =
     (λ (f : (y == 1) ≡ false). let o = eqb-false y 1 f in e ∙ (let z : min x (1 - y) ≡ x = omega arith in z) ∙ sym (cond-false _ 0 x f))
     (cases_Bool (y == 1))
 
-cond_or : (c d : Bool) (x : ℕ) → cond d 0 (cond c 0 x) ≡ cond (c || d) 0 x
+pub cond_or : (c d : Bool) (x : ℕ) → cond d 0 (cond c 0 x) ≡ cond (c || d) 0 x
 cond_or true true x = refl
 cond_or true false x = refl
 cond_or false true x = refl

@@ -34,7 +34,7 @@ lacks_below n (r ∷ rs) i b t c = let p = and_parts (nat_lt r.word n) (readings
     (λ (o : lacks rs i b ≡ true). lacks_below n rs i b p.1 o)
     (or_cases ((r.word == i) && (bit_at r.value b == 0)) (lacks rs i b) c)
 
-one_bit : (x : ℕ) → x < 2 → (x ≡ 0 → ⊥) → x ≡ 1
+pub one_bit : (x : ℕ) → x < 2 → (x ≡ 0 → ⊥) → x ≡ 1
 one_bit x h n = omega arith
 
 module _ (words : List ℕ) (all : ℕ) (views : List View) (id : ℕ) (v : View) (s : IsSound words all views) (at : get_elem? views id ≡ some v) (rests : IsTrue (is_idle v)) (whole : all ≤ v.shares) where

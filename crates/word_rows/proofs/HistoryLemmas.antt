@@ -1,11 +1,13 @@
 -- What stays along a history: bits that are 0, and rows that are done.
-use Rattle.std.proofs.Common.{◌≡◌, ◌≢◌, ℕ, zero, suc, ◌+◌, ◌<◌, Bool, true, false, not, ◌||◌, ◌==◌, cond, List, [], ◌∷◌, ◌++◌, length, get_or, set, map, sym, refl, ap, ◌∙◌, subst, ⊎_elim, arith, length-set, length-append}
+use Rattle.std.proofs.Common.{◌≡◌, ◌≢◌, ℕ, zero, suc, ◌+◌, ◌<◌, Bool, true, false, not, ◌||◌, ◌==◌, List, [], ◌∷◌, ◌++◌, length, get_or, set, map, sym, refl, ap, ◌∙◌, subst, ⊎_elim, length-set, length-append}
 use Rattle.std.specs.Prelude.{Option, Some, None, Contains}
 use Rattle.std.proofs.lemmas.Bool.{cases_eq, cond_both, not-false, eqb-false, or_parts}
 use Rattle.std.proofs.lemmas.List.{length-map, length-replicate}
 use Rattle.std.proofs.lemmas.List.Elements.{Contains-append_left, Contains-append_right}
 use mathlib.Core.Option.{some, some-injective, some-ne-none}
 use lib.ListN.{get_elem?}
+use Rattle.word_rows.specs.declared.events.StepEvent.{StepEvent}
+use Rattle.word_rows.proofs.MachineLemmas.{passed, live_inside}
 use Rattle.word_rows.specs.declared.entries.Entry.{Entry}
 use Rattle.word_rows.specs.declared.views.View.{View}
 use Rattle.word_rows.specs.Words.{bit_of, full_words}
@@ -16,7 +18,7 @@ use Rattle.word_rows.proofs.BitLemmas.{bit_stays}
 use Rattle.word_rows.proofs.ViewLemmas.{at_longer, at_index, put_here, set_else}
 
 -- the state after more events is the one after them from where the first ones led
-steps_follow : (s : StepState) (es fs : List StepEvent) → (steps s (es ++ fs)).0 ≡ (steps (steps s es).0 fs).0
+pub steps_follow : (s : StepState) (es fs : List StepEvent) → (steps s (es ++ fs)).0 ≡ (steps (steps s es).0 fs).0
 steps_follow s [] fs = refl
 steps_follow s (e ∷ es) fs = steps_follow (step s e).0 es fs
 
@@ -83,15 +85,6 @@ view_is [] id v d e = absurd (some-ne-none v (sym e))
 view_is (x ∷ xs) zero v d e = some-injective x v e
 view_is (x ∷ xs) (suc id) v d e = view_is xs id v d e
 
-live_inside : (l : List Bool) (i : ℕ) → get_or l i false ≡ true → i < length l
-live_inside [] i t = cc
-live_inside (b ∷ bs) zero t = omega arith
-live_inside (b ∷ bs) (suc i) t = let h = live_inside bs i t in omega arith
-
-passed : (b : Bool) (fault : Fault) (next : Option Fault) → ◌≡◌ {A = Option Fault} (cond b (Some fault) next) None → (b ≡ false) × (next ≡ None)
-passed true fault next e = cc
-passed false fault next e = (refl, e)
-
 -- a view that is set keeps the done rows of the one before
 done_set : (views : List View) (seat : ℕ) (w : View) (row : List Entry) → ((v : View) → get_elem? views seat ≡ some v → Contains v.done row → Contains w.done row) → IsDone views row → IsDone (set views seat w) row
 done_set views seat w row more (id, v, at, has) = ⊎_elim
@@ -146,3 +139,7 @@ pub done_stays : DoneStays
 done_stays width all events more row d =
     subst (λ (s : StepState). IsDone s.views row) (sym (steps_follow (opening_state width all) events more))
     (steps_done (after width all events).0 more row (steps_seats (opening_state width all) events refl) d)
+
+pub steps_snoc : (s : StepState) (es : List StepEvent) (e : StepEvent) → (steps s (es ++ e ∷ [])).0 ≡ (step (steps s es).0 e).0
+steps_snoc s [] e = refl
+steps_snoc s (d ∷ ds) e = steps_snoc (step s d).0 ds e

@@ -20,7 +20,7 @@ use Rattle.word_rows.proofs.LoadLemmas.{load_keeps}
 use Rattle.word_rows.proofs.ShareLemmas.{split_keeps, join_keeps}
 use Rattle.word_rows.proofs.OpeningLemmas.{full_bound, opening_sound}
 
-live_inside : (l : List Bool) (i : ℕ) → get_or l i false ≡ true → i < length l
+pub live_inside : (l : List Bool) (i : ℕ) → get_or l i false ≡ true → i < length l
 live_inside [] i t = absurd (false≢true t)
 live_inside (b ∷ bs) zero t = omega arith
 live_inside (b ∷ bs) (suc i) t = let h = live_inside bs i t in omega arith
@@ -41,7 +41,7 @@ goes_from v row p r o = let long = row_long row r in
     (or_cases _ _ o)
 
 -- a test that finds no fault is false, and so are those after it
-passed : (b : Bool) (fault : Fault) (next : Option Fault) → ◌≡◌ {A = Option Fault} (cond b (Some fault) next) None → (b ≡ false) × (next ≡ None)
+pub passed : (b : Bool) (fault : Fault) (next : Option Fault) → ◌≡◌ {A = Option Fault} (cond b (Some fault) next) None → (b ≡ false) × (next ≡ None)
 passed true fault next e = cc
 passed false fault next e = (refl, e)
 

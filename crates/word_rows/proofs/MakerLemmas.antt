@@ -72,7 +72,7 @@ none_adds old word mask z i b = sym (ap (λ (y : Bool). clears old i b || ((word
     none false false = refl
 
 -- a bit of two masks together
-either_bit : (m mask b : ℕ) → (bit_at (bit_or m mask) b == 1) ≡ ((bit_at m b == 1) || (bit_at mask b == 1))
+pub either_bit : (m mask b : ℕ) → (bit_at (bit_or m mask) b == 1) ≡ ((bit_at m b == 1) || (bit_at mask b == 1))
 either_bit m mask b = ap (λ (k : ℕ). k == 1) (bit_at_or m mask b) ∙ by (bit_at m b) (bit_at mask b) (bit_at-lt m b) (bit_at-lt mask b)
   where
     by : (x y : ℕ) → x < 2 → y < 2 → (max x y == 1) ≡ ((x == 1) || (y == 1))

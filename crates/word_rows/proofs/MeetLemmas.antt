@@ -6,6 +6,7 @@ use Rattle.std.proofs.lemmas.List.Folds.{list_any-append}
 use Rattle.std.proofs.lemmas.List.Sorted.{list_any-IsPermutation}
 use Rattle.std.proofs.lemmas.Nat.Bits.{same_from_bits_below, bit_at_and}
 use Rattle.std.specs.Int.{bit_at}
+use Rattle.word_rows.proofs.BitLemmas.{cond_or}
 use Rattle.word_rows.specs.declared.entries.Entry.{Entry}
 use Rattle.word_rows.specs.Rows.{entry_clears, clears, rows_clear, below, rows_below}
 use Rattle.word_rows.specs.Words.{bit_of, full_words}
@@ -13,12 +14,6 @@ use Rattle.word_rows.specs.Meeting.{BelowWider, ClearsBelow, OrderIsFree, MeetIs
 
 cond_at : (c d : Bool) (x : ℕ) → c ≡ d → cond c 0 x ≡ cond d 0 x
 cond_at c d x e = ap (λ (t : Bool). cond t 0 x) e
-
-cond_twice : (c d : Bool) (x : ℕ) → cond d 0 (cond c 0 x) ≡ cond (c || d) 0 x
-cond_twice true true x = refl
-cond_twice true false x = refl
-cond_twice false true x = refl
-cond_twice false false x = refl
 
 cond_least : (c d : Bool) (x : ℕ) → min (cond c 0 x) (cond d 0 x) ≡ cond (c || d) 0 x
 cond_least true true x = omega arith
@@ -46,7 +41,7 @@ pub meets_follow : MeetsFollow
 meets_follow words met more rows others m n = record {
   width = n.width ∙ m.width;
   bits = λ i b h l. n.bits i b (subst (λ (k : ℕ). i < k) (sym m.width) h) l ∙ ap (λ (x : ℕ). cond (rows_clear others i b) 0 x) (m.bits i b h l)
-      ∙ cond_twice (rows_clear rows i b) (rows_clear others i b) (bit_of words i b)
+      ∙ cond_or (rows_clear rows i b) (rows_clear others i b) (bit_of words i b)
       ∙ cond_at _ _ (bit_of words i b) (sym (list_any-append (λ (row : List Entry). clears row i b) rows others));
 }
 

@@ -19,7 +19,7 @@ full_length width = length-replicate width 18446744073709551615
 pub full_bound : (width : ℕ) → AreWords (full_words width)
 full_bound width i h = subst (λ (n : ℕ). n < 2 ^ 64) (sym (get_or-replicate width i 18446744073709551615 0 (subst (λ (n : ℕ). i < n) (full_length width) h))) (lit< tt)
 
-one_not_zero : (n : ℕ) → n ≡ 1 → n ≡ 0 → ⊥
+pub one_not_zero : (n : ℕ) → n ≡ 1 → n ≡ 0 → ⊥
 one_not_zero n e z = omega arith
 
 pub opening_sound : (width all : ℕ) → IsSound (full_words width) all (first_view all ∷ [])

@@ -1,9 +1,9 @@
 -- The form of a row, entry by entry.
-use Rattle.std.proofs.Common.{◌≡◌, ℕ, ◌+◌, ◌<◌, ◌≤◌, Bool, true, false, not, ◌&&◌, ◌==◌, nat_lt, List, [], ◌∷◌, length, map, sym, refl, ap, ◌∙◌, arith}
+use Rattle.std.proofs.Common.{◌≡◌, ℕ, ◌+◌, ◌<◌, ◌≤◌, Bool, true, false, not, ◌&&◌, ◌==◌, nat_lt, List, [], ◌∷◌, length, map, sym, refl, ap, ◌∙◌, arith, zero, suc, get_or}
 use Rattle.std.proofs.lemmas.Bool.{false≢true, eq-eqb, eqb-true, lt-ltb, le-ltb, ltb-true, ltb-false, and_parts, and_from, not_from_false, not-true}
 use Rattle.std.specs.List.{list_all}
 use Rattle.word_rows.specs.declared.entries.Entry.{Entry}
-use Rattle.word_rows.specs.Rows.{is_rising, is_ascending, is_row, same_entry, same_row}
+use Rattle.word_rows.specs.Rows.{is_rising, is_ascending, is_row, same_entry, same_row, below}
 use Rattle.word_rows.specs.Meeting.{SameRowIsOne, RowIsSame}
 
 -- a row has an entry
@@ -84,3 +84,9 @@ same_row_is_one (x ∷ xs) (y ∷ ys) t =
 pub row_is_same : RowIsSame
 row_is_same [] = refl
 row_is_same (e ∷ es) = and_from _ _ (and_from _ _ (eq-eqb e.word e.word refl) (eq-eqb e.mask e.mask refl)) (row_is_same es)
+
+-- an entry of the row names a word of the table
+pub entry_below : (width : ℕ) (row : List Entry) (i : ℕ) (d : Entry) → below width row ≡ true → i < length row → (get_or row i d).word < width
+entry_below width [] i d b h = absurd (omega arith)
+entry_below width (e ∷ es) zero d b h = ltb-true _ _ (and_parts (nat_lt e.word width) (below width es) b).0
+entry_below width (e ∷ es) (suc i) d b h = entry_below width es i d (and_parts (nat_lt e.word width) (below width es) b).1 (omega arith)

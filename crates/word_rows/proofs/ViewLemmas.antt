@@ -51,7 +51,7 @@ module _ {A : Type 0} where
   at_index (x ∷ xs) (suc i) d h = at_index xs i d (omega arith)
 
 -- ---- a view with no row in progress
-no_entry : (row : List Entry) → (length row == 0) ≡ true → row ≡ []
+pub no_entry : (row : List Entry) → (length row == 0) ≡ true → row ≡ []
 no_entry [] t = refl
 no_entry (e ∷ es) t = let z = eqb-true (length (e ∷ es)) 0 t in absurd (omega arith)
 

@@ -6,7 +6,7 @@ use Rattle.word_rows.specs.declared.views.View.{View}
 use Rattle.word_rows.specs.Changes.{is_idle, finished_view, midway_view, next_view}
 use Rattle.word_rows.specs.Machine.{can_clear}
 use Rattle.word_rows.specs.Meeting.{RowIsSame}
-use Rattle.word_rule.proofs.ListLemmas.{idle_row, idle_cleared}
+use Rattle.word_rows.proofs.ViewLemmas.{idle_cleared, idle_row}
 use Rattle.word_rule.specs.Histories.{offered_until}
 
 module _ (same_row-refl : RowIsSame) (v : View) (row : List Entry) (rests : is_idle v ≡ true) where

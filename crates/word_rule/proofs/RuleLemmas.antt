@@ -24,14 +24,16 @@ use Rattle.word_rows.specs.Sound.{IsSound}
 use Rattle.word_rows.specs.Machine.{StepState, Fault, IsSoundState, HasRow, can_clear, is_live, entry_at, opening_state, after, step}
 use Rattle.word_rows.specs.Meeting.{ComplementClears}
 use Rattle.word_rows.specs.Keeping.{EventsKeepSound, WholeShareKnowsAll, KnowsAll}
+use Rattle.word_rows.proofs.ViewLemmas.{each_set, each_snoc}
+use Rattle.word_rows.proofs.HistoryLemmas.{steps_snoc}
 use Rattle.word_rule.specs.declared.rule.Plan.{Plan}
 use Rattle.word_rule.specs.declared.rule.Knowledge.{Knowledge}
 use Rattle.word_rule.specs.Shown.{shows}
 use Rattle.word_rule.specs.Histories.{ArePrefixes, IsStepBetween, KnowsMore, IsOnePast, EndsWith}
 use Rattle.word_rule.specs.Rule.{view_of, is_seated, machine_state, HasHistory}
 use Rattle.word_rule.specs.Plays.{Clears, ClearPlay, SkipPlay, LoadPlay, TellPlay, left_knowledge, new_knowledge, joined_knowledge, no_knowledge}
-use Rattle.word_rule.proofs.ListLemmas.{at_or, at_inside, each_set, each_snoc}
-use Rattle.word_rule.proofs.StepLemmas.{steps_snoc, rows_snoc, clear_step, load_step, split_step, join_step, close_step}
+use Rattle.word_rule.proofs.ListLemmas.{at_or, at_inside}
+use Rattle.word_rule.proofs.StepLemmas.{rows_snoc, clear_step, load_step, split_step, join_step, close_step}
 use Rattle.word_rule.proofs.PastLemmas.{all_more, all_both, all_longer, prefix_through, prefix_itself}
 
 -- ---- views, and which seats are live

@@ -13,14 +13,11 @@ use Rattle.word_rows.specs.declared.replies.Reply.TheVariants.{Cleared, Loaded, 
 use Rattle.word_rows.specs.Rows.{below}
 use Rattle.word_rows.specs.Words.{without_entry}
 use Rattle.word_rows.specs.Changes.{is_idle, next_view, with_reading, left_view, new_view, joined_view, empty_view}
-use Rattle.word_rows.specs.Machine.{StepState, Fault, HasRow, HaveRows, no_seat, row_open, bad_share, bad_word, shares_out, step, steps, fault_of, outcome, view_at, is_live, can_clear, entry_at}
+use Rattle.word_rows.specs.Machine.{StepState, Fault, HasRow, HaveRows, no_seat, row_open, bad_share, bad_word, shares_out, step, fault_of, outcome, view_at, is_live, can_clear, entry_at}
+use Rattle.word_rows.proofs.MachineLemmas.{passed}
 use Rattle.word_rule.proofs.ListLemmas.{at_or}
 
 -- ---- lists of events
-pub steps_snoc : (s : StepState) (es : List StepEvent) (e : StepEvent) → (steps s (es ++ e ∷ [])).0 ≡ (step (steps s es).0 e).0
-steps_snoc s [] e = refl
-steps_snoc s (d ∷ ds) e = steps_snoc (step s d).0 ds e
-
 pub rows_snoc : (es : List StepEvent) (e : StepEvent) → HaveRows es → HasRow e → HaveRows (es ++ e ∷ [])
 rows_snoc [] e h r = (r, tt)
 rows_snoc (d ∷ ds) e h r = (h.0, rows_snoc ds e h.1 r)
@@ -103,11 +100,6 @@ module _ (m : StepState) (id : ℕ) (v : View) (has : get_elem? m.views id ≡ s
   close_step i whole = ap (outcome m (close id)) (close_fits i whole)
 
 -- ---- what a reply tells
--- a test that finds no fault is false, and so are those after it
-passed : (b : Bool) (fault : Fault) (next : Option Fault) → ◌≡◌ {A = Option Fault} (cond b (Some fault) next) None → (b ≡ false) × (next ≡ None)
-passed true fault next e = cc
-passed false fault next e = (refl, e)
-
 abbrev value_of : Result Reply Fault → ℕ
 value_of (Ok (Loaded n)) = n
 value_of r = 0

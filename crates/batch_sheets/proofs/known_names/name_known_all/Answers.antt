@@ -6,11 +6,11 @@ use Rattle.event_table.specs.Texts.{TextLists}
 use Rattle.segment_cut.specs.NumberedCuts.{NumberedCut}
 use Rattle.segment_names.specs.Namers.{NamesBy}
 use Rattle.trace_types.specs.declared.trace.Trace.{Trace}
+use Rattle.trace_types.proofs.ElementLemmas.{all_middle}
+use Rattle.trace_types.proofs.ZipLemmas.{zip_push}
 use Rattle.batch_sheets.specs.Named.{cut_trace}
 use Rattle.batch_sheets.specs.inner.Growth.{IsNamedOrNew, IsToBeNamed}
 use Rattle.batch_sheets.proofs.CutLemmas.{traces_next}
-use Rattle.batch_sheets.proofs.DayLemmas.{all_middle}
-use Rattle.batch_sheets.proofs.ZipLemmas.{zip_more}
 use Rattle.batch_sheets.proofs.known_names.name_known_all.Goals as goal
 
 pub name_known-requires-clause-given : goal.name_known-requires-clause-given
@@ -41,5 +41,5 @@ loop-trace-preserved c =
           omega arith;
       known = known;
       texts = ap (λ (n : NamesBy). n.texts) now.unchanged ∙ at.invariant.texts;
-      named = rw c.in_ok-push.ensures.items (subst (λ (l : List Trace). AllZip is l (at.list.items ++ c.in_ok-name_known.field-0 ∷ [])) (sym (traces_next at.yielded trace)) (zip_more is (map cut_trace at.yielded) at.list.items (cut_trace trace) c.in_ok-name_known.field-0 at.invariant.named one));
+      named = rw c.in_ok-push.ensures.items (subst (λ (l : List Trace). AllZip is l (at.list.items ++ c.in_ok-name_known.field-0 ∷ [])) (sym (traces_next at.yielded trace)) (zip_push is (map cut_trace at.yielded) at.list.items (cut_trace trace) c.in_ok-name_known.field-0 at.invariant.named one));
     }

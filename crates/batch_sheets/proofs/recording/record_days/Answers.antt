@@ -1,7 +1,7 @@
 use Rattle.std.proofs.Common.{◌≡◌, ◌∷◌, [], ◌∙◌, length, ap, append_assoc, arith}
 use Rattle.std.specs.Vec.Iter.{into_iter_items}
+use Rattle.trace_types.proofs.ZipLemmas.{zip_push}
 use Rattle.batch_sheets.specs.Recorded.{AreLinesOfDay, IsSheetOfDay}
-use Rattle.batch_sheets.proofs.ZipLemmas.{zip_more}
 use Rattle.batch_sheets.proofs.recording.record_days.Goals as goal
 
 pub loop-traces-preserved : goal.loop-traces-preserved
@@ -17,7 +17,7 @@ loop-traces-preserved g c =
           let short = ap length steps in
           omega arith;
       recorded = record {
-        all_sheets = rw c.in_ok-push.ensures.items (zip_more (IsSheetOfDay c.args.names) at.yielded at.sheets.items split one.sheet at.invariant.recorded.all_sheets c.in_ok-recorded.ensures.sheet);
-        all_lines = rw c.in_ok-push-2.ensures.items (zip_more (AreLinesOfDay c.args.every c.args.workers) at.yielded at.watched.items split one.watched at.invariant.recorded.all_lines c.in_ok-recorded.ensures.watched);
+        all_sheets = rw c.in_ok-push.ensures.items (zip_push (IsSheetOfDay c.args.names) at.yielded at.sheets.items split one.sheet at.invariant.recorded.all_sheets c.in_ok-recorded.ensures.sheet);
+        all_lines = rw c.in_ok-push-2.ensures.items (zip_push (AreLinesOfDay c.args.every c.args.workers) at.yielded at.watched.items split one.watched at.invariant.recorded.all_lines c.in_ok-recorded.ensures.watched);
       };
     }

@@ -3,7 +3,8 @@ use Rattle.session_rules.specs.KeptTraces.{by_kept}
 use Rattle.trace_types.specs.NameOrder.{name_cmp}
 use Rattle.trace_types.specs.Parts.{segments_of}
 use Rattle.trace_types.specs.Segments.{name_of}
-use Rattle.book_laws.proofs.NameLemmas.{listed, name_exact}
+use Rattle.trace_types.proofs.ComparingLemmas.{name_exact}
+use Rattle.book_laws.proofs.NameLemmas.{listed}
 use Rattle.book_laws.proofs.laws.names_are_listed.Goals as goal
 
 pub returns : goal.returns

@@ -1,8 +1,10 @@
 use Rattle.std.proofs.Common.{◌≡◌, ℕ, ◌<◌, ◌≤◌, ◌∙◌, [], length, map, refl, sym, ap, subst, arith}
 use Rattle.std.proofs.lemmas.Result.{IfOk-weaker}
 use Rattle.trace_types.specs.Listing.{ListsExactly}
+use Rattle.trace_types.proofs.ComparingLemmas.{name_exact}
+use Rattle.trace_types.proofs.ListingLemmas.{name_total}
 use Rattle.certificate_rows.specs.inner.Orders.{name_number_cmp}
-use Rattle.certificate_rows.proofs.OrderLemmas.{entries_done, entries_few, entries_push, name_exact, name_total, no_entries, number_in}
+use Rattle.certificate_rows.proofs.OrderLemmas.{entries_done, entries_few, entries_push, no_entries, number_in}
 use Rattle.certificate_rows.proofs.numbers.names_in_order.Goals as goal
 
 pub names-init : goal.names-init

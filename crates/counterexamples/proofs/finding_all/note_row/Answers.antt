@@ -4,8 +4,9 @@ use Rattle.std.proofs.lemmas.List.Folds.{list_any_more}
 use Rattle.std.proofs.lemmas.Option.{slice_get-get_or}
 use Rattle.word_rows.specs.declared.entries.Entry.{Entry}
 use Rattle.word_rows.specs.Rows.{clears, entry_clears}
+use Rattle.word_rows.proofs.RowLemmas.{entry_below}
 use Rattle.counterexamples.specs.inner.Tables.{noted_at}
-use Rattle.counterexamples.proofs.TableLemmas.{entry_below, entry_noted}
+use Rattle.counterexamples.proofs.TableLemmas.{entry_noted}
 use Rattle.counterexamples.proofs.finding_all.note_row.Goals as goal
 
 pub entries-preserved : goal.entries-preserved

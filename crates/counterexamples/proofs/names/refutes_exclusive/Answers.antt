@@ -4,7 +4,8 @@ use Rattle.trace_types.specs.Parts.{by_number}
 use Rattle.trace_types.specs.Refuting.{StartsEarly}
 use Rattle.trace_types.specs.declared.named_segment.NamedSegment.{NamedSegment}
 use Rattle.trace_types.specs.declared.named_trace.NamedTrace.{NamedTrace}
-use Rattle.counterexamples.proofs.NameLemmas.{early_from, early_means, has_both, none_of_both, of_both}
+use Rattle.refute_tests.proofs.ExactLemmas.{early_means, early_from}
+use Rattle.counterexamples.proofs.NameLemmas.{has_both, none_of_both, of_both}
 use Rattle.counterexamples.proofs.names.refutes_exclusive.Goals as goal
 
 -- each starts before the other ends

@@ -1,9 +1,9 @@
 use Rattle.std.proofs.Common.{◌∙◌, ◌+◌, ◌≤◌, sym, ap, subst, arith, vec_len, vec_capacity}
 use Rattle.std.proofs.lemmas.Bool.{iff_false, false≢true}
+use Rattle.trace_types.proofs.TruthLemmas.{on_ok}
 use Rattle.day_partitions.specs.inner.Slots.{place_in_days, IsDayAt}
 use Rattle.day_partitions.proofs.ShownLemmas.{kept_at, not_kept}
 use Rattle.day_partitions.proofs.RoomLemmas.{trace_room, no_trace_room}
-use Rattle.day_partitions.proofs.WiderLemmas.{on_ok}
 use Rattle.day_partitions.proofs.room.make_trace_room.Goals as goal
 
 pub returns-then-is_day_at-clause-room : goal.returns-then-is_day_at-clause-room

@@ -1,6 +1,6 @@
 use Rattle.std.proofs.Common.{◌≡◌, ◌+◌, ◌++◌, List, ℕ, length, map, take, ap, ◌∙◌, length-append, arith}
 use Rattle.std.proofs.lemmas.Grind.{common_steps}
-use Rattle.event_table.proofs.MessageLemmas.{stops_there}
+use Rattle.event_table.proofs.CutLemmas.{stops_there}
 use Rattle.event_table.proofs.message_list.append_parts.Goals as goal
 
 pub overflow_add-offset : goal.overflow_add-offset

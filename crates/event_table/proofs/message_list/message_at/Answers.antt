@@ -1,5 +1,5 @@
 use Rattle.std.proofs.Common.{◌∷◌, ◌≤◌, get_or, length, arith}
-use Rattle.event_table.proofs.MessageLemmas.{stops_there}
+use Rattle.event_table.proofs.CutLemmas.{stops_there}
 use Rattle.event_table.proofs.message_list.message_at.Goals as goal
 
 pub bytes_between-requires-clause-rising : goal.bytes_between-requires-clause-rising

@@ -3,8 +3,9 @@ use Rattle.std.proofs.lemmas.List.{length-append}
 use Rattle.std.proofs.lemmas.Result.{err_from_is_err_and}
 use Rattle.event_lines.specs.LineParts.{lines_of_runs}
 use Rattle.mystery_io.specs.ReadFaults.{FilesSeen, files_seen}
+use Rattle.mystery_io.proofs.OpenLemmas.{calls_more}
 use Rattle.import_run.specs.CommandLines.{file_names}
-use Rattle.import_run.proofs.InputLemmas.{calls_more, file_read, has_lines, stops}
+use Rattle.import_run.proofs.InputLemmas.{file_read, has_lines, stops}
 use Rattle.import_run.proofs.input_reading.read_input.Goals as goal
 
 pub returns-in_err-size-clause-cause : goal.returns-in_err-size-clause-cause

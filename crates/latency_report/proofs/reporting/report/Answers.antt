@@ -19,11 +19,12 @@ use Rattle.trace_paths.specs.NumberedPaths.{IsNamedPath, IsPathUnder}
 use Rattle.trace_rules.specs.Durations.{path_length}
 use Rattle.trace_paths.specs.NameOrders.{AreNamesOf, number_cmp}
 use Rattle.trace_paths.specs.Tables.{IsTableOf}
+use Rattle.trace_paths.proofs.PathTimeLemmas.{joined, traces_at, segments_at, segments_shown, latencies_shown, paths_are, paths_named}
 use Rattle.latency_report.specs.declared.segment_row.SegmentRow.{SegmentRow}
 use Rattle.trace_paths.specs.Tables.{list_at}
 use Rattle.trace_rules.specs.Numbers.{AreFigures}
 use Rattle.trace_rules.specs.ReportRows.{AreFiguresOf}
-use Rattle.latency_report.proofs.ReportLemmas.{durations_tell, joined, latencies_shown, paths_are, paths_named, row_of, segments_at, segments_below, segments_shown, short_paths, short_traces, traces_at}
+use Rattle.latency_report.proofs.ReportLemmas.{durations_tell, row_of, segments_below, short_paths, short_traces}
 use Rattle.latency_report.proofs.RowLemmas.{listed_as}
 use Rattle.latency_report.proofs.reporting.report.Goals as goal
 

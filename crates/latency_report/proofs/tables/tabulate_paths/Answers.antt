@@ -3,7 +3,7 @@ use Rattle.std.specs.List.{flat_map}
 use Rattle.std.proofs.lemmas.List.{take_all}
 use Rattle.trace_paths.specs.Tables.{IsTableOf}
 use Rattle.trace_types.specs.declared.named_segment.NamedSegment.{NamedSegment}
-use Rattle.latency_report.proofs.RowLemmas.{flat_more}
+use Rattle.trace_types.proofs.ElementLemmas.{flat_more}
 use Rattle.latency_report.proofs.tables.tabulate_paths.Goals as goal
 
 pub paths-preserved : goal.paths-preserved

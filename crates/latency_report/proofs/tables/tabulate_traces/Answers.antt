@@ -4,7 +4,7 @@ use Rattle.std.specs.List.{flat_map}
 use Rattle.trace_paths.specs.Tables.{IsTableOf}
 use Rattle.trace_types.specs.declared.named_segment.NamedSegment.{NamedSegment}
 use Rattle.trace_types.specs.declared.named_trace.NamedTrace.{NamedTrace}
-use Rattle.latency_report.proofs.RowLemmas.{flat_more}
+use Rattle.trace_types.proofs.ElementLemmas.{flat_more}
 use Rattle.latency_report.proofs.tables.tabulate_traces.Goals as goal
 
 pub traces-preserved : goal.traces-preserved

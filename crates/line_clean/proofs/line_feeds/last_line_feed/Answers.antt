@@ -1,4 +1,4 @@
-use Rattle.line_clean.proofs.LineLemmas.{last_alone}
+use Rattle.event_lines.proofs.ClearLineLemmas.{last_alone}
 use Rattle.line_clean.proofs.line_feeds.last_line_feed.Goals as goal
 
 pub returns-clause-last : goal.returns-clause-last

@@ -2,9 +2,11 @@ use Rattle.std.proofs.Common.{◌≡◌, ◌∙◌, ℕ, [], length, ap, arith, 
 use Rattle.std.proofs.lemmas.List.{with_items_is}
 use Rattle.std.proofs.lemmas.Result.{err_from_is_err_and}
 use Rattle.mystery_io.specs.ReadFaults.{files_seen}
+use Rattle.mystery_io.proofs.GivenLemmas.{new_are, grown_by}
+use Rattle.mystery_io.proofs.OpenLemmas.{calls_more}
 use Rattle.line_clean.specs.Runs.{Seen, run_seen}
 use Rattle.line_clean.specs.inner.Steps.{IsFaultOf}
-use Rattle.line_clean.proofs.RunLemmas.{calls_more, calls_none, cleaned_more, cleaned_none, explains_done, explains_memory, explains_stop, grows_by, new_are, stops_grow}
+use Rattle.line_clean.proofs.RunLemmas.{calls_none, cleaned_more, cleaned_none, explains_done, explains_memory, explains_stop, stops_grow}
 use Rattle.line_clean.proofs.reading.clean_files.Goals as goal
 
 pub returns-in_err-buffer-clause-explains : goal.returns-in_err-buffer-clause-explains
@@ -18,7 +20,7 @@ returns-in_err-buffer-clause-explains g c =
 pub returns-in_err-buffer-clause-grows : goal.returns-in_err-buffer-clause-grows
 returns-in_err-buffer-clause-grows g c =
     let F = g.F.Files in
-    grows_by (F.given c.args.files.now) (F.given c.args.files.now) [] (sym (append-nil (F.given c.args.files.now)))
+    grown_by (F.given c.args.files.now) (F.given c.args.files.now) [] (sym (append-nil (F.given c.args.files.now)))
 
 pub files-init : goal.files-init
 files-init g c =
@@ -89,4 +91,4 @@ pub returns-clause-grows : goal.returns-clause-grows
 returns-clause-grows g c =
     let F = g.F.Files in
     let at = c.files.invariant in
-    grows_by (F.given c.args.files.now) (F.given c.files.files) at.cleaned.readings at.cleaned.given
+    grown_by (F.given c.args.files.now) (F.given c.files.files) at.cleaned.readings at.cleaned.given

@@ -1,7 +1,7 @@
 use Rattle.std.proofs.Common.{◌++◌, ◌∙◌, [], arith, ap, false, refl, take}
 use Rattle.std.proofs.lemmas.Result.{err_from_is_err_and}
 use Rattle.mystery_io.specs.Counts.{counted_up}
-use Rattle.line_clean.proofs.ReadLemmas.{given_end, given_more}
+use Rattle.mystery_io.proofs.ReadGivenLemmas.{given_more, given_end}
 use Rattle.line_clean.proofs.StepLemmas.{carries_cut}
 use Rattle.line_clean.proofs.reading.read_pieces.Goals as goal
 

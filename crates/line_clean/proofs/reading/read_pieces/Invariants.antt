@@ -1,8 +1,8 @@
 use Rattle.std.proofs.Common.{◌≡◌, ◌++◌, ◌∷◌, [], ℕ, List, Option, true, false}
 use Rattle.mystery_io.specs.Readings.{Reading}
+use Rattle.mystery_io.proofs.ReadGivenLemmas.{reading}
 use Rattle.line_clean.specs.inner.Carrying.{IsCarry}
 use Rattle.line_clean.specs.inner.Steps.{Carries}
-use Rattle.line_clean.proofs.ReadLemmas.{reading}
 use Rattle.line_clean.proofs.reading.read_pieces.Given as goal
 
 -- what is printed of what was read so far was written, but for the line that has not ended

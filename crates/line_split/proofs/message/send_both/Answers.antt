@@ -2,7 +2,7 @@ use Rattle.std.proofs.Common.{◌≡◌, rules}
 use Rattle.std.specs.Io.KnownBytes.{append_known}
 use Rattle.mystery_io.specs.Counts.{counted_up}
 use Rattle.mystery_io.specs.Prefixes.{AppendsPrefix}
-use Rattle.line_split.proofs.MessageLemmas.{sends_both, sends_first}
+use Rattle.mystery_io.proofs.MessageLemmas.{sends_both, sends_first}
 use Rattle.line_split.proofs.message.send_both.Goals as goal
 
 pub returns-then-is_ok-clause-sends : goal.returns-then-is_ok-clause-sends

@@ -1,10 +1,10 @@
 use Rattle.std.proofs.Common.{◌++◌, ◌∙◌, [], arith, ap, false, refl, take}
 use Rattle.std.proofs.lemmas.Result.{err_from_is_err_and}
 use Rattle.mystery_io.specs.Counts.{counted_up}
+use Rattle.mystery_io.proofs.ReadGivenLemmas.{given_more, given_end}
 use Rattle.line_split.specs.declared.split_fault.SplitFault.TheVariants.{Memory}
 use Rattle.line_split.specs.inner.Calls.{call_of_line}
 use Rattle.line_split.proofs.CarryLemmas.{stops_here, stops_read}
-use Rattle.line_split.proofs.ReadLemmas.{given_end, given_more}
 use Rattle.line_split.proofs.reading.read_pieces.Goals as goal
 
 pub pieces-init : goal.pieces-init

@@ -1,10 +1,10 @@
 use Rattle.std.proofs.Common.{◌≡◌, ◌++◌, ◌∷◌, [], ℕ, List, true, false}
 use Rattle.event_lines.specs.Cut.{input_lines}
 use Rattle.mystery_io.specs.Readings.{Reading}
+use Rattle.mystery_io.proofs.ReadGivenLemmas.{reading}
 use Rattle.line_split.specs.declared.pending.Pending.{Pending}
 use Rattle.line_split.specs.inner.Calls.{call_of_line}
 use Rattle.line_split.specs.inner.Steps.{Carried, Fits}
-use Rattle.line_split.proofs.ReadLemmas.{reading}
 use Rattle.line_split.proofs.reading.read_pieces.Given as goal
 
 -- what was read so far was split, up to the line that has not ended

@@ -4,12 +4,12 @@ use Rattle.std.proofs.lemmas.List.Elements.{All-nil, All-push}
 use Rattle.std.proofs.lemmas.Result.{err_from_is_err_and}
 use Rattle.event_lines.specs.Cut.{input_lines}
 use Rattle.mystery_io.specs.Readings.{Reading}
+use Rattle.mystery_io.proofs.ReadGivenLemmas.{reading}
 use Rattle.line_split.specs.Lines.{FileLine, IsGood, all_lines, lines_from}
 use Rattle.line_split.specs.Parts.{file_count, part_file}
 use Rattle.line_split.specs.inner.Calls.{call_of_line}
 use Rattle.line_split.specs.inner.Steps.{FileSplit, FileStop, Splits, all_split}
 use Rattle.line_split.proofs.PendingLemmas.{tells_begins}
-use Rattle.line_split.proofs.ReadLemmas.{reading}
 use Rattle.line_split.proofs.RunLemmas.{all_push, named_push, reads_none, stop_of}
 use Rattle.line_split.proofs.StepLemmas.{nothing, splits_none, splits_on}
 use Rattle.line_split.proofs.reading.split_files.Goals as goal

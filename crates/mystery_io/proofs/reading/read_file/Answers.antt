@@ -1,10 +1,11 @@
 use Rattle.std.proofs.Common.{◌≡◌, ◌∙◌, rules, sym}
 use Rattle.std.proofs.lemmas.Result.{IfErr-weaker, err_from_is_err_and}
+use Rattle.trace_types.proofs.TruthLemmas.{on_ok}
 use Rattle.mystery_io.specs.Readings.{after_open}
 use Rattle.mystery_io.specs.declared.reading.ReadFault.{ReadFault}
 use Rattle.mystery_io.specs.inner.Feeding.{EndsLine, FeedsFile}
 use Rattle.mystery_io.specs.inner.FileCauses.{HasFileCause, IsPassedByFeed}
-use Rattle.mystery_io.proofs.ContentLemmas.{cause_opened, file_came, on_ok, passed_by_feed}
+use Rattle.mystery_io.proofs.ContentLemmas.{cause_opened, file_came, passed_by_feed}
 use Rattle.mystery_io.proofs.reading.read_file.Goals as goal
 
 pub returns-in_err-read_rest-clause-cause : goal.returns-in_err-read_rest-clause-cause

@@ -1,4 +1,4 @@
-use Rattle.mystery_run.proofs.ReplayLemmas.{on_err, on_ok}
+use Rattle.trace_types.proofs.TruthLemmas.{on_ok, on_err}
 use Rattle.mystery_run.proofs.replaying.print_replay.Goals as goal
 
 pub returns-clause-all : goal.returns-clause-all

@@ -1,6 +1,7 @@
 use Rattle.std.proofs.Common.{arith, ◌∙◌}
 use Rattle.std.proofs.lemmas.Result.{err_from_is_err_and}
-use Rattle.mystery_run.proofs.ReplayLemmas.{prints_part, state_more, step_printed, step_cut}
+use Rattle.text_rows.proofs.PrintLemmas.{prints_part}
+use Rattle.mystery_run.proofs.ReplayLemmas.{state_more, step_printed, step_cut}
 use Rattle.mystery_run.proofs.replaying.print_steps.Goals as goal
 
 pub loop-event-preserved : goal.loop-event-preserved

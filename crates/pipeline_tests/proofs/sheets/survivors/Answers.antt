@@ -1,7 +1,8 @@
 use Rattle.std.proofs.Common.{◌≡◌, ◌+◌, ◌<◌, ◌↔◌, ◌++◌, ◌∷◌, [], ℕ, true, List, length, take, sym, ap, subst, ◌∙◌, arith}
 use Rattle.std.proofs.lemmas.List.{take_more, take_all}
 use Rattle.hypothesis_index.specs.Places.{width_of}
-use Rattle.pipeline_tests.proofs.SurvivorLemmas.{full_length, full_words_survive, bits_more}
+use Rattle.word_rows.proofs.OpeningLemmas.{full_length}
+use Rattle.pipeline_tests.proofs.SurvivorLemmas.{full_words_survive, bits_more}
 use Rattle.refute_tests.specs.Clearing.{HaveNamesBelow}
 use Rattle.refute_tests.specs.Survivors.{AreSurvivors, IsRefutedPlace}
 use Rattle.trace_types.specs.declared.named_trace.NamedTrace.{NamedTrace}

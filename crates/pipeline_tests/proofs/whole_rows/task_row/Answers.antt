@@ -1,8 +1,8 @@
 use Rattle.std.proofs.Common.{List, sym, subst}
 use Rattle.hypothesis_index.specs.Refuting.{RefutesTasks}
-use Rattle.pipeline_tests.proofs.TaskLemmas.{from_nothing}
 use Rattle.refute_tests.specs.Clearing.{AddsExactly, ClearsExactly}
 use Rattle.word_rows.specs.declared.entries.Entry.{Entry}
+use Rattle.refute_tests.proofs.ExactLemmas.{from_nothing}
 use Rattle.pipeline_tests.proofs.whole_rows.task_row.Goals as goal
 
 pub returns-clause-exact : goal.returns-clause-exact

@@ -2,8 +2,9 @@ use Rattle.std.proofs.Common.{◌≡◌, ◌+◌, ◌<◌, ℕ, true, ◌||◌, 
 use Rattle.std.proofs.lemmas.List.{get_or_default}
 use Rattle.std.specs.List.{list_any}
 use Rattle.hypothesis_index.specs.Places.{width_of}
+use Rattle.word_rows.proofs.ViewLemmas.{or_false}
 use Rattle.refute_tests.proofs.NameLemmas.{rise_take, less_take}
-use Rattle.refute_tests.proofs.StepLemmas.{more_rows, next_row, or-false}
+use Rattle.refute_tests.proofs.StepLemmas.{more_rows, next_row}
 use Rattle.refute_tests.specs.inner.Hits.{NamesRise, hits, row_start, all_hits}
 use Rattle.trace_types.specs.declared.named_segment.NamedSegment.{NamedSegment}
 use Rattle.word_rows.specs.Rows.{below, clears}
@@ -11,7 +12,7 @@ use Rattle.refute_tests.proofs.segments.clear_by_pairs.Goals as goal
 
 pub loop-index-init : goal.loop-index-init
 loop-index-init c = record {
-  cleared = λ i b. sym (or-false (clears c.args.maker.now i b));
+  cleared = λ i b. sym (or_false (clears c.args.maker.now i b));
   next = λ d h. c.below_wider.ensures 126 (row_start (get_or c.args.segments.now 0 d).name + 1) c.args.maker.now (omega arith) c.requires.tasks_alone;
   fits = λ n h. c.below_wider.ensures 126 (width_of n) c.args.maker.now (omega arith) c.requires.tasks_alone;
 }

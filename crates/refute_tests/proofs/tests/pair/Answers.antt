@@ -1,5 +1,5 @@
 use Rattle.std.proofs.Common.{List, [], ◌∷◌, ◌≡◌, ◌∙◌, sym, subst, arith}
-use Rattle.refute_tests.proofs.TestLemmas.{two_names, two_together, two_joined, two_elements}
+use Rattle.trace_types.proofs.FewSegmentLemmas.{two_names, two_together, two_joined, two_elements}
 use Rattle.trace_types.specs.NamedSegments.{number_of_name, number_of_task, number_of_element, named_start, named_end}
 use Rattle.trace_types.specs.SegmentLists.{NamesDiffer, TasksStandTogether, JoinInTasks, ElementsCountUp}
 use Rattle.trace_types.specs.declared.named_segment.NamedSegment.{NamedSegment}

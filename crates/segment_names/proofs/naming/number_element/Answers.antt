@@ -4,9 +4,9 @@ use Rattle.std.proofs.lemmas.Option.{slice_get_within}
 use Rattle.std.specs.Option.{option_to_list}
 use Rattle.std.specs.Str.{bytes_eq}
 use Rattle.trace_types.specs.Firsts.{firsts_of}
+use Rattle.trace_types.proofs.ComparingLemmas.{text_means, text_own}
+use Rattle.trace_types.proofs.ShortLemmas.{firsts-short}
 use Rattle.segment_names.proofs.FirstLemmas.{firsts-same}
-use Rattle.segment_names.proofs.NotingLemmas.{firsts-short}
-use Rattle.segment_names.proofs.TextLemmas.{text_means, text_own}
 use Rattle.segment_names.proofs.naming.number_element.Goals as goal
 
 pub overflow_cast-result : goal.overflow_cast-result

@@ -3,8 +3,8 @@ use Rattle.std.specs.Str.{bytes_eq}
 use Rattle.std.specs.List.{list_any}
 use Rattle.trace_types.specs.Firsts.{firsts_of}
 use Rattle.event_table.specs.Texts.{AreDifferent}
+use Rattle.trace_types.proofs.ComparingLemmas.{text_means, text_own}
 use Rattle.segment_names.proofs.FirstLemmas.{differ-new, firsts-push, firsts-same, with_key}
-use Rattle.segment_names.proofs.TextLemmas.{text_means, text_own}
 use Rattle.segment_names.proofs.tables.intern.Goals as goal
 
 -- the texts with one more, where the test says whether it is there

@@ -1,4 +1,5 @@
-use Rattle.session.proofs.SheetLemmas.{if_ok, recorded_sheets}
+use Rattle.trace_types.proofs.TruthLemmas.{if_ok}
+use Rattle.session.proofs.SheetLemmas.{recorded_sheets}
 use Rattle.session.proofs.SplitLemmas.{below_each, few_each}
 use Rattle.session.proofs.batch_records.record_batch.Goals as goal
 

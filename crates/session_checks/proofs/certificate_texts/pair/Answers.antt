@@ -2,7 +2,8 @@ use Rattle.std.proofs.Common.{List, [], ◌∷◌, ◌≡◌, ◌∙◌, sym, su
 use Rattle.trace_types.specs.NamedSegments.{number_of_name, number_of_task, number_of_element, named_start, named_end}
 use Rattle.trace_types.specs.SegmentLists.{NamesDiffer, TasksStandTogether, JoinInTasks, ElementsCountUp}
 use Rattle.trace_types.specs.declared.named_segment.NamedSegment.{NamedSegment}
-use Rattle.session_checks.proofs.PairLemmas.{two_names, two_together, two_joined, two_of_one_element}
+use Rattle.trace_types.proofs.FewSegmentLemmas.{two_names, two_together, two_joined}
+use Rattle.session_checks.proofs.PairLemmas.{two_of_one_element}
 use Rattle.session_checks.proofs.certificate_texts.pair.Goals as goal
 
 pub invariant_of-result : goal.invariant_of-result

@@ -1,5 +1,5 @@
 use Rattle.std.proofs.Common.{List, [], ◌∷◌, ◌≡◌, ◌∙◌, sym, subst}
-use Rattle.session_checks.proofs.SharedLemmas.{four_names, four_together, four_joined, four_elements}
+use Rattle.trace_types.proofs.FourSegmentLemmas.{four_names, four_together, four_joined, four_elements}
 use Rattle.trace_types.specs.NamedSegments.{number_of_name, number_of_task, number_of_element, named_start, named_end}
 use Rattle.trace_types.specs.SegmentLists.{NamesDiffer, TasksStandTogether, JoinInTasks, ElementsCountUp}
 use Rattle.trace_types.specs.declared.named_segment.NamedSegment.{NamedSegment}

@@ -1,5 +1,5 @@
 use Rattle.std.proofs.Common.{arith}
-use Rattle.session_checks.proofs.RequestLemmas.{requests_few}
+use Rattle.trace_types.proofs.ShortLemmas.{requests_few}
 use Rattle.session_checks.proofs.session_steps.add_through.Goals as goal
 
 pub command-requires-clause-few : goal.command-requires-clause-few

@@ -2,7 +2,8 @@ use Rattle.std.proofs.Common.{◌≡◌, ℕ, ◌+◌, ◌-◌, ◌<◌, ◌≤�
 use Rattle.std.proofs.lemmas.List.{get_or-map}
 use Rattle.weighted_dag.specs.Graphs.{order_of}
 use Rattle.weighted_dag.specs.Slacks.{IsSlack}
-use Rattle.slack.proofs.GrowthLemmas.{pushed, longest_fits, none_longer_than, through_below, IsSlack-lengths}
+use Rattle.weighted_dag.proofs.LengthLemmas.{none_longer_than}
+use Rattle.slack.proofs.GrowthLemmas.{pushed, longest_fits, through_below, IsSlack-lengths}
 use Rattle.slack.proofs.growth.measure.Given.{Over}
 use Rattle.slack.proofs.growth.measure.Goals as goal
 use Rattle.slack.proofs.growth.measure.Goals.{After-index-in-vertices, After-vertices}

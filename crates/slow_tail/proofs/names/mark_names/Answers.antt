@@ -4,8 +4,9 @@ use Rattle.std.specs.List.{flat_map}
 use Rattle.std.proofs.lemmas.List.{take_all}
 use Rattle.trace_types.specs.declared.named_segment.NamedSegment.{NamedSegment}
 use Rattle.trace_types.specs.declared.named_trace.NamedTrace.{NamedTrace}
+use Rattle.trace_types.proofs.ElementLemmas.{flat_more}
 use Rattle.slow_tail.specs.inner.Marks.{AreMarksOf}
-use Rattle.slow_tail.proofs.MarkLemmas.{flat_more, marks_more, written_back}
+use Rattle.slow_tail.proofs.MarkLemmas.{marks_more, written_back}
 use Rattle.slow_tail.proofs.names.mark_names.Goals as goal
 
 pub traces-preserved : goal.traces-preserved

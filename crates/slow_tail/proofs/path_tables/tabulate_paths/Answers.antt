@@ -4,8 +4,9 @@ use Rattle.std.proofs.lemmas.List.{append-nil, take_all}
 use Rattle.trace_paths.specs.Tables.{IsTableOf}
 use Rattle.trace_types.specs.declared.named_segment.NamedSegment.{NamedSegment}
 use Rattle.trace_rules.specs.SlowTraces.{marked, unmarked}
+use Rattle.trace_paths.proofs.PathTimeLemmas.{joined}
 use Rattle.slow_tail.proofs.MarkLemmas.{kept_more}
-use Rattle.slow_tail.proofs.PathLemmas.{joined, table_more}
+use Rattle.slow_tail.proofs.PathLemmas.{table_more}
 use Rattle.slow_tail.proofs.path_tables.tabulate_paths.Goals as goal
 use Rattle.slow_tail.proofs.path_tables.tabulate_paths.Goals.{then-marks-index+in_ok-add, else-marks-index+in_ok-add-2}
 

@@ -1,7 +1,7 @@
 use Rattle.std.proofs.Common.{take}
 use Rattle.trace_paths.specs.Tables.{IsTableOf}
 use Rattle.trace_rules.specs.SlowTraces.{marked, unmarked}
-use Rattle.slow_tail.proofs.PathLemmas.{joined}
+use Rattle.trace_paths.proofs.PathTimeLemmas.{joined}
 use Rattle.slow_tail.proofs.path_tables.tabulate_paths.Given as goal
 
 abbrev pub invariant-paths : goal.invariant-paths

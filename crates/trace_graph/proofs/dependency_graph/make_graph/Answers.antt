@@ -5,9 +5,10 @@ use Rattle.trace_types.specs.Parts.{by_number}
 use Rattle.weighted_dag.specs.Graphs.{Graph, IsGraph}
 use Rattle.model_meet.specs.RelationBits.{KeepsExclusion}
 use Rattle.trace_rules.specs.TraceGraphs.{HasVertices, IsGraphBy}
+use Rattle.trace_types.proofs.FewSegmentLemmas.{few_names}
 use Rattle.trace_graph.specs.inner.Keys.{AreKeys, Key, duration_of, index_in, name_in}
 use Rattle.trace_graph.specs.inner.Successors.{AreKnown, AreLists}
-use Rattle.trace_graph.proofs.GraphLemmas.{few_keys, few_names, form_made, graph_made, names_known, vertices_made}
+use Rattle.trace_graph.proofs.GraphLemmas.{few_keys, form_made, graph_made, names_known, vertices_made}
 use Rattle.trace_graph.proofs.ToldLemmas.{told_graph}
 use Rattle.trace_graph.proofs.dependency_graph.make_graph.Goals as goal
 

@@ -3,10 +3,10 @@ use Rattle.std.specs.Borrow.{Bor}
 use Rattle.std.specs.declared.alloc.AllocError.{AllocError}
 use Rattle.rayon.proofs.ToStd.{slice-AllZip}
 use Rattle.refute_tests.specs.Clearing.{HaveNamesBelow}
+use Rattle.trace_types.proofs.ZipLemmas.{collected}
 use Rattle.trace_paths.specs.NumberedPaths.{IsPathUnder}
 use Rattle.trace_types.specs.declared.named_segment.NamedSegment.{NamedSegment}
 use Rattle.trace_types.specs.declared.named_trace.NamedTrace.{NamedTrace}
-use Rattle.trace_paths.proofs.AllPathsLemmas.{collected}
 use Rattle.trace_paths.proofs.all_paths.paths_by.Goals as goal
 
 pub collect-requires-clause-ready : goal.collect-requires-clause-ready

@@ -3,9 +3,10 @@ use Rattle.std.specs.List.{AllZip}
 use Rattle.weighted_dag.specs.Graphs.{order_of}
 use Rattle.trace_types.specs.declared.named_segment.NamedSegment.{NamedSegment}
 use Rattle.trace_rules.specs.CriticalPaths.{StandsFor}
+use Rattle.weighted_dag.proofs.LengthLemmas.{chain_within}
 use Rattle.trace_paths.specs.NumberedPaths.{IsNamedPath}
 use Rattle.trace_paths.specs.inner.GraphPaths.{IsPathIn}
-use Rattle.trace_paths.proofs.PathLemmas.{indices_within, named, vertices_within}
+use Rattle.trace_paths.proofs.PathLemmas.{indices_within, named}
 use Rattle.trace_paths.proofs.critical.path_in.Goals as goal
 
 -- the vertices of the chain stand for the segments of the path
@@ -21,7 +22,7 @@ segments_on-requires-clause-vertices c =
     let has = c.requires in
     let size : order_of g ≡ length c.items-2.result.now = has.count ∙ sym (ap length c.items-2.ensures) in
     subst (λ (vs : List ℕ). All (λ v. v < length c.items-2.result.now) vs) (sym c.items-3.ensures)
-    (subst (λ (n : ℕ). All (λ v. v < n) c.in_ok-chain.chain.vertices) size (vertices_within g c.in_ok-chain.chain.vertices c.in_ok-chain.ensures.chain))
+    (subst (λ (n : ℕ). All (λ v. v < n) c.in_ok-chain.chain.vertices) size (chain_within g c.in_ok-chain.chain.vertices c.in_ok-chain.ensures.chain))
 
 pub segments_on-requires-clause-indices : goal.segments_on-requires-clause-indices
 segments_on-requires-clause-indices c =

@@ -2,11 +2,11 @@ use Rattle.std.proofs.Common.{Result, IfOk, sym, ◌∙◌, subst}
 use Rattle.std.specs.Borrow.{Bor}
 use Rattle.std.specs.declared.alloc.AllocError.{AllocError}
 use Rattle.rayon.proofs.ToStd.{slice-AllZip}
+use Rattle.trace_types.proofs.ZipLemmas.{collected}
 use Rattle.view_rows.specs.inner.NumberedForecasts.{IsForecastUnder}
 use Rattle.refute_tests.specs.Clearing.{HaveNamesBelow}
 use Rattle.trace_types.specs.declared.named_trace.NamedTrace.{NamedTrace}
 use Rattle.trace_rules.specs.declared.forecast.Forecast.{Forecast}
-use Rattle.view_rows.proofs.ForecastZipLemmas.{collected}
 use Rattle.view_rows.proofs.forecasting.forecast_by.Goals as goal
 
 pub collect-requires-clause-ready : goal.collect-requires-clause-ready

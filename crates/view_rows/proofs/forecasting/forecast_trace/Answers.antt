@@ -1,7 +1,7 @@
 use Rattle.what_if.specs.Forecasts.{IsForecast}
+use Rattle.trace_types.proofs.TruthLemmas.{if_ok}
 use Rattle.view_rows.specs.inner.NumberedForecasts.{IsForecastUnder}
 use Rattle.view_rows.proofs.ForecastBoundLemmas.{HasWords, short, words_of}
-use Rattle.view_rows.proofs.ForecastZipLemmas.{if_ok}
 use Rattle.view_rows.proofs.forecasting.forecast_trace.Goals as goal
 
 pub predict-requires-clause-graph : goal.predict-requires-clause-graph

@@ -2,8 +2,9 @@ use Rattle.std.proofs.Common.{◌≡◌, length, rules, arith}
 use Rattle.std.specs.Vec.{vec_len}
 use Rattle.std.proofs.lemmas.Option.{slice_get-get_or}
 use Rattle.trace_types.specs.NameOrder.{name_cmp}
+use Rattle.trace_types.proofs.ComparingLemmas.{name_exact}
+use Rattle.trace_types.proofs.ListingLemmas.{name_total}
 use Rattle.view_rows.proofs.ListingLemmas.{are_listed, collected, collects_next}
-use Rattle.view_rows.proofs.ModelOrderLemmas.{name_total, name_exact}
 use Rattle.view_rows.proofs.listing.list_names.Goals as goal
 
 pub loop-number-preserved : goal.loop-number-preserved

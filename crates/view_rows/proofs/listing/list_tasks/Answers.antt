@@ -3,8 +3,8 @@ use Rattle.std.specs.Cmp.Lexicographic.{slice_cmp}
 use Rattle.std.specs.Ordering.{nat_cmp}
 use Rattle.std.specs.Vec.{vec_len}
 use Rattle.std.proofs.lemmas.Option.{slice_get-get_or}
+use Rattle.trace_types.proofs.ComparingLemmas.{text_exact, text_total}
 use Rattle.view_rows.proofs.ListingLemmas.{are_listed, collected, collects_next}
-use Rattle.view_rows.proofs.ModelOrderLemmas.{text_total, text_exact}
 use Rattle.view_rows.proofs.listing.list_tasks.Goals as goal
 
 pub loop-number-preserved : goal.loop-number-preserved

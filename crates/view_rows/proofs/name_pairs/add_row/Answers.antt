@@ -2,9 +2,9 @@ use Rattle.std.proofs.Common.{◌≡◌, ◌≢◌, ◌↔◌, ℕ, true, nat_lt
 use Rattle.trace_types.specs.NameOrder.{name_cmp}
 use Rattle.trace_types.specs.Parts.{by_number}
 use Rattle.trace_types.specs.Relations.{ExcludesUnordered, HappensBefore}
+use Rattle.trace_types.proofs.ListingLemmas.{name_total}
 use Rattle.view_rows.specs.inner.Listings.{IsExclusion, IsOrder, less_always}
 use Rattle.view_rows.proofs.ListingLemmas.{holds_second, told_of_rising, told_of_texts}
-use Rattle.view_rows.proofs.ModelOrderLemmas.{name_total}
 use Rattle.view_rows.proofs.ModelRowLemmas.{row_end, row_start, row_step}
 use Rattle.view_rows.proofs.name_pairs.add_row.Goals as goal
 

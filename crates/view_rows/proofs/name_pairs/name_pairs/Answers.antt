@@ -1,9 +1,9 @@
 use Rattle.trace_types.specs.NameOrder.{name_cmp}
 use Rattle.trace_types.specs.Parts.{by_number}
 use Rattle.trace_types.specs.Relations.{ExcludesUnordered, HappensBefore}
+use Rattle.trace_types.proofs.ListingLemmas.{name_total}
 use Rattle.view_rows.specs.inner.Listings.{IsExclusion, IsOrder, less_always}
 use Rattle.view_rows.proofs.ListingLemmas.{holds_first}
-use Rattle.view_rows.proofs.ModelOrderLemmas.{name_total}
 use Rattle.view_rows.proofs.ModelRowLemmas.{rows_end, rows_step}
 use Rattle.view_rows.proofs.name_pairs.name_pairs.Goals as goal
 

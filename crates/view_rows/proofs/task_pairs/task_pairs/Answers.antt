@@ -2,9 +2,9 @@ use Rattle.std.specs.Cmp.Lexicographic.{slice_cmp}
 use Rattle.std.specs.Ordering.{nat_cmp}
 use Rattle.trace_rules.specs.Pipes.{IsPipeline}
 use Rattle.trace_types.specs.Parts.{by_number}
+use Rattle.trace_types.proofs.ComparingLemmas.{text_total}
 use Rattle.view_rows.specs.inner.Listings.{IsPipe}
 use Rattle.view_rows.proofs.ListingLemmas.{holds_first}
-use Rattle.view_rows.proofs.ModelOrderLemmas.{text_total}
 use Rattle.view_rows.proofs.ModelRowLemmas.{rows_end, rows_step}
 use Rattle.view_rows.proofs.task_pairs.task_pairs.Goals as goal
 

@@ -1,5 +1,5 @@
 use Rattle.std.proofs.Common.{List, sym, ap, ◌∙◌, arith}
-use Rattle.counterexamples.proofs.FirstLemmas.{all_below}
+use Rattle.hypothesis_index.proofs.PairLemmas.{all_below}
 use Rattle.counterexamples.proofs.TableLemmas.{table_tells}
 use Rattle.counterexamples.specs.FirstRefuters.{FindingTable, refuter_of}
 use Rattle.hypothesis_index.specs.Places.{place_of}

@@ -1,9 +1,9 @@
 use Rattle.std.proofs.Common.{◌≡◌, ◌∙◌, ℕ, ◌+◌, sym, ap, subst, get_or, Some, None, arith, set}
 use Rattle.std.proofs.lemmas.List.{get_or_default, get_or_read, set-set}
 use Rattle.row_pool.specs.Pools.{IsLive}
+use Rattle.row_pool.proofs.CallerLemmas.{live-with}
 use Rattle.day_partitions.specs.inner.Trees.{IsMetLeaf}
 use Rattle.day_partitions.specs.inner.Nodes.{tree_of}
-use Rattle.day_partitions.proofs.PoolLemmas.{live-with}
 use Rattle.day_partitions.proofs.PlaceLemmas.{id_inner, id_last, own_last}
 use Rattle.day_partitions.proofs.LeafLemmas.{id_there}
 use Rattle.day_partitions.proofs.TreeLemmas.{leaf_within, met_is, met_leaf}

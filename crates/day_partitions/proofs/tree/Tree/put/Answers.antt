@@ -1,7 +1,7 @@
 use Rattle.std.proofs.Common.{◌≡◌, ◌∙◌, ◌+◌, ◌-◌, ◌/◌, sym, ap, subst}
 use Rattle.row_pool.specs.Pools.{IsLive}
+use Rattle.row_pool.proofs.CallerLemmas.{live-insert_same}
 use Rattle.day_partitions.specs.inner.Nodes.{ChangesInner, IsTreeBut, tree_of}
-use Rattle.day_partitions.proofs.PoolLemmas.{live-insert_same}
 use Rattle.day_partitions.proofs.TreeLemmas.{leaf_none, put_is, view_is}
 use Rattle.day_partitions.proofs.tree.Tree.put.Goals as goal
 

@@ -1,8 +1,9 @@
 use Rattle.std.proofs.Common.{◌∙◌, ap, sym, subst, max, inl, inr}
 use Rattle.row_pool.specs.Pools.{with_spare}
+use Rattle.trace_types.proofs.TruthLemmas.{on_ok}
 use Rattle.day_partitions.specs.inner.Trees.{tree}
 use Rattle.day_partitions.specs.inner.Nodes.{IsTree, tree_of}
-use Rattle.day_partitions.proofs.WiderLemmas.{either, on_ok, tree_spare, leaves_spare}
+use Rattle.day_partitions.proofs.WiderLemmas.{either, tree_spare, leaves_spare}
 use Rattle.day_partitions.proofs.tree.Tree.reserve.Goals as goal
 
 pub invariant_of-self : goal.invariant_of-self

@@ -1,6 +1,7 @@
 use Rattle.std.proofs.Common.{◌≤◌, ap, sym, subst, arith}
+use Rattle.trace_types.proofs.TruthLemmas.{on_ok}
 use Rattle.day_partitions.specs.inner.Nodes.{IsTree}
-use Rattle.day_partitions.proofs.WiderLemmas.{by_result, on_ok, tree_wider, view_wider}
+use Rattle.day_partitions.proofs.WiderLemmas.{by_result, tree_wider, view_wider}
 use Rattle.day_partitions.proofs.tree.Tree.widen.Goals as goal
 
 pub invariant_of-self : goal.invariant_of-self

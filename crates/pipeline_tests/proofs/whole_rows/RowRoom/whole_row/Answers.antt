@@ -1,6 +1,7 @@
 use Rattle.std.proofs.Common.{List, ◌∷◌, [], sym, subst}
 use Rattle.hypothesis_index.specs.Refuting.{Refutes, RefutesNames, RefutesTasks}
-use Rattle.pipeline_tests.proofs.TaskLemmas.{adds_then, either_kind, from_nothing, of_names, of_tasks}
+use Rattle.refute_tests.proofs.ExactLemmas.{from_nothing}
+use Rattle.pipeline_tests.proofs.TaskLemmas.{adds_then, either_kind, of_names, of_tasks}
 use Rattle.refute_tests.specs.Clearing.{AddsExactly, ClearsExactly}
 use Rattle.trace_types.specs.declared.named_trace.NamedTrace.{NamedTrace}
 use Rattle.word_rows.specs.declared.entries.Entry.{Entry}

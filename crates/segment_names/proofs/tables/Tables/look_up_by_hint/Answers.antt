@@ -1,9 +1,9 @@
 use Rattle.std.proofs.Common.{◌≡◌, ℕ, List, Some, slice_get, sym, ap, ◌∙◌, subst}
 use Rattle.trace_types.specs.Segments.{SegmentName}
+use Rattle.trace_types.proofs.ComparingLemmas.{text_means}
 use Rattle.segment_names.specs.Known.{name_number}
 use Rattle.segment_names.specs.inner.Filing.{Filed, known_in}
 use Rattle.segment_names.proofs.FilingLemmas.{named_there}
-use Rattle.segment_names.proofs.TextLemmas.{text_means}
 use Rattle.segment_names.proofs.tables.Tables.look_up_by_hint.Goals as goal
 
 -- the name there is the one looked for

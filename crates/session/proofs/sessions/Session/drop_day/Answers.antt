@@ -1,8 +1,8 @@
 use Rattle.std.proofs.Common.{◌≤◌, sym, subst}
+use Rattle.day_partitions.proofs.DayLemmas.{without_count}
 use Rattle.session.specs.Carrying.{kept_count}
 use Rattle.session.specs.SessionStates.{SessionState}
 use Rattle.session.proofs.ControlLemmas.{drop_step}
-use Rattle.session.proofs.CountLemmas.{drop_few}
 use Rattle.session.proofs.sessions.Session.drop_day.Goals as goal
 
 pub returns-clause-stepped : goal.returns-clause-stepped
@@ -11,4 +11,4 @@ returns-clause-stepped g c =
     c.drop_from_book-count.ensures.dropped c.drop_from_book-count.ensures.count c.drop_from_book-count.ensures.book c.print_count.ensures
 
 pub returns-clause-kept : goal.returns-clause-kept
-returns-clause-kept g c = subst (λ (s : SessionState). kept_count s ≤ kept_count c.args.self.now) (sym c.drop_from_book-count.ensures.dropped) (drop_few c.args.day c.args.self.now.book.days)
+returns-clause-kept g c = subst (λ (s : SessionState). kept_count s ≤ kept_count c.args.self.now) (sym c.drop_from_book-count.ensures.dropped) (without_count c.args.day c.args.self.now.book.days)

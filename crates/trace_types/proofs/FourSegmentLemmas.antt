@@ -1,23 +1,15 @@
 -- Facts on the four segments of a trace in which two tasks share their elements.
-use Rattle.std.proofs.Common.{◌≡◌, ◌≢◌, ℕ, zero, suc, ◌+◌, ◌<◌, ◌≤◌, nat_eq, List, [], ◌∷◌, length, get_or, All, Some, refl, sym, ap, ◌∙◌, subst, arith}
+use Rattle.std.proofs.Common.{◌≡◌, ◌≢◌, ℕ, zero, suc, ◌+◌, ◌<◌, ◌≤◌, nat_eq, List, [], ◌∷◌, length, get_or, Some, refl, sym, ap, ◌∙◌, subst, arith}
 use Rattle.std.proofs.lemmas.List.Elements.{All-cons, All-nil}
 use Rattle.std.specs.List.{AllPairs, filter_map}
+use Rattle.trace_types.proofs.PairLemmas.{AllPairs-nil, pairs_cons}
 use Rattle.trace_types.specs.Firsts.{firsts_of}
 use Rattle.trace_types.specs.NamedSegments.{number_of_name, number_of_task, number_of_element, named_start, named_end}
 use Rattle.trace_types.specs.SegmentLists.{NamesDiffer, TasksStandTogether, JoinInTasks, ElementsCountUp}
 use Rattle.trace_types.specs.declared.named_segment.NamedSegment.{NamedSegment}
 
-pairs_none : {X : Type 0} (R : X → X → Type 0) → AllPairs R []
-pairs_none R i j d l h = absurd (omega arith)
-
-pairs_cons : {X : Type 0} (R : X → X → Type 0) (x : X) (xs : List X) → All (R x) xs → AllPairs R xs → AllPairs R (x ∷ xs)
-pairs_cons R x xs first rest zero zero d l h = absurd (omega arith)
-pairs_cons R x xs first rest zero (suc j) d l h = first j d (omega arith)
-pairs_cons R x xs first rest (suc i) zero d l h = absurd (omega arith)
-pairs_cons R x xs first rest (suc i) (suc j) d l h = rest i j d (omega arith) (omega arith)
-
 two_all : (R : NamedSegment → NamedSegment → Type 0) (a b : NamedSegment) → R a b → AllPairs R (a ∷ b ∷ [])
-two_all R a b p = pairs_cons R a (b ∷ []) (All-cons (R a) b [] p (All-nil (R a))) (pairs_cons R b [] (All-nil (R b)) (pairs_none R))
+two_all R a b p = pairs_cons R a (b ∷ []) (All-cons (R a) b [] p (All-nil (R a))) (pairs_cons R b [] (All-nil (R b)) (AllPairs-nil R))
 
 four_all : (R : NamedSegment → NamedSegment → Type 0) (a b c d : NamedSegment) → R a b → R a c → R a d → R b c → R b d → R c d → AllPairs R (a ∷ b ∷ c ∷ d ∷ [])
 four_all R a b c d ab ac ad bc bd cd =

@@ -8,7 +8,7 @@ use Rattle.mystery_io.specs.Readings.{Reading, after_bytes, after_read}
 abbrev pub reading : List ℕ → List ℕ → Bool → Reading
 reading name bytes at_end = record { name = name; bytes = bytes; at_end = at_end }
 
-to_last : (first : List Reading) (r : Reading) (more : List ℕ) (e : Bool) → after_bytes (first ++ r ∷ []) more e ≡ first ++ record { name = r.name; bytes = r.bytes ++ more; at_end = r.at_end || e } ∷ []
+pub to_last : (first : List Reading) (r : Reading) (more : List ℕ) (e : Bool) → after_bytes (first ++ r ∷ []) more e ≡ first ++ record { name = r.name; bytes = r.bytes ++ more; at_end = r.at_end || e } ∷ []
 unfolding after_bytes
 to_last [] r more e = refl
 to_last (x ∷ []) r more e = refl
