@@ -1,9 +1,8 @@
 -- The elements of lists, and of lists that are made of others.
 use Rattle.std.proofs.Common.{◌≡◌, [], ◌∷◌, ⊎_elim, arith, ◌⊎◌, ℕ, ◌+◌, ◌<◌, List, length, get_or, take, ◌∙◌, subst, inl, inr, sym, zero, suc, map, ap, refl, ◌++◌, slice_get, Some, ◌≢◌, ◌≤◌, All, nat_lt, Bool, true, false, cond, None}
-use Rattle.std.specs.List.{Contains, AllPairs, flat_map, slice_get, All, position, position_or_len}
+use Rattle.std.specs.List.{Contains, AllPairs, flat_map, position, position_or_len}
 use Rattle.std.proofs.lemmas.List.Elements.{Contains-push_cases, Contains-append_left, Contains-append_right, Contains-append_cases, All-cons, All-head, All-nil, All-tail}
 use Rattle.std.proofs.lemmas.List.{take_more, get_or-take, get_or_default, length-take, get_or-map, length-map, append-nil, map-append}
-use Rattle.std.specs.Prelude.{Contains, All}
 use Rattle.std.proofs.lemmas.List.Concat.{flat_map-append}
 use Rattle.std.proofs.lemmas.Option.{slice_get_within, get_or_from_slice_get, slice_get_cases}
 use Rattle.std.proofs.lemmas.Bool.{cases_lt, cases_order, lt-ltb}

@@ -1,6 +1,6 @@
 -- Facts on truth values, options and results.
 use Rattle.std.proofs.Common.{◌≡◌, Bool, true, false, refl, T, Result, Ok, Err, OnErr, ◌||◌, ◌&&◌, sym, Some}
-use Rattle.std.specs.Prelude.{Result, Ok, Err, OnOk, IfOk}
+use Rattle.std.specs.Prelude.{OnOk, IfOk}
 use Rattle.std.proofs.lemmas.Bool.{false≢true}
 
 pub false_from_not : (b : Bool) → (b ≡ true → ⊥) → b ≡ false

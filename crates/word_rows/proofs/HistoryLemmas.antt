@@ -12,7 +12,7 @@ use Rattle.word_rows.specs.declared.entries.Entry.{Entry}
 use Rattle.word_rows.specs.declared.views.View.{View}
 use Rattle.word_rows.specs.Words.{bit_of, full_words}
 use Rattle.word_rows.specs.Changes.{is_idle, empty_view, finished_view, midway_view, next_view, with_reading, left_view, new_view, joined_view}
-use Rattle.word_rows.specs.Machine.{StepState, StepEvent, Fault, clear, load, split, join, close, opening_state, step, steps, after, fault_of, next_state, outcome, is_live, view_at, entry_at, no_seat}
+use Rattle.word_rows.specs.Machine.{StepState, Fault, clear, load, split, join, close, opening_state, step, steps, after, fault_of, next_state, outcome, is_live, view_at, entry_at, no_seat}
 use Rattle.word_rows.specs.Keeping.{WidthStays, ZerosStay, IsDone, DoneStays}
 use Rattle.word_rows.proofs.BitLemmas.{bit_stays}
 use Rattle.word_rows.proofs.ViewLemmas.{at_longer, at_index, put_here, set_else}
