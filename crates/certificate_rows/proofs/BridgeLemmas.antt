@@ -20,8 +20,8 @@ use Rattle.trace_types.specs.Segments.{SegmentName, name_of, task_of}
 use Rattle.trace_types.specs.declared.named_segment.NamedSegment.{NamedSegment}
 use Rattle.trace_types.specs.declared.named_trace.NamedTrace.{NamedTrace}
 use Rattle.trace_types.specs.declared.segment.Segment.{Segment}
-use Rattle.trace_types.proofs.ElementLemmas.{one_item, one_place}
-use Rattle.certificate_rows.proofs.ElementLemmas.{Contains-from_get, zip_right}
+use Rattle.trace_types.proofs.ElementLemmas.{one_item, one_place, Contains-from_get}
+use Rattle.certificate_rows.proofs.ElementLemmas.{zip_right}
 
 -- the numbers of the two names or tasks
 abbrev pub AreNumbers : Known → Matter → ℕ → ℕ → Type 0

@@ -9,9 +9,9 @@ use Rattle.counterexamples.specs.Findings.{StandsAt, StandsBefore}
 use Rattle.counterexamples.specs.declared.finding.Finding.{Finding}
 use Rattle.day_partitions.specs.Books.{AreOfDay, AreRising, KeptDay, all_traces, traces_kept_on}
 use Rattle.trace_types.specs.declared.named_trace.NamedTrace.{NamedTrace}
-use Rattle.trace_types.proofs.ElementLemmas.{from_flat_map}
+use Rattle.trace_types.proofs.ElementLemmas.{from_flat_map, Contains-from_get}
 use Rattle.book_laws.proofs.BookLemmas.{pairs_head, days_tail, own_day, above_all}
-use Rattle.certificate_rows.proofs.ElementLemmas.{Contains-from_get, before_place, filter_all, filter_none, get_from_Contains, get_from_take}
+use Rattle.certificate_rows.proofs.ElementLemmas.{before_place, filter_all, filter_none, get_from_Contains, get_from_take}
 
 -- days that rise, each with traces of that day
 pub record AreDays (ks : List KeptDay) : Type 0 where

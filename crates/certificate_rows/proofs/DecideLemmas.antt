@@ -17,8 +17,8 @@ use Rattle.trace_types.specs.Pipelines.{EndsAt, HandlesAt, StartsAt, StartsInOrd
 use Rattle.trace_types.specs.Refuting.{HasBoth, StartsEarly}
 use Rattle.trace_types.specs.Segments.{SegmentName, name_of, task_of}
 use Rattle.trace_types.specs.declared.segment.Segment.{Segment}
-use Rattle.trace_types.proofs.ElementLemmas.{one_item}
-use Rattle.certificate_rows.proofs.ElementLemmas.{Contains-cons, Contains-from_get, Contains-here, Contains-nil, cons_cases}
+use Rattle.trace_types.proofs.ElementLemmas.{one_item, Contains-from_get}
+use Rattle.trace_types.proofs.ListingLemmas.{Contains-nil, Contains-cons, Contains-here, cons_cases}
 
 -- a fact is decided: it holds, or it does not
 abbrev pub IsDecided : Type 0 → Type 0

@@ -1,54 +1,18 @@
 -- The elements of lists that are made of others.
-use Rattle.std.proofs.Common.{◌≡◌, ◌⊎◌, ℕ, zero, suc, ◌+◌, ◌-◌, ◌<◌, ◌≤◌, Bool, true, false, Some, List, [], ◌∷◌, ◌++◌, length, get_or, take, map, filter, refl, sym, ap, ◌∙◌, subst, inl, inr, ⊎_elim, arith}
+use Rattle.std.proofs.Common.{◌≡◌, ℕ, zero, suc, ◌<◌, Bool, true, false, Some, List, [], ◌∷◌, ◌++◌, length, get_or, take, map, filter, refl, sym, ap, ◌∙◌, subst, inl, inr, ⊎_elim, arith}
 use Rattle.std.specs.List.{All, AllPairs, AllZip, Contains, slice_get}
-use Rattle.std.proofs.lemmas.Bool.{cases_Bool, cases_lt, cond-false, cond-true, false≢true}
-use Rattle.std.proofs.lemmas.List.{get_or_append_left, get_or-append_right, get_or-map, get_or-take, length-append, length-map, length-take}
-use Rattle.std.proofs.lemmas.List.Elements.{All-head, All-tail, Contains-get_or}
+use Rattle.std.proofs.lemmas.Bool.{cases_Bool, cond-false, cond-true, false≢true}
+use Rattle.std.proofs.lemmas.List.{get_or-map, get_or-take, length-map, length-take}
+use Rattle.std.proofs.lemmas.List.Elements.{All-head, All-tail}
 use Rattle.std.proofs.lemmas.Option.{slice_get_within, slice_get-get_or, get_or_from_slice_get}
+use Rattle.trace_types.proofs.ListingLemmas.{Contains-nil, Contains-cons, Contains-here, cons_cases}
+use Rattle.trace_types.proofs.PairLemmas.{AllPairs-nil}
 
 module _ {X : Type 0} where
-  pub Contains-nil : (x : X) → Contains [] x → ⊥
-  Contains-nil x c = let lt : c.0 < 0 = c.1 in absurd (omega arith)
-
-  pub Contains-cons : (x : X) (xs : List X) (y : X) → Contains xs y → Contains (x ∷ xs) y
-  Contains-cons x xs y c = let lt : c.0 < length xs = c.1 in (suc c.0, omega arith, c.2)
-
-  pub Contains-here : (x : X) (xs : List X) (y : X) → x ≡ y → Contains (x ∷ xs) y
-  Contains-here x xs y e = (zero, omega arith, e)
-
-  pub cons_cases : (x : X) (xs : List X) (z : X) → Contains (x ∷ xs) z → (x ≡ z) ⊎ Contains xs z
-  cons_cases x xs z (zero, lt, is) = inl is
-  cons_cases x xs z (suc k, lt, is) = inr (k, omega arith, is)
-
-  pub Contains-from_get : (xs : List X) (k : ℕ) (x : X) → slice_get xs k ≡ Some x → Contains xs x
-  Contains-from_get xs k x e = (k, slice_get_within xs k x e, get_or_from_slice_get xs k x x e)
-
   pub get_from_Contains : (xs : List X) (x : X) → Contains xs x → (k : ℕ) × (k < length xs) × (slice_get xs k ≡ Some x)
   get_from_Contains xs x c = (c.0, c.1, slice_get-get_or xs c.0 x c.1 ∙ ap (λ (v : X). Some v) c.2)
 
   -- ---- pairs of elements
-  pub pairs_nil : (R : X → X → Type 0) → AllPairs R []
-  pairs_nil R = λ i j d below within. let lt : j < 0 = within in absurd (omega arith)
-
-  pub pairs_tail : (R : X → X → Type 0) (x : X) (xs : List X) → AllPairs R (x ∷ xs) → AllPairs R xs
-  pairs_tail R x xs p = λ i j d below within. p (suc i) (suc j) d (omega arith) (omega arith)
-
-  pub head_before : (R : X → X → Type 0) (x : X) (xs : List X) (z : X) → AllPairs R (x ∷ xs) → Contains xs z → R x z
-  head_before R x xs z p (k, lt, is) = subst (R x) is (p zero (suc k) z (omega arith) (omega arith))
-
-  pub pairs_append : (R : X → X → Type 0) (xs ys : List X) → AllPairs R xs → AllPairs R ys → ((x y : X) → Contains xs x → Contains ys y → R x y) → AllPairs R (xs ++ ys)
-  pairs_append R xs ys p q across i j d lt inside =
-      let n : j < length xs + length ys = omega (arith, length-append xs ys) in
-      ⊎_elim
-      (λ (low : j < length xs). let m : i < length xs = omega arith in
-      subst (λ v. R v (get_or (xs ++ ys) j d)) (sym (get_or_append_left xs ys d i m)) (subst (λ v. R (get_or xs i d) v) (sym (get_or_append_left xs ys d j low)) (p i j d lt low)))
-      (λ (high : length xs ≤ j). let k : j - length xs < length ys = omega arith in let ej = get_or-append_right xs ys (length xs) j d refl high in
-      subst (λ v. R (get_or (xs ++ ys) i d) v) (sym ej) (⊎_elim
-      (λ (m : i < length xs). subst (λ v. R v (get_or ys (j - length xs) d)) (sym (get_or_append_left xs ys d i m)) (across (get_or xs i d) (get_or ys (j - length xs) d) (Contains-get_or xs i d m) (Contains-get_or ys (j - length xs) d k)))
-      (λ (m : length xs ≤ i). subst (λ v. R v (get_or ys (j - length xs) d)) (sym (get_or-append_right xs ys (length xs) i d refl m)) (q (i - length xs) (j - length xs) d (omega arith) k))
-      (cases_lt i (length xs))))
-      (cases_lt j (length xs))
-
   -- an element before place i stands to the one at i as any earlier to any later one
   pub before_place : (R : X → X → Type 0) (xs : List X) → AllPairs R xs → (i : ℕ) (x y : X) → slice_get xs i ≡ Some x → Contains (take i xs) y → R y x
   before_place R xs all i x y here c =
@@ -100,7 +64,7 @@ module _ {X : Type 0} where
 
 -- ---- maps, and lists joined end to end
 pub pairs_map : {X Y : Type 0} (f : X → Y) (R : Y → Y → Type 0) (xs : List X) → AllPairs (λ x y. R (f x) (f y)) xs → AllPairs R (map f xs)
-pairs_map f R [] p = pairs_nil R
+pairs_map f R [] p = AllPairs-nil R
 pairs_map {X} {Y} f R (x ∷ xs) p = λ i j d lt inside.
     let within : j < length (x ∷ xs) = omega (arith, length-map (x ∷ xs) f) in
     let ei = get_or-map f (x ∷ xs) i x d (omega arith) in

@@ -1,13 +1,11 @@
 -- What is decided of the elements of a list can be listed, and so can the relations that kept traces
 -- refute.
-use Rattle.std.proofs.Common.{◌≡◌, ◌⊎◌, ◌↔◌, ℕ, List, [], ◌∷◌, map, refl, sym, ap, ◌∙◌, subst, ⊎_elim, inl, inr, Ordering}
-use Rattle.std.specs.declared.cmp.Ordering.TheVariants.{Less, Equal, Greater}
-use Rattle.std.specs.List.{All, AllPairs, Contains, flat_map}
+use Rattle.std.proofs.Common.{◌≡◌, ℕ, List, [], ◌∷◌, map, refl, sym, subst, ⊎_elim, inl, inr, Ordering}
+use Rattle.std.specs.declared.cmp.Ordering.TheVariants.{Less, Equal}
+use Rattle.std.specs.List.{Contains, flat_map}
 use Rattle.std.specs.Cmp.{IsTotalOrder}
 use Rattle.std.specs.Cmp.Lexicographic.{slice_cmp}
-use Rattle.std.specs.Ordering.{nat_cmp, ordering_reverse}
-use Rattle.std.proofs.lemmas.List.Elements.{All-cons, All-nil, Contains-get_or}
-use Rattle.std.proofs.lemmas.List.Kept.{AllPairs-cons}
+use Rattle.std.specs.Ordering.{nat_cmp}
 use Rattle.certificates.specs.declared.matter.Matter.{Matter}
 use Rattle.certificates.specs.declared.matter.Matter.TheVariants.{Before, Exclusive, Pipe}
 use Rattle.session_rules.specs.KeptTraces.{Kept, by_kept}
@@ -20,70 +18,20 @@ use Rattle.trace_types.specs.Segments.{SegmentName, name_of, task_of}
 use Rattle.trace_types.specs.Surviving.{IsRefuted}
 use Rattle.trace_types.specs.declared.segment.Segment.{Segment}
 use Rattle.trace_types.proofs.ComparingLemmas.{both_equal, text_exact, name_exact, text_total}
-use Rattle.trace_types.proofs.ListingLemmas.{name_total, pair_total}
-use Rattle.trace_types.proofs.ElementLemmas.{Contains-map, Contains-flat_map}
+use Rattle.trace_types.proofs.ListingLemmas.{name_total, pair_total, Contains-nil, Contains-cons, Contains-here, cons_cases}
+use Rattle.trace_types.proofs.ElementLemmas.{Contains-map, Contains-flat_map, Contains-from_get}
+use Rattle.trace_types.proofs.PairLemmas.{AllPairs-nil}
+use Rattle.trace_types.proofs.PuttingLemmas.{put}
 use Rattle.certificate_rows.proofs.DecideLemmas.{IsDecided, decided_and, decided_like, less_decided, refutes_decided, some_decided}
-use Rattle.certificate_rows.proofs.ElementLemmas.{Contains-cons, Contains-from_get, Contains-here, Contains-nil, cons_cases, head_before, pairs_nil, pairs_tail}
 
 -- ---- the elements of a list, in rising order and each once
-all_contained : {X : Type 0} (P : X → Type 0) (xs : List X) → ((z : X) → Contains xs z → P z) → All P xs
-all_contained P xs each = λ k d lt. each _ (Contains-get_or xs k d lt)
-
-module _ {X : Type 0} (cmp : X → X → Ordering) where
-  -- the list rises
-  abbrev Rises : List X → Type 0
-  Rises xs = AllPairs (λ x y. cmp x y ≡ Less) xs
-
-  -- the rising list has this element and those of another
-  record IsPut (x : X) (ys zs : List X) : Type 0 where
-    pub rising : Rises zs
-    pub same : (z : X) → Contains zs z ↔ ((x ≡ z) ⊎ Contains ys z)
-
 module _ {X : Type 0} (cmp : X → X → Ordering) (total : IsTotalOrder cmp) (exact : (x y : X) → cmp x y ≡ Equal → x ≡ y) where
-  -- an element is put into a rising list with this head, where it can be put into the rest
-  put_at : (x y : X) (ys : List X) → Rises cmp (y ∷ ys) → (zs : List X) × IsPut cmp x ys zs → (o : Ordering) → cmp x y ≡ o → (zs : List X) × IsPut cmp x (y ∷ ys) zs
-  put_at x y ys rising rest Less e = (
-    x ∷ y ∷ ys,
-    record {
-      rising = AllPairs-cons (λ u v. cmp u v ≡ Less) x (y ∷ ys) (All-cons (λ v. cmp x v ≡ Less) y ys e (all_contained (λ v. cmp x v ≡ Less) ys (λ z c. total.trans x y z e (head_before (λ u v. cmp u v ≡ Less) y ys z rising c)))) rising;
-      same = λ z. (cons_cases x (y ∷ ys) z, λ s. ⊎_elim (λ (h : x ≡ z). Contains-here x (y ∷ ys) z h) (λ (c : Contains (y ∷ ys) z). Contains-cons x (y ∷ ys) z c) s);
-    },
-  )
-  put_at x y ys rising rest Equal e = (
-    y ∷ ys,
-    record {
-      rising = rising;
-      same = λ z. (λ c. inr c, λ s. ⊎_elim (λ (h : x ≡ z). Contains-here y ys z (sym (exact x y e) ∙ h)) (λ (c : Contains (y ∷ ys) z). c) s);
-    },
-  )
-  put_at x y ys rising (zs, p) Greater e =
-      let before : cmp y x ≡ Less = total.antisymm y x ∙ ap ordering_reverse e in (
-        y ∷ zs,
-        record {
-          rising = AllPairs-cons (λ u v. cmp u v ≡ Less) y zs (all_contained (λ v. cmp y v ≡ Less) zs (λ z c. ⊎_elim (λ (h : x ≡ z). subst (λ v. cmp y v ≡ Less) h before) (λ (d : Contains ys z). head_before (λ u v. cmp u v ≡ Less) y ys z rising d) ((p.same z).0 c))) p.rising;
-          same = λ z. (
-            λ c. ⊎_elim (λ (h : y ≡ z). inr (Contains-here y ys z h)) (λ (d : Contains zs z). ⊎_elim (λ (h : x ≡ z). inl h) (λ (f : Contains ys z). inr (Contains-cons y ys z f)) ((p.same z).0 d)) (cons_cases y zs z c),
-            λ s. ⊎_elim (λ (h : x ≡ z). Contains-cons y zs z ((p.same z).1 (inl h))) (λ (c : Contains (y ∷ ys) z). ⊎_elim (λ (h : y ≡ z). Contains-here y zs z h) (λ (d : Contains ys z). Contains-cons y zs z ((p.same z).1 (inr d))) (cons_cases y ys z c)) s,
-          );
-        },
-      )
-
-  put : (x : X) (ys : List X) → Rises cmp ys → (zs : List X) × IsPut cmp x ys zs
-  put x [] rising = (
-    x ∷ [],
-    record {
-      rising = AllPairs-cons (λ u v. cmp u v ≡ Less) x [] (All-nil (λ v. cmp x v ≡ Less)) rising;
-      same = λ z. (cons_cases x [] z, λ s. ⊎_elim (λ (h : x ≡ z). Contains-here x [] z h) (λ (c : Contains [] z). absurd (Contains-nil z c)) s);
-    },
-  )
-  put x (y ∷ ys) rising = put_at x y ys rising (put x ys (pairs_tail (λ u v. cmp u v ≡ Less) y ys rising)) (cmp x y) refl
-
   -- the elements of a list that have a decided fact
   module _ (P : X → Type 0) (decide : (x : X) → IsDecided (P x)) where
     -- one more element
     listed_more : (x : X) (xs ys : List X) → ListsExactly cmp (λ z. Contains xs z × P z) ys → IsDecided (P x) → (zs : List X) × ListsExactly cmp (λ z. Contains (x ∷ xs) z × P z) zs
     listed_more x xs ys h (inl has) =
-        let p = put x ys h.rising in (
+        let p = put cmp total exact x ys h.rising in (
           p.0,
           record {
             rising = p.1.rising;
@@ -105,7 +53,7 @@ module _ {X : Type 0} (cmp : X → X → Ordering) (total : IsTotalOrder cmp) (e
     )
 
     listed : (xs : List X) → (ys : List X) × ListsExactly cmp (λ z. Contains xs z × P z) ys
-    listed [] = ([], record { rising = pairs_nil (λ u v. cmp u v ≡ Less); exactly = λ z. (λ c. absurd (Contains-nil z c), λ c. absurd (Contains-nil z c.0)) })
+    listed [] = ([], record { rising = AllPairs-nil (λ u v. cmp u v ≡ Less); exactly = λ z. (λ c. absurd (Contains-nil z c), λ c. absurd (Contains-nil z c.0)) })
     listed (x ∷ xs) = let h = listed xs in listed_more x xs h.0 h.1 (decide x)
 
     -- where only elements of the list have the fact

@@ -10,10 +10,12 @@ use Rattle.std.proofs.lemmas.List.Kept.{AllPairs-filter}
 use Rattle.trace_types.specs.Listing.{ListsExactly}
 use Rattle.trace_types.specs.NameOrder.{pair_cmp}
 use Rattle.trace_types.proofs.ElementLemmas.{Contains-map, from_map}
+use Rattle.trace_types.proofs.ListingLemmas.{Contains-nil, Contains-cons, Contains-here, cons_cases, pairs_tail, head_before}
+use Rattle.trace_types.proofs.PairLemmas.{AllPairs-nil, AllPairs-append}
 use Rattle.certificate_rows.specs.declared.kind.Kind.{Kind}
 use Rattle.certificate_rows.specs.declared.kind.Kind.TheVariants.{Before, Exclusive, Pipe}
 use Rattle.certificate_rows.specs.inner.Pairs.{pairs_with, pairs_of, seconds_of}
-use Rattle.certificate_rows.proofs.ElementLemmas.{Contains-cons, Contains-here, Contains-kept, Contains-nil, cons_cases, head_before, kept_Contains, pairs_append, pairs_map, pairs_nil, pairs_tail}
+use Rattle.certificate_rows.proofs.ElementLemmas.{Contains-kept, kept_Contains, pairs_map}
 
 module _ {X : Type 0} (cmp : X → X → Ordering) (total : IsTotalOrder cmp) (text : ℕ → X) where
   -- the text of the one number is less than that of the other
@@ -56,11 +58,11 @@ module _ {X : Type 0} (cmp : X → X → Ordering) (total : IsTotalOrder cmp) (t
       (Contains-append_cases (pairs_with one (seconds_of kind all later)) (pairs_of kind all later) p c)
 
   pairs_rise : (kind : Kind) (all rest : List ℕ) → AllPairs Less_texts all → AllPairs Less_texts rest → AllPairs Less_pairs (pairs_of kind all rest)
-  pairs_rise kind all [] ra rr = pairs_nil Less_pairs
+  pairs_rise kind all [] ra rr = AllPairs-nil Less_pairs
   pairs_rise kind all (one ∷ later) ra rr =
       let rl = pairs_tail Less_texts one later rr in
       let seconds = seconds_of kind all later in
-      pairs_append Less_pairs (pairs_with one seconds) (pairs_of kind all later) (row_rises one seconds (seconds_rise kind all later ra rl)) (pairs_rise kind all later ra rl)
+      AllPairs-append Less_pairs (pairs_with one seconds) (pairs_of kind all later) (row_rises one seconds (seconds_rise kind all later ra rl)) (pairs_rise kind all later ra rl)
       (λ p q c d.
       let r = from_map (λ (n : ℕ). (one, n)) seconds p c in
       let l = head_before Less_texts one later q.0 rr (firsts_in kind all later q d) in

@@ -9,6 +9,7 @@ pub mod MatchLemmas
 pub mod NumberingLemmas
 pub mod OrderLemmas
 pub mod PairLemmas
+pub mod PuttingLemmas
 pub mod RenamingLemmas
 pub mod ShortLemmas
 pub mod TruthLemmas

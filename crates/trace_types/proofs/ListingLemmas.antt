@@ -23,6 +23,9 @@ cons_cases x xs z (suc k, lt, is) = inr (k, omega arith, is)
 pub cons_here : {X : Type 0} (x : X) (xs : List X) → Contains (x ∷ xs) x
 cons_here x xs = (zero, omega arith, refl)
 
+pub Contains-here : {X : Type 0} (x : X) (xs : List X) (y : X) → x ≡ y → Contains (x ∷ xs) y
+Contains-here x xs y e = (zero, omega arith, e)
+
 pub pairs_tail : {X : Type 0} (R : X → X → Type 0) (x : X) (xs : List X) → AllPairs R (x ∷ xs) → AllPairs R xs
 pairs_tail R x xs p = λ i j d lt within. p (suc i) (suc j) d (omega arith) (omega arith)
 
