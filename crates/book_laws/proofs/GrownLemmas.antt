@@ -16,8 +16,9 @@ use Rattle.segment_names.specs.Limits.{IsKept}
 use Rattle.session_rules.specs.KeptTraces.{Kept, by_kept}
 use Rattle.trace_types.proofs.ComparingLemmas.{text_means}
 use Rattle.segment_names.proofs.TextLemmas.{name_means}
+use Rattle.trace_types.proofs.MatchLemmas.{zip_map}
+use Rattle.day_partitions.proofs.FilterLemmas.{filter_all}
 use Rattle.book_laws.specs.Shown.{AreShown, IsShown}
-use Rattle.book_laws.proofs.ZipLemmas.{filter_all, zip_weaker}
 
 module _ {X : Type 0} (same : X → X → Bool) (means : (x y : X) → same x y ≡ true → x ≡ y) where
   differ : (x y : X) → x ≢ y → same x y ≡ false
@@ -50,7 +51,7 @@ grown_trace known new more_names more_tasks en et named k h = record {
     grace = h.renamed.grace;
     elements = h.renamed.elements;
     one_to_one = h.renamed.one_to_one;
-    segments = zip_weaker (IsSegmentRenamed by_number by_kept (enumerate_from 0 known.names) (enumerate_from 0 known.tasks) h.renamed.elements) (IsSegmentRenamed by_number by_kept (enumerate_from 0 new.names) (enumerate_from 0 new.tasks) h.renamed.elements)
+    segments = zip_map (IsSegmentRenamed by_number by_kept (enumerate_from 0 known.names) (enumerate_from 0 known.tasks) h.renamed.elements) (IsSegmentRenamed by_number by_kept (enumerate_from 0 new.names) (enumerate_from 0 new.tasks) h.renamed.elements)
         (λ s x r. record {
           name = still_matched known.names more_names new.names _ en r.name;
           task = still_matched known.tasks more_tasks new.tasks _ et r.task;
@@ -69,4 +70,4 @@ grown known more named kept h shown =
     let segments : List Segment = flat_map (λ (t : Trace). t.segments) more in
     let names = firsts_prefix same_name name_means known.names (map name_of segments) h.names_differ in
     let tasks = firsts_prefix bytes_eq text_means known.tasks (map task_of segments) h.tasks_differ in
-    zip_weaker (IsShown known) (IsShown (with_traces known more)) (grown_trace known (with_traces known more) names.0 tasks.0 names.1 tasks.1) named kept shown
+    zip_map (IsShown known) (IsShown (with_traces known more)) (grown_trace known (with_traces known more) names.0 tasks.0 names.1 tasks.1) named kept shown

@@ -8,12 +8,12 @@ use Rattle.day_partitions.specs.Books as books
 use Rattle.day_partitions.specs.Batches.{with_all}
 use Rattle.segment_names.specs.Known.{Known}
 use Rattle.session_rules.specs.KeptTraces.{Kept, day_of, days_of, taken_in, traces_on, with_taken}
+use Rattle.trace_types.proofs.ZipLemmas.{zip_filter, zip_length, zip_mapped}
 use Rattle.book_laws.specs.Shown.{AreShown, IsShown}
 use Rattle.book_laws.specs.BookLaws.{DropShows, NewestShow, SheetsShow, DaysAreCounted}
 use Rattle.book_laws.proofs.BookLemmas.{above, all_newest, all_of_day, all_without, book_days, days_are, days_in, is_new, named_day}
 use Rattle.book_laws.proofs.SheetLemmas.{are_of_days, count_days, with_all_days, with_sheets}
 use Rattle.book_laws.proofs.TakenLemmas.{put_all, put_in, zip_put_all}
-use Rattle.book_laws.proofs.ZipLemmas.{zip_filter, zip_length, zip_map}
 
 same_day : (known : Known) (t : NamedTrace) (k : Kept) → IsShown known t k → named_day t ≡ day_of k
 same_day known t k h = h.day
@@ -26,7 +26,7 @@ drop_shows known b kept day h shown =
     )
 
 days_alike : (known : Known) (b : BookState) (kept : List Kept) → IsBook b → AreShown known (all_traces b.days) kept → days_of kept ≡ days_in b.days
-days_alike known b kept h shown = ap (firsts_of nat_eq) (sym (zip_map (IsShown known) named_day day_of (same_day known) (all_traces b.days) kept shown)) ∙ days_are b.days (book_days b h)
+days_alike known b kept h shown = ap (firsts_of nat_eq) (sym (zip_mapped (IsShown known) named_day day_of (same_day known) (all_traces b.days) kept shown)) ∙ days_are b.days (book_days b h)
 
 pub newest_show : NewestShow
 newest_show known b kept n h shown =
@@ -51,5 +51,5 @@ days_counted known b kept more sheets named h shown others parts =
     let days = book_days b h in
     let of_days = are_of_days sheets named parts in
     let after = sheets_show known b kept more sheets named h shown others parts in
-    let days_then : days_of (with_taken kept more) ≡ days_in (with_all b sheets).days = ap (firsts_of nat_eq) (sym (zip_map (IsShown known) named_day day_of (same_day known) (all_traces (with_all b sheets).days) (with_taken kept more) after)) ∙ days_are (with_all b sheets).days (with_all_days b sheets days of_days) in
+    let days_then : days_of (with_taken kept more) ≡ days_in (with_all b sheets).days = ap (firsts_of nat_eq) (sym (zip_mapped (IsShown known) named_day day_of (same_day known) (all_traces (with_all b sheets).days) (with_taken kept more) after)) ∙ days_are (with_all b sheets).days (with_all_days b sheets days of_days) in
     sym (ap length days_then ∙ length-map (with_all b sheets).days (λ (k : KeptDay). k.day) ∙ count_days b sheets days of_days parts.rising)

@@ -10,10 +10,10 @@ use Rattle.day_partitions.specs.Books.{BookState, KeptDay, all_traces, has_day, 
 use Rattle.day_partitions.specs.Batches.{with_all, new_days}
 use Rattle.day_partitions.specs.declared.dated_sheet.DatedSheet.{DatedSheet}
 use Rattle.day_partitions.proofs.DayLemmas.{with_below, with_same, with_above, has_above}
+use Rattle.day_partitions.proofs.FilterLemmas.{filter_yes, filter_no, filter_all, filter_none}
 use Rattle.book_laws.specs.Shown.{named_on}
 use Rattle.book_laws.specs.BookLaws.{AreSheetsOf}
 use Rattle.book_laws.proofs.BookLemmas.{AreDays, named_day, with_puts, with_days, with_cases, days_tail, all_rise}
-use Rattle.book_laws.proofs.ZipLemmas.{filter_yes, filter_no, filter_all, filter_none}
 use Rattle.book_laws.proofs.TakenLemmas.{put_all, put_in, has_key, filter_put_all, one_rising, put_all_rises}
 
 abbrev pub sheet_day : DatedSheet → ℕ

@@ -4,7 +4,7 @@ use Rattle.std.proofs.lemmas.Bool.{cases_eq, cases_lt, cases_order, eq-eqb, ne_e
 use Rattle.std.proofs.lemmas.List.{append-nil}
 use Rattle.std.proofs.lemmas.List.Elements.{All-nil, All-cons, All-head, All-tail, All-weaker, All-append}
 use Rattle.std.specs.List.{AllZip}
-use Rattle.book_laws.proofs.ZipLemmas.{filter_yes, filter_no, filter_none}
+use Rattle.day_partitions.proofs.FilterLemmas.{filter_yes, filter_no, filter_none}
 
 module _ {X : Type 0} (key : X → ℕ) where
   -- the item stands after all of its key and of lower keys

@@ -22,9 +22,10 @@ use Rattle.trace_types.proofs.ComparingLemmas.{text_means, text_own}
 use Rattle.segment_names.proofs.TextLemmas.{name_means, name_own}
 use Rattle.trace_types.proofs.ElementLemmas.{one_place, none_passes}
 use Rattle.book_laws.proofs.BookLemmas.{book_days}
+use Rattle.trace_types.proofs.ZipLemmas.{zip_filter}
 use Rattle.certificate_rows.proofs.BridgeLemmas.{AreLaws, AreNumbers, refuted_numbers, refutes_alike}
 use Rattle.certificate_rows.proofs.DayLemmas.{all_of_day, is_of}
-use Rattle.certificate_rows.proofs.ElementLemmas.{zip_filter, zip_get_left, zip_get_right}
+use Rattle.certificate_rows.proofs.ElementLemmas.{zip_get_left, zip_get_right}
 
 -- ---- the number of a text
 -- a position is that of the text, and a text that stands in a list has a position

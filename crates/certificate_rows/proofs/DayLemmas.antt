@@ -11,7 +11,8 @@ use Rattle.day_partitions.specs.Books.{AreOfDay, AreRising, KeptDay, all_traces,
 use Rattle.trace_types.specs.declared.named_trace.NamedTrace.{NamedTrace}
 use Rattle.trace_types.proofs.ElementLemmas.{from_flat_map, Contains-from_get}
 use Rattle.book_laws.proofs.BookLemmas.{pairs_head, days_tail, own_day, above_all}
-use Rattle.certificate_rows.proofs.ElementLemmas.{before_place, filter_all, filter_none, get_from_Contains, get_from_take}
+use Rattle.day_partitions.proofs.FilterLemmas.{filter_all, filter_none}
+use Rattle.certificate_rows.proofs.ElementLemmas.{before_place, get_from_Contains, get_from_take}
 
 -- days that rise, each with traces of that day
 pub record AreDays (ks : List KeptDay) : Type 0 where

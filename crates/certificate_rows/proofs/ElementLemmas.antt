@@ -1,12 +1,12 @@
 -- The elements of lists that are made of others.
-use Rattle.std.proofs.Common.{◌≡◌, ℕ, zero, suc, ◌<◌, Bool, true, false, Some, List, [], ◌∷◌, ◌++◌, length, get_or, take, map, filter, refl, sym, ap, ◌∙◌, subst, inl, inr, ⊎_elim, arith}
-use Rattle.std.specs.List.{All, AllPairs, AllZip, Contains, slice_get}
-use Rattle.std.proofs.lemmas.Bool.{cases_Bool, cond-false, cond-true, false≢true}
+use Rattle.std.proofs.Common.{◌≡◌, ℕ, zero, suc, ◌<◌, Bool, true, Some, List, [], ◌∷◌, ◌++◌, length, get_or, take, map, filter, refl, sym, ap, ◌∙◌, subst, inl, inr, ⊎_elim, arith}
+use Rattle.std.specs.List.{AllPairs, AllZip, Contains, slice_get}
+use Rattle.std.proofs.lemmas.Bool.{cases_Bool, false≢true}
 use Rattle.std.proofs.lemmas.List.{get_or-map, get_or-take, length-map, length-take}
-use Rattle.std.proofs.lemmas.List.Elements.{All-head, All-tail}
 use Rattle.std.proofs.lemmas.Option.{slice_get_within, slice_get-get_or, get_or_from_slice_get}
 use Rattle.trace_types.proofs.ListingLemmas.{Contains-nil, Contains-cons, Contains-here, cons_cases}
 use Rattle.trace_types.proofs.PairLemmas.{AllPairs-nil}
+use Rattle.day_partitions.proofs.FilterLemmas.{filter_yes, filter_no}
 
 module _ {X : Type 0} where
   pub get_from_Contains : (xs : List X) (x : X) → Contains xs x → (k : ℕ) × (k < length xs) × (slice_get xs k ≡ Some x)
@@ -31,20 +31,6 @@ module _ {X : Type 0} where
       (c.0, early, slice_get-get_or xs c.0 y within ∙ ap (λ (v : X). Some v) (sym (get_or-take i xs c.0 y early) ∙ c.2))
 
   -- ---- filters
-  pub filter_yes : (p : X → Bool) (x : X) (xs : List X) → p x ≡ true → filter p (x ∷ xs) ≡ x ∷ filter p xs
-  filter_yes p x xs e = cond-true (p x) (x ∷ filter p xs) (filter p xs) e
-
-  pub filter_no : (p : X → Bool) (x : X) (xs : List X) → p x ≡ false → filter p (x ∷ xs) ≡ filter p xs
-  filter_no p x xs e = cond-false (p x) (x ∷ filter p xs) (filter p xs) e
-
-  pub filter_all : (p : X → Bool) (xs : List X) → All (λ x. p x ≡ true) xs → filter p xs ≡ xs
-  filter_all p [] h = refl
-  filter_all p (x ∷ xs) h = filter_yes p x xs (All-head (λ y. p y ≡ true) x xs h) ∙ ap (λ l. x ∷ l) (filter_all p xs (All-tail (λ y. p y ≡ true) x xs h))
-
-  pub filter_none : (p : X → Bool) (xs : List X) → All (λ x. p x ≡ false) xs → filter p xs ≡ []
-  filter_none p [] h = refl
-  filter_none p (x ∷ xs) h = filter_no p x xs (All-head (λ y. p y ≡ false) x xs h) ∙ filter_none p xs (All-tail (λ y. p y ≡ false) x xs h)
-
   -- what passes a test is kept, and what is kept passes it
   pub Contains-kept : (p : X → Bool) (xs : List X) (x : X) → Contains xs x → p x ≡ true → Contains (filter p xs) x
   Contains-kept p [] x c e = c
@@ -100,25 +86,6 @@ module _ {A B : Type 0} (R : A → B → Type 0) where
       some_is : (u v : B) → Some u ≡ Some v → u ≡ v
       some_is u v e = cc
   zip_get_right (a ∷ xs) (b ∷ ys) (suc i) y z e = zip_get_right xs ys i y z.1 e
-
-  -- filters by tests that agree keep the relation
-  pub zip_filter : (p : A → Bool) (q : B → Bool) → ((x : A) (y : B) → R x y → p x ≡ q y) → (xs : List A) (ys : List B) → AllZip R xs ys → AllZip R (filter p xs) (filter q ys)
-  zip_filter p q same [] [] z = z
-  zip_filter p q same [] (y ∷ ys) z = absurd z
-  zip_filter p q same (x ∷ xs) [] z = absurd z
-  zip_filter p q same (x ∷ xs) (y ∷ ys) z =
-      let rest = zip_filter p q same xs ys z.1 in
-      let agree = same x y z.0 in
-      elim (cases_Bool (p x)) [
-        | inl good ↦ rw (filter_yes p x xs good, filter_yes q y ys (sym agree ∙ good)) (z.0, rest)
-        | inr bad ↦ rw (filter_no p x xs bad, filter_no q y ys (sym agree ∙ bad)) rest
-      ]
-
-  pub zip_length : (xs : List A) (ys : List B) → AllZip R xs ys → length xs ≡ length ys
-  zip_length [] [] z = refl
-  zip_length [] (y ∷ ys) z = absurd z
-  zip_length (x ∷ xs) [] z = absurd z
-  zip_length (x ∷ xs) (y ∷ ys) z = let h = zip_length xs ys z.1 in omega arith
 
   -- one of the lists is split at an element
   pub record IsSplit (front back : List A) (x : A) (ys : List B) : Type 0 where

@@ -27,13 +27,14 @@ use Rattle.trace_types.specs.declared.named_trace.NamedTrace.{NamedTrace}
 use Rattle.book_laws.proofs.BookLemmas.{book_days}
 use Rattle.trace_types.proofs.ListingLemmas.{Contains-here}
 use Rattle.trace_types.proofs.ElementLemmas.{Contains-from_get}
+use Rattle.trace_types.proofs.ZipLemmas.{zip_filter, zip_length}
 use Rattle.certificate_rows.specs.declared.kind.Kind.{Kind}
 use Rattle.certificate_rows.specs.inner.Numbered.{matter_between, row_of_pair, refuter_row, row_of_finding, trace_at, refuted_by_row}
 use Rattle.certificate_rows.specs.inner.Pairs.{refuted_pairs, refuter_between, relation_of_kind}
 use Rattle.certificate_rows.specs.inner.Sources.{HasRefuters, count_of}
 use Rattle.certificate_rows.proofs.BridgeLemmas.{AreLaws, AreNumbers, refuted_numbers, refutes_alike}
 use Rattle.certificate_rows.proofs.DayLemmas.{all_split, before_counted, before_in, is_of, stands_before}
-use Rattle.certificate_rows.proofs.ElementLemmas.{zip_filter, zip_length, zip_right, zip_split}
+use Rattle.certificate_rows.proofs.ElementLemmas.{zip_right, zip_split}
 use Rattle.certificate_rows.proofs.RefuterLemmas.{refuter_differs, refuter_found, refuter_told}
 
 -- the first refuter among the kept traces, which shows the trace by number

@@ -28,6 +28,7 @@ use Rattle.trace_types.specs.Surviving.{IsRefuted}
 use Rattle.trace_types.proofs.ListingLemmas.{name_total, pair_total}
 use Rattle.trace_types.proofs.ComparingLemmas.{text_total}
 use Rattle.trace_types.proofs.ElementLemmas.{map_twice}
+use Rattle.trace_types.proofs.ZipLemmas.{zip_length}
 use Rattle.certificate_rows.specs.declared.kind.Kind.{Kind}
 use Rattle.certificate_rows.specs.declared.kind.Kind.TheVariants.{Before, Exclusive, Pipe}
 use Rattle.certificate_rows.specs.inner.Numbered.{kind_count, kind_rows, numbered_name, numbered_task}
@@ -36,7 +37,6 @@ use Rattle.certificate_rows.specs.inner.Pairs.{pairs_of, refuted_pairs, refuter_
 use Rattle.certificate_rows.specs.inner.Sources.{HasRefuters}
 use Rattle.certificate_rows.specs.inner.Wholes.{certificate_text, refuted_count, refuted_rows}
 use Rattle.certificate_rows.proofs.BridgeLemmas.{AreLaws}
-use Rattle.certificate_rows.proofs.ElementLemmas.{zip_length}
 use Rattle.certificate_rows.proofs.FirstLemmas.{refuted_found, refuted_told, rows_told}
 use Rattle.certificate_rows.proofs.PairLemmas.{IsAsked, asked_to, pairs_listed, texts_of}
 

@@ -6,8 +6,8 @@ use Rattle.std.proofs.lemmas.Bool.{cases_eq}
 use Rattle.row_pool.specs.Pools.{Pool, row_at, with_row}
 use Rattle.word_rows.specs.Words.{IsCommon}
 use Rattle.row_pool.proofs.CallerLemmas.{row_at-same, row_at-other, live-with}
+use Rattle.row_pool.proofs.MapLemmas.{len-insert_old}
 use Rattle.day_partitions.specs.inner.Nodes.{id_at, owns_row, AreRows, AreMetBut, ChangesInner}
-use Rattle.day_partitions.proofs.PoolLemmas.{len-insert_old}
 use Rattle.day_partitions.proofs.PlaceLemmas.{own_inner}
 
 pub common_of : (a b c x y z : List ℕ) → x ≡ a → y ≡ b → z ≡ c → IsCommon a b c → IsCommon x y z

@@ -3,7 +3,7 @@ use Rattle.std.proofs.Common.{◌≡◌, ℕ, zero, suc, ◌<◌, List, [], ◌�
 use Rattle.std.proofs.lemmas.Bool.{cases_eq, false≢true}
 use Rattle.std.specs.Ordering.{nat_cmp}
 use Rattle.std.specs.FinMap.{FinMap, get, remove, len, entries, find, gets, get-entries, len-entries, get-empty, empty_of_len}
-use Rattle.day_partitions.proofs.PoolLemmas.{get-remove_same, get-remove_other, len-remove_old}
+use Rattle.row_pool.proofs.MapLemmas.{get-remove_other, get-remove_same, len-remove_old}
 
 module _ {X : Type 0} where
   first_entry : (es : List (ℕ × X)) → 0 < length es → (k : ℕ) × IsSome (find nat_cmp k es)

@@ -8,8 +8,9 @@ use Rattle.std.specs.FinMap.{get, insert}
 use Rattle.word_rows.specs.Words.{full_words as full}
 use Rattle.row_pool.specs.Pools.{Pool, IsLive, row_at, with_row, with_row_taken, without_row}
 use Rattle.row_pool.proofs.CallerLemmas.{row_at-same, live-insert_same, apart-new}
+use Rattle.row_pool.proofs.MapLemmas.{get-insert_other, get-remove_other, len-insert_new, len-insert_old, len-remove_old}
 use Rattle.day_partitions.specs.inner.Nodes.{id_at, owns_row, AreRows, AreMetBut, ChangesInner, leaf_rows}
-use Rattle.day_partitions.proofs.PoolLemmas.{row_at-kept, live-kept, get-insert_other, get-remove_other, len-insert_new, len-insert_old, len-remove_old}
+use Rattle.day_partitions.proofs.PoolLemmas.{row_at-kept, live-kept}
 use Rattle.day_partitions.proofs.PlaceLemmas.{id_inner, id_leaf, id_last, own_inner, own_leaf, own_last}
 use Rattle.day_partitions.proofs.ClimbLemmas.{common_of}
 

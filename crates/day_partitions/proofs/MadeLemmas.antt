@@ -6,8 +6,9 @@ use Rattle.std.specs.FinMap.{get, insert, len}
 use Rattle.word_rows.specs.Words.{full_words as full}
 use Rattle.row_pool.specs.Pools.{Pool, IsLive, row_at, with_row, with_row_taken}
 use Rattle.row_pool.proofs.CallerLemmas.{row_at-same, row_at-other, live-insert_same, live-with, apart-new}
+use Rattle.row_pool.proofs.MapLemmas.{len-insert_new}
 use Rattle.day_partitions.specs.inner.Nodes.{AreMade}
-use Rattle.day_partitions.proofs.PoolLemmas.{row_at-kept, len-insert_new}
+use Rattle.day_partitions.proofs.PoolLemmas.{row_at-kept}
 
 -- each of these ids names a full row of its own, and no other row is live
 pub record IsMade (p : Pool) (ids : List ℕ) (w : ℕ) : Type 0 where

@@ -12,6 +12,7 @@ use Rattle.trace_types.specs.Listing.{ListsExactly}
 use Rattle.trace_rules.specs.declared.figures.Figures.{Figures}
 use Rattle.trace_paths.specs.Tables.{list_at}
 use Rattle.trace_rules.specs.Numbers.{AreFigures}
+use Rattle.trace_types.proofs.ExactLemmas.{ListsExactly-same}
 
 -- the lists that a list of vectors shows
 abbrev pub shown : {Z : Type 0} → List (Vec ℕ Z) → List (List ℕ)
@@ -63,18 +64,11 @@ marks_tell table figures marked size each is n = (
     positive : (k : ℕ) → nat_lt 0 k ≡ true → 0 < k
     positive k e = grind (arith, nat_tests)
 
--- a list has exactly the elements with a property that says the same
-pub listed_as : {X : Type 0} (cmp : X → X → Ordering) (P Q : X → Type 0) (xs : List X) → ((x : X) → P x ↔ Q x) → ListsExactly cmp P xs → ListsExactly cmp Q xs
-listed_as cmp P Q xs same listed = record {
-  rising = listed.rising;
-  exactly = λ x. ((λ has. (same x).0 ((listed.exactly x).0 has)), (λ q. (listed.exactly x).1 ((same x).1 q)));
-}
-
 -- the names in order are those with a duration
 pub names_listed : (cmp : ℕ → ℕ → Ordering) (table : List (List ℕ)) (figures : List Figures) (marked seen : List Bool) (names : List ℕ) → length figures ≡ length table → ((n : ℕ) (d : Figures) → n < length table → AreFigures (list_at table n) (get_or figures n d)) → marked ≡ map has_some figures → seen ≡ marked
     → ListsExactly cmp (λ n. slice_get seen n ≡ Some true) names → ListsExactly cmp (λ n. 0 < length (list_at table n)) names
 names_listed cmp table figures marked seen names size each is same listed =
-    listed_as cmp (λ n. slice_get seen n ≡ Some true) (λ n. 0 < length (list_at table n)) names (marks_tell table figures seen size each (same ∙ is)) listed
+    ListsExactly-same cmp (λ n. slice_get seen n ≡ Some true) (λ n. 0 < length (list_at table n)) (marks_tell table figures seen size each (same ∙ is)) names listed
 
 -- such a name is within the table
 pub name_within : (cmp : ℕ → ℕ → Ordering) (table : List (List ℕ)) (names items : List ℕ) (i : ℕ) → ListsExactly cmp (λ n. 0 < length (list_at table n)) names → items ≡ names → i < length items → get_or items i 0 < length table

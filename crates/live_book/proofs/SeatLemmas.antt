@@ -17,19 +17,19 @@ use Rattle.live_book.proofs.HistoryLemmas.{history_join, history_new, history_se
 use Rattle.live_book.proofs.PrefixLemmas.{longer_either, longer_is}
 use Rattle.live_book.proofs.TotalLemmas.{at_inside, at_one, each_back, each_set, each_snoc, front_set, total_same, total_set, total_snoc}
 
-abbrev turns_of : Knowledge → ℕ
+abbrev pub turns_of : Knowledge → ℕ
 turns_of k = k.turns
 
-abbrev passes_of : Knowledge → ℕ
+abbrev pub passes_of : Knowledge → ℕ
 passes_of k = k.passes
 
-abbrev holder : ℕ → Knowledge → ℕ
+abbrev pub holder : ℕ → Knowledge → ℕ
 holder n k = cond (holds n k.stage) 1 0
 
-abbrev ticketed : Knowledge → ℕ
+abbrev pub ticketed : Knowledge → ℕ
 ticketed k = cond (has_ticket k.stage) 1 0
 
-abbrev rests : Knowledge → Type 0
+abbrev pub rests : Knowledge → Type 0
 rests k = is_in_turn k.stage ≡ false
 
 module _ (plan : Plan) (s : BookTable) (h : IsLiveBook plan s) (id : ℕ) (k : Knowledge) (at : get_elem? s.views id ≡ some k) where

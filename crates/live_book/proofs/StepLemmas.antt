@@ -10,6 +10,7 @@ use mathlib.Core.List.{IsPrefix}
 use lib.ListN.{get_elem?}
 use Rattle.live_journal.specs.declared.entry.Entry.{Entry}
 use Rattle.live_journal.specs.Journals.{JournalState, journal}
+use Rattle.live_book.proofs.SeatLemmas.{turns_of, passes_of, holder, ticketed, rests}
 use Rattle.live_book.specs.declared.rule.Plan.{Plan}
 use Rattle.live_book.specs.declared.rule.Knowledge.{Knowledge}
 use Rattle.live_book.specs.declared.rule.Stage.{Stage}
@@ -21,21 +22,6 @@ use Rattle.live_book.proofs.HistoryLemmas.{history_pass, history_set, of_one_his
 use Rattle.live_book.proofs.PrefixLemmas.{all_longer, begins_itself, begins_longer, begins_same}
 use Rattle.live_book.proofs.StageLemmas.{rests_if, stage_below, stage_drawn, stage_else, stage_next}
 use Rattle.live_book.proofs.TotalLemmas.{alone, at_inside, at_one, each_back, each_set, front_set, total_at, total_none, total_same, total_set}
-
-abbrev turns_of : Knowledge → ℕ
-turns_of k = k.turns
-
-abbrev passes_of : Knowledge → ℕ
-passes_of k = k.passes
-
-abbrev holder : ℕ → Knowledge → ℕ
-holder n k = cond (holds n k.stage) 1 0
-
-abbrev ticketed : Knowledge → ℕ
-ticketed k = cond (has_ticket k.stage) 1 0
-
-abbrev rests : Knowledge → Type 0
-rests k = is_in_turn k.stage ≡ false
 
 -- the found journal without an entry more
 adds_none : (found : List Entry) → AddsAtMostOne found found

@@ -13,12 +13,12 @@ use Rattle.trace_types.specs.declared.segment.Segment.{Segment}
 use Rattle.trace_types.specs.Listing.{ListsExactly, CountsDistinct}
 use Rattle.trace_types.specs.NameOrder.{name_cmp}
 use Rattle.trace_types.specs.Segments.{SegmentName, name_of, task_of}
-use Rattle.trace_types.proofs.ComparingLemmas.{name_exact}
+use Rattle.trace_types.proofs.ComparingLemmas.{name_exact, less_differs}
 use Rattle.trace_types.proofs.ListingLemmas.{name_total, Contains-nil}
 use Rattle.trace_types.proofs.ElementLemmas.{Contains-map, from_map}
 use Rattle.trace_types.proofs.PairLemmas.{AllPairs-nil}
 use Rattle.model_checks.specs.inner.Growing.{AddsDistinct}
-use Rattle.model_checks.proofs.OrderLemmas.{rising_from_sort, less_differs}
+use Rattle.model_checks.proofs.OrderLemmas.{rising_from_sort}
 
 -- the task of a name
 abbrev pub task_in : SegmentName → List ℕ

@@ -1,11 +1,11 @@
 -- Lists of exactly some elements, each once, in rising order.
-use Rattle.std.proofs.Common.{◌≡◌, ◌≢◌, List, get_or, subst, arith, IsPermutation, IsSorted, Ordering}
+use Rattle.std.proofs.Common.{◌≡◌, ◌≢◌, List, get_or, arith, IsPermutation, IsSorted, Ordering}
 use Rattle.std.specs.declared.cmp.Ordering.TheVariants.{Less, Equal}
 use Rattle.std.specs.List.{AllPairs}
 use Rattle.std.specs.Cmp.{IsTotalOrder}
 use Rattle.std.specs.Ordering.{is_lt, eq_by_cmp}
 use Rattle.std.proofs.lemmas.Bool.{false_from_ne_true}
-use Rattle.std.proofs.lemmas.Cmp.{tied_itself, eq_by_cmp_equiv}
+use Rattle.std.proofs.lemmas.Cmp.{eq_by_cmp_equiv}
 use Rattle.std.proofs.lemmas.List.Sorted.{ranks_by, sorted_far}
 use Rattle.std.proofs.lemmas.Map.Keys.{apart_from_distinct, IsDistinct-from_apart, IsDistinct-IsPermutation}
 use Rattle.trace_types.proofs.ComparingLemmas.{less_from, equal_from}
@@ -19,8 +19,5 @@ module _ {X : Type 0} (cmp : X → X → Ordering) (total : IsTotalOrder cmp) wh
       less_from (cmp (get_or ys i d) (get_or ys j d)) (cmp (get_or ys j d) (get_or ys i d)) (total.antisymm (get_or ys i d) (get_or ys j d))
       (sorted_far (λ x y. is_lt (cmp x y)) (ranks_by total (λ (x : X). x)) ys sorted i j d (omega arith) inside)
       (apart_from_distinct (eq_by_cmp cmp) ys i j d (IsDistinct-IsPermutation (eq_by_cmp cmp) (eq_by_cmp_equiv total).symm xs ys moved apart) lt inside)
-
-  pub less_differs : (x y : X) → cmp x y ≡ Less → x ≢ y
-  less_differs x y l e = let t : cmp x y ≡ Equal = subst (λ z. cmp x z ≡ Equal) e (tied_itself total x) in cc
 
 -- ---- lists of exactly some elements

@@ -1,16 +1,11 @@
 -- The order of first sight, where the test tells equality.
-use Rattle.std.proofs.Common.{◌≡◌, ◌≢◌, ℕ, suc, ◌<◌, List, [], ◌∷◌, ◌++◌, length, get_or, filter, Bool, true, false, not, if◌then◌else◌, refl, sym, ap, ◌∙◌, subst, true≢false, append-nil, arith}
+use Rattle.std.proofs.Common.{◌≡◌, ◌≢◌, ℕ, suc, ◌<◌, List, [], ◌∷◌, ◌++◌, length, get_or, filter, Bool, true, false, not, if◌then◌else◌, refl, sym, ap, ◌∙◌, subst, true≢false, arith}
 use Rattle.std.specs.List.{list_any}
-use Rattle.std.proofs.lemmas.List.Elements.{filter-append}
 use Rattle.std.proofs.lemmas.List.Folds.{list_any_at}
 use Rattle.std.proofs.lemmas.List.Quantifiers.{all_pairs_push}
 use Rattle.trace_types.specs.Firsts.{firsts_of}
 use Rattle.event_table.specs.Texts.{AreDifferent}
-use Rattle.trace_types.proofs.ShortLemmas.{any-filter}
-
--- the list with one more at its end, unless it is there
-abbrev pub with_key : {X : Type 0} → (X → X → Bool) → List X → X → List X
-with_key same xs x = if list_any (same x) xs then xs else xs ++ x ∷ []
+use Rattle.trace_types.proofs.FirstsLemmas.{with_key, firsts-push}
 
 -- where all pass, a filter keeps all
 filter-whole : {X : Type 0} (p : X → Bool) (xs : List X) → ((k : ℕ) (d : X) → k < length xs → p (get_or xs k d) ≡ true) → filter p xs ≡ xs
@@ -26,42 +21,12 @@ none-at p xs none k d h = by (p (get_or xs k d)) refl
     by false e = e
 
 module _ {X : Type 0} (same : X → X → Bool) (means : (x y : X) → same x y ≡ true → x ≡ y) (own : (x : X) → same x x ≡ true) where
-  pub flips : (x y : X) → same x y ≡ false → same y x ≡ false
-  flips x y h = by (same y x) refl
-    where
-      by : (b : Bool) → same y x ≡ b → same y x ≡ false
-      by true e = absurd (true≢false (sym (own x) ∙ subst (λ (z : X). same x z ≡ false) (means y x e) h))
-      by false e = e
-
   pub apart : (x y : X) → x ≢ y → same x y ≡ false
   apart x y h = by (same x y) refl
     where
       by : (b : Bool) → same x y ≡ b → same x y ≡ false
       by true e = absurd (h (means x y e))
       by false e = e
-
-  -- the order of first sight with one more at the end
-  pub firsts-push : (xs : List X) (x : X) → firsts_of same (xs ++ x ∷ []) ≡ with_key same (firsts_of same xs) x
-  firsts-push [] x = refl
-  firsts-push (y ∷ ys) x = by (same x y) (list_any (same x) (firsts_of same ys)) refl refl (firsts-push ys x)
-    where
-      rest : List X
-      rest = firsts_of same ys
-
-      other : X → Bool
-      other = λ z. not (same y z)
-
-      keeps : same x y ≡ false → (z : X) → same x z ≡ true → not (same y z) ≡ true
-      keeps e z h = let f : same y x ≡ false = flips x y e in let g : same y z ≡ false = subst (λ (w : X). same y w ≡ false) (means x z h) f in rw g refl
-
-      by : (b c : Bool) → same x y ≡ b → list_any (same x) (firsts_of same ys) ≡ c → firsts_of same (ys ++ x ∷ []) ≡ with_key same (firsts_of same ys) x
-          → firsts_of same ((y ∷ ys) ++ x ∷ []) ≡ with_key same (firsts_of same (y ∷ ys)) x
-      by true true e f r = rw (r, f, e) refl
-      by true false e f r = let g : same y x ≡ true = subst (λ (z : X). same z x ≡ true) (means x y e) (own x) in
-          rw (r, f, e, filter-append (λ z. not (same y z)) (firsts_of same ys) (x ∷ []), g, append-nil (filter (λ z. not (same y z)) (firsts_of same ys))) refl
-      by false true e f r = let a = any-filter (same x) (λ z. not (same y z)) (keeps e) (firsts_of same ys) in rw (r, f, e, a, f) refl
-      by false false e f r = let g : same y x ≡ false = flips x y e in let a = any-filter (same x) (λ z. not (same y z)) (keeps e) (firsts_of same ys) in
-          rw (r, f, e, a, f, filter-append (λ z. not (same y z)) (firsts_of same ys) (x ∷ []), g) refl
 
   -- a list in which none stands twice
   pub firsts-same : (xs : List X) → AreDifferent xs → firsts_of same xs ≡ xs
@@ -70,14 +35,14 @@ module _ {X : Type 0} (same : X → X → Bool) (means : (x y : X) → same x y 
       (filter-whole (λ z. not (same x z)) xs (λ k e h. let a : same x (get_or xs k e) ≡ false = apart x (get_or xs k e) (d 0 (suc k) e (omega arith) (omega arith)) in rw a refl)))
 
   pub firsts-there : (xs : List X) (x : X) → AreDifferent xs → list_any (same x) xs ≡ true → firsts_of same (xs ++ x ∷ []) ≡ xs
-  firsts-there xs x d t = firsts-push xs x ∙ ap (λ (l : List X). with_key same l x) (firsts-same xs d) ∙ ap (λ (b : Bool). if b then xs else xs ++ x ∷ []) t
+  firsts-there xs x d t = firsts-push same means own xs x ∙ ap (λ (l : List X). with_key same l x) (firsts-same xs d) ∙ ap (λ (b : Bool). if b then xs else xs ++ x ∷ []) t
 
   pub firsts-new : (xs : List X) (x : X) → AreDifferent xs → list_any (same x) xs ≡ false → firsts_of same (xs ++ x ∷ []) ≡ xs ++ x ∷ []
-  firsts-new xs x d t = firsts-push xs x ∙ ap (λ (l : List X). with_key same l x) (firsts-same xs d) ∙ ap (λ (b : Bool). if b then xs else xs ++ x ∷ []) t
+  firsts-new xs x d t = firsts-push same means own xs x ∙ ap (λ (l : List X). with_key same l x) (firsts-same xs d) ∙ ap (λ (b : Bool). if b then xs else xs ++ x ∷ []) t
 
   pub differ-new : (xs : List X) (x : X) → AreDifferent xs → list_any (same x) xs ≡ false → AreDifferent (xs ++ x ∷ [])
   differ-new xs x d t = all_pairs_push (λ (a b : X). a ≢ b) xs x d (λ k e h s. true≢false (sym (own x) ∙ subst (λ (z : X). same x z ≡ false) s (none-at (same x) xs t k e h)))
 
   -- one more, after what is known of the first
   pub firsts-step : (xs ys : List X) (x : X) → AreDifferent ys → ys ≡ firsts_of same xs → firsts_of same (ys ++ x ∷ []) ≡ firsts_of same (xs ++ x ∷ [])
-  firsts-step xs ys x d e = firsts-push ys x ∙ ap (λ (l : List X). with_key same l x) (firsts-same ys d ∙ e) ∙ sym (firsts-push xs x)
+  firsts-step xs ys x d e = firsts-push same means own ys x ∙ ap (λ (l : List X). with_key same l x) (firsts-same ys d ∙ e) ∙ sym (firsts-push same means own xs x)

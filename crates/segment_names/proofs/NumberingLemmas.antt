@@ -16,12 +16,13 @@ use Rattle.trace_types.specs.NamedSegments.{number_of_element}
 use Rattle.trace_types.specs.Segments.{name_of}
 use Rattle.trace_types.proofs.ComparingLemmas.{text_means, text_own, nat_own, nat_means}
 use Rattle.trace_types.proofs.ShortLemmas.{firsts-short}
+use Rattle.trace_types.proofs.FirstsLemmas.{with_key, firsts-push}
 use Rattle.segment_names.specs.Known.{Known, name_number}
 use Rattle.segment_names.specs.Naming.{IsUnknownAt}
 use Rattle.event_table.specs.Texts.{AreDifferent}
 use Rattle.segment_names.specs.inner.Numbering.{CountsUp, IsElementAt, IsNumbered, NumbersFirst}
 use Rattle.segment_names.proofs.FilingLemmas.{still_there}
-use Rattle.segment_names.proofs.FirstLemmas.{firsts-push, firsts-same, firsts-there, firsts-new, with_key}
+use Rattle.segment_names.proofs.FirstLemmas.{firsts-same, firsts-there, firsts-new}
 
 -- an element stays where it stands
 element_stays : (texts new more : List (List ℕ)) → new ≡ texts ++ more → (number : Option ℕ) (text : Option (List ℕ)) → IsElementAt texts number text → IsElementAt new number text

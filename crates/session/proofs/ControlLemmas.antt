@@ -1,7 +1,6 @@
 -- What jobs other than an add do to the state that a session shows, and what they print.
-use Rattle.std.proofs.Common.{◌≡◌, ℕ, ◌+◌, List, [], ◌∷◌, length, Option, inl, inr, refl, sym, ap, ◌∙◌, subst, arith}
-use Rattle.std.specs.Prelude.{Result, Ok, Err, codes}
-use Rattle.std.proofs.lemmas.List.{append-nil}
+use Rattle.std.proofs.Common.{◌≡◌, ℕ, ◌+◌, List, [], ◌∷◌, length, Option, refl, sym, ap, ◌∙◌, subst, arith}
+use Rattle.std.specs.Prelude.{Result, Ok, codes}
 use Rattle.day_partitions.specs.Books as books
 use Rattle.day_partitions.specs.Books.{IsBook, all_traces, traces_kept_on, with_fewer}
 use Rattle.event_lines.specs.declared.command.Command.TheVariants as commands
@@ -14,7 +13,7 @@ use Rattle.session_rules.specs.declared.job.Job.{Job}
 use Rattle.session_rules.specs.declared.job.Job.TheVariants.{Control}
 use Rattle.text_rows.specs.PartsFollow.{CallPrintsOnePart, NoPartIsPrinted}
 use Rattle.text_rows.specs.Printing.{PrintsText}
-use Rattle.text_rows.specs.TextsOfParts.{PrintsPart, PrintsTexts}
+use Rattle.text_rows.specs.TextsOfParts.{PrintsTexts}
 use Rattle.text_rows.specs.declared.print_fault.PrintFault.{PrintFault}
 use Rattle.trace_types.proofs.ZipLemmas.{zip_length}
 use Rattle.session.specs.Carrying.{kept_count}
@@ -84,19 +83,3 @@ module _ {S : Type 0} (written : S → Option (List ℕ)) (faults : S → ℕ) w
         shows = shown;
         printed = printed s.kept shown.traces;
       })
-
-  -- a call that prints one part prints the parts that are this one
-  pub one_part : (part : Part) (result : Result (Unit {0}) PrintFault) (old new : S) (held holds : List ℕ) → PrintsPart written faults result old new (IsPart part) held holds → PrintsTexts written faults result old new IsPart (part ∷ []) held holds
-  one_part part (Ok x) old new held holds p = record {
-    all = record { text = p.all.0; told = (p.all.0, [], p.all.1, refl, sym (append-nil p.all.0)); prints = p.all.2 };
-    prefix = tt;
-    counted = p.counted;
-  }
-  one_part part (Err e) old new held holds p = record {
-    all = tt;
-    prefix = elim p.prefix [
-      | inl f ↦ record { first = []; rest = part ∷ []; split = refl; text = []; told = refl; prefix = rw (append-nil held) f }
-      | inr q ↦ record { first = part ∷ []; rest = []; split = refl; text = q.0; told = (q.0, [], q.1, refl, sym (append-nil q.0)); prefix = q.2 }
-    ];
-    counted = p.counted;
-  }

@@ -1,6 +1,5 @@
 -- Sheets and watch lines of the traces of a batch, from the traces of each day.
-use Rattle.std.proofs.Common.{◌≡◌, ℕ, zero, suc, ◌<◌, inl, inr, Bool, ◌==◌, List, [], ◌∷◌, length, map, filter, get_or, All, AllPairs, Contains, refl, sym, ap, ◌∙◌, subst, arith}
-use Rattle.std.proofs.lemmas.Bool.{cases_Bool, cond-true, cond-false}
+use Rattle.std.proofs.Common.{◌≡◌, ℕ, zero, suc, ◌<◌, ◌==◌, List, [], ◌∷◌, length, map, get_or, All, AllPairs, Contains, refl, sym, ap, ◌∙◌, subst, arith}
 use Rattle.std.proofs.lemmas.List.Elements.{All-nil, All-cons, All-head, All-tail, All-weaker, All-filter, All-contains_itself}
 use Rattle.std.specs.List.{AllZip}
 use Rattle.std.specs.Ordering.{nat_cmp}
@@ -21,27 +20,10 @@ use Rattle.trace_types.specs.declared.named_trace.NamedTrace.{NamedTrace}
 use Rattle.book_laws.specs.TextBounds.{WatchLinesAreToldByText}
 use Rattle.trace_types.proofs.ComparingLemmas.{less_means}
 use Rattle.book_laws.proofs.SheetLemmas.{named_of}
+use Rattle.trace_types.proofs.ZipLemmas.{zip_filter, zip_mapped}
 use Rattle.session.specs.Sheets.{AreLinesOn, AreSheets}
 
 -- ---- lists place by place
-pub zip_filter : {X Y : Type 0} (R : X → Y → Type 0) (p : X → Bool) (q : Y → Bool) → ((x : X) (y : Y) → R x y → p x ≡ q y) → (xs : List X) (ys : List Y) → AllZip R xs ys → AllZip R (filter p xs) (filter q ys)
-zip_filter R p q same [] [] z = z
-zip_filter R p q same [] (y ∷ ys) z = absurd z
-zip_filter R p q same (x ∷ xs) [] z = absurd z
-zip_filter R p q same (x ∷ xs) (y ∷ ys) z =
-    let rest = zip_filter R p q same xs ys z.1 in
-    let agree = same x y z.0 in
-    elim (cases_Bool (p x)) [
-      | inl good ↦ rw (cond-true (p x) (x ∷ filter p xs) (filter p xs) good, cond-true (q y) (y ∷ filter q ys) (filter q ys) (sym agree ∙ good)) (z.0, rest)
-      | inr bad ↦ rw (cond-false (p x) (x ∷ filter p xs) (filter p xs) bad, cond-false (q y) (y ∷ filter q ys) (filter q ys) (sym agree ∙ bad)) rest
-    ]
-
-pub zip_map : {X Y Z : Type 0} (R : X → Y → Type 0) (f : X → Z) (g : Y → Z) → ((x : X) (y : Y) → R x y → f x ≡ g y) → (xs : List X) (ys : List Y) → AllZip R xs ys → map f xs ≡ map g ys
-zip_map R f g same [] [] z = refl
-zip_map R f g same [] (y ∷ ys) z = absurd z
-zip_map R f g same (x ∷ xs) [] z = absurd z
-zip_map R f g same (x ∷ xs) (y ∷ ys) z = ap (λ v. v ∷ map f xs) (same x y z.0) ∙ ap (λ l. g y ∷ l) (zip_map R f g same xs ys z.1)
-
 -- ---- the order of numbers
 -- ---- sheets of the days
 abbrev pub sheet_day : DatedSheet → ℕ
@@ -94,7 +76,7 @@ all_sheets names named (d ∷ ds) (s ∷ ss) z h n b = All-cons (IsOne names nam
     (all_sheets names named ds ss z.1 (All-tail (HasThose named) d ds h) (All-tail (λ (r : DayTraces). 0 < length r.traces.items) d ds n) b)
 
 same_days : (names : ℕ) (split : List DayTraces) (sheets : List DatedSheet) → AllZip (IsSheetOfDay names) split sheets → map split_day split ≡ map sheet_day sheets
-same_days names split sheets z = zip_map (IsSheetOfDay names) split_day sheet_day (λ d s h. sym h.day) split sheets z
+same_days names split sheets z = zip_mapped (IsSheetOfDay names) split_day sheet_day (λ d s h. sym h.day) split sheets z
 
 -- ---- watch lines of the days
 one_day : (law : WatchLinesAreToldByText) (known : Known) (every workers : ℕ) (named : List NamedTrace) (kept : List Kept) → IsKept known → AreShown known named kept → 0 < workers
@@ -123,7 +105,7 @@ recorded_sheets law known every workers named kept days split sheets watched k s
     let names = length known.names in
     let each = all_sheets names named split sheets recorded.all_sheets parts.so_far.each_list parts.some below in
     let own_days : map sheet_day sheets ≡ days = sym (same_days names split sheets recorded.all_sheets) ∙ parts.so_far.each_day in
-    let same : map named_day named ≡ map day_of kept = zip_map (IsShown known) named_day day_of (λ t u r. r.day) named kept shown in
+    let same : map named_day named ≡ map day_of kept = zip_mapped (IsShown known) named_day day_of (λ t u r. r.day) named kept shown in
     record {
       named = named;
       shown = shown;

@@ -1,5 +1,5 @@
 -- The report, from its tables and marks.
-use Rattle.std.proofs.Common.{◌≡◌, ◌↔◌, ℕ, ◌+◌, ◌<◌, Bool, cond, eqb, List, [], ◌∷◌, ◌++◌, map, length, get_or, slice_get, take, Some, true, All, Contains, Ordering, arith, sym, ap, ◌∙◌, subst}
+use Rattle.std.proofs.Common.{◌≡◌, ℕ, ◌+◌, ◌<◌, Bool, cond, eqb, List, [], ◌∷◌, ◌++◌, map, length, get_or, slice_get, take, Some, true, All, Contains, Ordering, arith, sym, ap, ◌∙◌, subst}
 use Rattle.std.specs.Prelude.{sum}
 use Rattle.std.proofs.lemmas.List.{length-map}
 use Rattle.std.proofs.lemmas.List.Elements.{Contains-get_or}
@@ -19,13 +19,6 @@ use Rattle.trace_rules.specs.SlowTraces.{rest_of, slow_marks, slow_of, with_indi
 use Rattle.slow_tail.proofs.MarkLemmas.{sums_add_up}
 use Rattle.slow_tail.proofs.PathLemmas.{table_has}
 use Rattle.slow_tail.proofs.SlowLemmas.{length_places}
-
--- a list has exactly the elements with a property that says the same
-pub listed_as : {X : Type 0} (cmp : X → X → Ordering) (P Q : X → Type 0) (xs : List X) → ((x : X) → P x ↔ Q x) → ListsExactly cmp P xs → ListsExactly cmp Q xs
-listed_as cmp P Q xs same listed = record {
-  rising = listed.rising;
-  exactly = λ x. ((λ has. (same x).0 ((listed.exactly x).0 has)), (λ q. (listed.exactly x).1 ((same x).1 q)));
-}
 
 -- there is a mark for each latency
 pub length-marks : (latencies : List ℕ) → length (slow_marks latencies) ≡ length latencies

@@ -3,7 +3,6 @@ pub mod StepLemmas
 pub mod PlacingLemmas
 pub mod FreeLemmas
 pub mod CutLemmas
-pub mod FirstLemmas
 pub mod NumberLemmas
 pub mod NameLemmas
 pub mod NamingLemmas

@@ -7,13 +7,13 @@ use Rattle.std.proofs.lemmas.Bool.{cases_eq, cases_order}
 use Rattle.std.proofs.lemmas.List.{get_or-set_other, get_or-set_same, get_or-take, get_or_append_left, get_or_push, length-append, length-set, length-take-le, map-append, take_more}
 use Rattle.std.proofs.lemmas.Option.{get_or_from_slice_get, slice_get-get_or, slice_get_within}
 use Rattle.std.proofs.lemmas.Slice.Eq.{bytes_eq-Decides}
+use Rattle.trace_types.proofs.FirstsLemmas.{firsts-push}
 use Rattle.task_pieces.specs.TaskEvents.{TaskEvent}
 use Rattle.task_pieces.specs.TaskKeys.{event_of_key, events_of_keys}
 use Rattle.task_pieces.specs.TaskNames.{tasks_of}
 use Rattle.task_pieces.specs.declared.task_key.TaskKey.{TaskKey}
 use Rattle.task_pieces.specs.inner.Naming.{AreNumbers, with_text}
 use Rattle.trace_types.specs.Firsts.{firsts_of}
-use Rattle.task_pieces.proofs.FirstLemmas.{firsts-push}
 
 -- ---- texts with one more
 

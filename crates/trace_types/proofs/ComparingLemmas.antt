@@ -1,12 +1,12 @@
 -- Facts on orderings, and on texts and names that are compared.
-use Rattle.std.proofs.Common.{◌≡◌, refl, Ordering, ℕ, List, sym, ap, ◌∙◌, true, false, ◌<◌, ◌⊎◌, ℤ, ◌<ℤ◌, arith, inl, inr, rules, nat_eq}
+use Rattle.std.proofs.Common.{◌≡◌, refl, Ordering, ℕ, List, sym, ap, ◌∙◌, true, false, ◌<◌, ◌⊎◌, ℤ, ◌<ℤ◌, arith, inl, inr, rules, nat_eq, ◌≢◌, subst}
 use Rattle.std.specs.declared.cmp.Ordering.TheVariants.{Less, Equal, Greater}
 use Rattle.std.specs.Ordering.{ordering_then, is_eq, nat_cmp, is_lt, ordering_reverse}
 use Rattle.std.specs.Cmp.Lexicographic.{slice_cmp, bytes_decides}
 use Rattle.std.proofs.lemmas.Map.Text.{is_eq-slice_cmp}
 use Rattle.std.proofs.lemmas.Slice.Eq.{bytes_eq-Decides}
 use Rattle.std.specs.Cmp.{IsTotalOrder, nat_cmp_is, IsEquivalence}
-use Rattle.std.proofs.lemmas.Cmp.{nat_list_cmp_total, ranked}
+use Rattle.std.proofs.lemmas.Cmp.{nat_list_cmp_total, ranked, tied_itself}
 use Rattle.std.proofs.lemmas.Bool.{false≢true, eq-eqb, eqb-true}
 use Rattle.std.proofs.lemmas.Int.{ints}
 use Rattle.std.specs.Cmp.Rules.{comparing}
@@ -79,3 +79,6 @@ nat_own x = eq-eqb x x refl
 
 pub nat_means : (x y : ℕ) → nat_eq x y ≡ true → x ≡ y
 nat_means x y h = eqb-true x y h
+
+pub less_differs : {X : Type 0} (cmp : X → X → Ordering) → IsTotalOrder cmp → (x y : X) → cmp x y ≡ Less → x ≢ y
+less_differs cmp total x y l e = let t : cmp x y ≡ Equal = subst (λ z. cmp x z ≡ Equal) e (tied_itself total x) in cc

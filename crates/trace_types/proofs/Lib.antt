@@ -3,6 +3,7 @@ pub mod DecimalLemmas
 pub mod ElementLemmas
 pub mod ExactLemmas
 pub mod FewSegmentLemmas
+pub mod FirstsLemmas
 pub mod FourSegmentLemmas
 pub mod ListingLemmas
 pub mod MatchLemmas

@@ -1,8 +1,9 @@
 -- Two lists, index by index.
-use Rattle.std.proofs.Common.{◌≡◌, List, [], ◌∷◌, length, arith, refl, ◌++◌, ℕ, zero, suc, ◌<◌, slice_get, Some, map, Result, Ok, IfOk, Err, sym, subst}
+use Rattle.std.proofs.Common.{◌≡◌, List, [], ◌∷◌, length, arith, refl, ◌++◌, ℕ, zero, suc, ◌<◌, slice_get, Some, map, Result, Ok, IfOk, Err, sym, subst, inl, inr, Bool, filter, ◌∙◌, ap}
 use Rattle.std.specs.List.{AllZip}
 use Rattle.std.specs.Prelude.{MatchResult, Contains}
 use Rattle.std.specs.declared.vec.Vec.{Vec}
+use Rattle.std.proofs.lemmas.Bool.{cases_Bool, cond-true, cond-false}
 
 pub zip_length : {A B : Type 0} (R : A → B → Type 0) (xs : List A) (ys : List B) → AllZip R xs ys → length xs ≡ length ys
 zip_length R [] [] z = refl
@@ -37,3 +38,21 @@ pub collected : {X Y Z E : Type 0} (R : X → Y → Type 0) (xs : List X) (resul
 collected {X} {Y} {Z} {E} R xs results (Ok v) all (ys, are, is) =
     subst (AllZip R xs) (sym is) (values_of E R xs ys (subst (λ (l : List (Result Y E)). AllZip (λ x y. IfOk y (R x)) xs l) are all))
 collected R xs results (Err e) all found = tt
+
+pub zip_filter : {X Y : Type 0} (R : X → Y → Type 0) (p : X → Bool) (q : Y → Bool) → ((x : X) (y : Y) → R x y → p x ≡ q y) → (xs : List X) (ys : List Y) → AllZip R xs ys → AllZip R (filter p xs) (filter q ys)
+zip_filter R p q same [] [] z = z
+zip_filter R p q same [] (y ∷ ys) z = absurd z
+zip_filter R p q same (x ∷ xs) [] z = absurd z
+zip_filter R p q same (x ∷ xs) (y ∷ ys) z =
+    let rest = zip_filter R p q same xs ys z.1 in
+    let agree = same x y z.0 in
+    elim (cases_Bool (p x)) [
+      | inl good ↦ rw (cond-true (p x) (x ∷ filter p xs) (filter p xs) good, cond-true (q y) (y ∷ filter q ys) (filter q ys) (sym agree ∙ good)) (z.0, rest)
+      | inr bad ↦ rw (cond-false (p x) (x ∷ filter p xs) (filter p xs) bad, cond-false (q y) (y ∷ filter q ys) (filter q ys) (sym agree ∙ bad)) rest
+    ]
+
+pub zip_mapped : {X Y Z : Type 0} (R : X → Y → Type 0) (f : X → Z) (g : Y → Z) → ((x : X) (y : Y) → R x y → f x ≡ g y) → (xs : List X) (ys : List Y) → AllZip R xs ys → map f xs ≡ map g ys
+zip_mapped R f g same [] [] z = refl
+zip_mapped R f g same [] (y ∷ ys) z = absurd z
+zip_mapped R f g same (x ∷ xs) [] z = absurd z
+zip_mapped R f g same (x ∷ xs) (y ∷ ys) z = ap (λ v. v ∷ map f xs) (same x y z.0) ∙ ap (λ l. g y ∷ l) (zip_mapped R f g same xs ys z.1)

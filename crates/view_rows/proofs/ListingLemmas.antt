@@ -12,9 +12,10 @@ use Rattle.std.proofs.lemmas.List.Sorted.{Contains-permutation, IsPermutation-sy
 use Rattle.std.proofs.lemmas.Option.{slice_get-get_or, slice_get_within, get_or_from_slice_get}
 use Rattle.trace_types.proofs.ListingLemmas.{Contains-nil}
 use Rattle.trace_types.proofs.ElementLemmas.{Contains-one, Contains-itself, Contains-map, one_item, one_place}
+use Rattle.trace_types.proofs.ComparingLemmas.{less_differs}
 use Rattle.view_rows.specs.inner.Listings.{AreItemsBelow, HoldsOfTexts, ListsMarked, HasNumber}
 use Rattle.view_rows.specs.inner.Marking.{IsMarked}
-use Rattle.view_rows.proofs.ModelOrderLemmas.{less_differs, not_both_less, not_less_itself, rising_from_sort}
+use Rattle.view_rows.proofs.ModelOrderLemmas.{not_both_less, not_less_itself, rising_from_sort}
 
 -- the marked texts with numbers below n, none twice
 pub record Collects {X : Type 0} (texts : List X) (marks : List Bool) (n : ℕ) (items : List (X × ℕ)) : Type 0 where

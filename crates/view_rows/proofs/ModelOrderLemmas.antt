@@ -1,14 +1,14 @@
 -- Lists of exactly some elements, each once, in rising order.
-use Rattle.std.proofs.Common.{◌≡◌, ◌≢◌, List, get_or, refl, ap, ◌∙◌, subst, arith, IsPermutation, IsSorted, Ordering}
+use Rattle.std.proofs.Common.{◌≡◌, List, get_or, refl, ap, ◌∙◌, arith, IsPermutation, IsSorted, Ordering}
 use Rattle.std.specs.declared.cmp.Ordering.TheVariants.{Less, Equal, Greater}
 use Rattle.std.specs.List.{AllPairs}
 use Rattle.std.specs.Cmp.{IsTotalOrder}
 use Rattle.std.specs.Ordering.{is_lt, eq_by_cmp, ordering_reverse}
 use Rattle.std.proofs.lemmas.Bool.{false_from_ne_true}
-use Rattle.std.proofs.lemmas.Cmp.{tied_itself, eq_by_cmp_equiv}
+use Rattle.std.proofs.lemmas.Cmp.{eq_by_cmp_equiv}
 use Rattle.std.proofs.lemmas.List.Sorted.{ranks_by, sorted_far}
 use Rattle.std.proofs.lemmas.Map.Keys.{apart_from_distinct, IsDistinct-from_apart, IsDistinct-IsPermutation}
-use Rattle.trace_types.proofs.ComparingLemmas.{less_from, equal_from}
+use Rattle.trace_types.proofs.ComparingLemmas.{less_from, equal_from, less_differs}
 
 -- ---- the order
 module _ {X : Type 0} (cmp : X → X → Ordering) (total : IsTotalOrder cmp) where
@@ -20,12 +20,9 @@ module _ {X : Type 0} (cmp : X → X → Ordering) (total : IsTotalOrder cmp) wh
       (sorted_far (λ x y. is_lt (cmp x y)) (ranks_by total (λ (x : X). x)) ys sorted i j d (omega arith) inside)
       (apart_from_distinct (eq_by_cmp cmp) ys i j d (IsDistinct-IsPermutation (eq_by_cmp cmp) (eq_by_cmp_equiv total).symm xs ys moved apart) lt inside)
 
-  pub less_differs : (x y : X) → cmp x y ≡ Less → x ≢ y
-  less_differs x y l e = let t : cmp x y ≡ Equal = subst (λ z. cmp x z ≡ Equal) e (tied_itself total x) in cc
-
   -- nothing is less than itself, nor two each than the other
   pub not_less_itself : (x : X) → cmp x x ≡ Less → ⊥
-  not_less_itself x l = less_differs x x l refl
+  not_less_itself x l = less_differs cmp total x x l refl
 
   pub not_both_less : (x y : X) → cmp x y ≡ Less → cmp y x ≡ Less → ⊥
   not_both_less x y l m = let t : cmp x y ≡ Greater = total.antisymm x y ∙ ap ordering_reverse m in cc

@@ -29,7 +29,7 @@ use Rattle.trace_types.specs.Surviving.{IsRefuted}
 use Rattle.std.specs.Cmp.Lexicographic.{slice_cmp}
 use Rattle.std.specs.Ordering.{nat_cmp}
 use Rattle.trace_types.proofs.ListingLemmas.{name_total}
-use Rattle.trace_types.proofs.ComparingLemmas.{text_total}
+use Rattle.trace_types.proofs.ComparingLemmas.{text_total, less_differs}
 use Rattle.trace_types.proofs.ElementLemmas.{Contains-map, from_map, Contains-flat_map, from_flat_map, Contains-from_get, one_item, one_place}
 use Rattle.trace_types.proofs.ExactLemmas.{ListsExactly-same}
 use Rattle.trace_types.proofs.MatchLemmas.{partner_in}
@@ -39,7 +39,6 @@ use Rattle.view_rows.specs.inner.Listings.{HoldsOfTexts, IsExclusion, IsOrder, I
 use Rattle.view_rows.specs.inner.Marking.{AreMarksOf}
 use Rattle.view_rows.proofs.ElementLemmas.{map_zip, zip_right}
 use Rattle.view_rows.proofs.ListingLemmas.{texts_of, texts_rise}
-use Rattle.view_rows.proofs.ModelOrderLemmas.{less_differs}
 
 -- ---- the days
 a_trace : (traces : List NamedTrace) → 0 < length traces → (t : NamedTrace) × Contains traces t

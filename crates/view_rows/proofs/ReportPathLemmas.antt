@@ -14,8 +14,9 @@ use Rattle.trace_types.specs.NamedSegments.{number_of_name}
 use Rattle.trace_types.specs.Parts.{by_number, segments_of}
 use Rattle.trace_types.specs.Renaming.{IsSegmentRenamed}
 use Rattle.trace_types.specs.Segments.{SegmentName, name_of}
+use Rattle.trace_types.proofs.MatchLemmas.{zip_map}
 use Rattle.view_rows.specs.inner.ShownPaths.{ArePathsShown, AreSegmentsShown, IsSegmentShown}
-use Rattle.view_rows.proofs.ReportZipLemmas.{zip_get, zip_join, zip_weaker}
+use Rattle.view_rows.proofs.ReportZipLemmas.{zip_get, zip_join}
 
 -- the numbers of names stand for what stands at them
 abbrev pub IsMatched : List SegmentName → Type 0
@@ -35,7 +36,7 @@ stand_for R segments others alike order (v ∷ chain) (s ∷ path) z =
 module _ (known : Known) (matched : IsMatched known.names) where
   -- the segments of a trace show those of the kept trace
   pub segments_shown : (t : NamedTrace) (k : Kept) → IsShown known t k → AreSegmentsShown known t.segments k.trace.segments
-  segments_shown t k shown = zip_weaker (IsSegmentRenamed by_number by_kept (enumerate_from 0 known.names) (enumerate_from 0 known.tasks) shown.renamed.elements) (IsSegmentShown known)
+  segments_shown t k shown = zip_map (IsSegmentRenamed by_number by_kept (enumerate_from 0 known.names) (enumerate_from 0 known.tasks) shown.renamed.elements) (IsSegmentShown known)
       (λ s x r. record { name = (matched (number_of_name s) (name_of x)).0 r.name; start = r.start; end = r.end }) t.segments k.trace.segments shown.renamed.segments
 
   -- and so those of all traces

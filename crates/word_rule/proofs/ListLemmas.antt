@@ -1,5 +1,5 @@
 -- Lists that are read at an index.
-use Rattle.std.proofs.Common.{◌≡◌, ℕ, zero, suc, ◌+◌, ◌<◌, refl, List, [], ◌∷◌, ◌++◌, length, get_or, set, take, sym, ap, ◌∙◌, arith}
+use Rattle.std.proofs.Common.{◌≡◌, ℕ, zero, suc, ◌+◌, ◌<◌, List, [], ◌∷◌, ◌++◌, length, get_or, take, sym, ap, ◌∙◌, arith}
 use Rattle.std.proofs.lemmas.List.{take_more}
 use mathlib.Core.Option.{some, some-injective, some-ne-none}
 use lib.ListN.{get_elem?}
@@ -14,11 +14,6 @@ module _ {A : Type 0} where
   at_inside [] i a e = absurd (some-ne-none a (sym e))
   at_inside (x ∷ xs) zero a e = omega arith
   at_inside (x ∷ xs) (suc i) a e = let h = at_inside xs i a e in omega arith
-
-  pub put_here : (l : List A) (i : ℕ) (a b : A) → get_elem? l i ≡ some a → get_elem? (set l i b) i ≡ some b
-  put_here [] i a b e = absurd (some-ne-none a (sym e))
-  put_here (x ∷ xs) zero a b e = refl
-  put_here (x ∷ xs) (suc i) a b e = put_here xs i a b e
 
   pub take_at : (l : List A) (i : ℕ) (a : A) → get_elem? l i ≡ some a → take (i + 1) l ≡ take i l ++ a ∷ []
   take_at l i a e = take_more l i a (at_inside l i a e) ∙ ap (λ (y : A). take i l ++ y ∷ []) (at_or l i a a e)

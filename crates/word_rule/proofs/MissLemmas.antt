@@ -22,10 +22,11 @@ use Rattle.word_rows.specs.Machine.{StepState, Fault, HaveRows, step, steps, aft
 use Rattle.word_rows.specs.Meeting.{RowIsSame}
 use Rattle.word_rows.specs.Keeping.{EventsKeepSound, WidthStays, ZerosStay}
 use Rattle.word_rows.proofs.HistoryLemmas.{steps_snoc}
+use Rattle.word_rows.proofs.ViewLemmas.{put_here}
 use Rattle.word_rule.specs.Holdings.{Holding, Opened}
 use Rattle.word_rule.specs.Histories.{ArePrefixes, HasStep, IsClearBetween, IsLoadBetween, offered_until, read_until}
 use Rattle.word_rule.specs.Uses.{HasOfferedAndRead, NotBothMiss}
-use Rattle.word_rule.proofs.ListLemmas.{at_or, at_inside, put_here}
+use Rattle.word_rule.proofs.ListLemmas.{at_or, at_inside}
 use Rattle.word_rule.proofs.StepLemmas.{rows_snoc, loaded_by}
 use Rattle.word_rule.proofs.OfferLemmas.{next, ends}
 use Rattle.word_rule.proofs.PastLemmas.{prefix_itself, prefix_longer}

@@ -20,12 +20,12 @@ use Rattle.trace_rules.specs.Durations.{path_length}
 use Rattle.trace_paths.specs.NameOrders.{AreNamesOf, number_cmp}
 use Rattle.trace_paths.specs.Tables.{IsTableOf}
 use Rattle.trace_paths.proofs.PathTimeLemmas.{joined, traces_at, segments_at, segments_shown, latencies_shown, paths_are, paths_named}
+use Rattle.trace_types.proofs.ExactLemmas.{ListsExactly-same}
 use Rattle.latency_report.specs.declared.segment_row.SegmentRow.{SegmentRow}
 use Rattle.trace_paths.specs.Tables.{list_at}
 use Rattle.trace_rules.specs.Numbers.{AreFigures}
 use Rattle.trace_rules.specs.ReportRows.{AreFiguresOf}
 use Rattle.latency_report.proofs.ReportLemmas.{durations_tell, row_of, segments_below, short_paths, short_traces}
-use Rattle.latency_report.proofs.RowLemmas.{listed_as}
 use Rattle.latency_report.proofs.reporting.report.Goals as goal
 
 pub tabulate_paths-requires : goal.tabulate_paths-requires
@@ -101,8 +101,8 @@ returns-clause-reported g c =
           (ap (map (λ (t : Bor NamedTrace). t.now.latency)) c.deref-4.ensures.value ∙ (latencies_shown ts ∙ ap (map (λ (t : NamedTrace). t.latency)) are)) c.in_ok-latency.ensures;
       names = subst (λ (l : List SegmentRow). AreNamesOf known traces (map (λ (r : SegmentRow). r.name) l)) (sym c.of.ensures)
           (subst (λ (l : List NamedSegment). ListsExactly (number_cmp known) (Contains (map number_of_name l)) (map (λ (r : SegmentRow). r.name) c.in_ok-rows.rows.items)) same
-          (listed_as (number_cmp known) (λ n. 0 < length (list_at c.in_ok-durations.durations n)) (Contains (map number_of_name segments)) (map (λ (r : SegmentRow). r.name) c.in_ok-rows.rows.items)
-          (durations_tell c.names-names.result segments c.in_ok-durations.durations c.in_ok-durations.ensures (segments_below c.names-names.result c.deref-2.result.now below)) listed));
+          (ListsExactly-same (number_cmp known) (λ n. 0 < length (list_at c.in_ok-durations.durations n)) (Contains (map number_of_name segments))
+          (durations_tell c.names-names.result segments c.in_ok-durations.durations c.in_ok-durations.ensures (segments_below c.names-names.result c.deref-2.result.now below)) (map (λ (r : SegmentRow). r.name) c.in_ok-rows.rows.items) listed));
       rows = subst (All (λ (r : SegmentRow). AreFiguresOf by_number nat_eq traces paths r.name r.figures r.on_path r.on_path_sum)) (sym c.of.ensures)
           (λ k d lt. row_of c.names-names.result traces segments paths c.in_ok-durations.durations c.in_ok-on_paths.on_paths (get_or c.in_ok-rows.rows.items k d) same c.in_ok-durations.ensures
           (subst (λ (l : List (List NamedSegment)). IsTableOf c.names-names.result (joined l) c.in_ok-on_paths.on_paths) c.deref-3.ensures.value steps) named (rows.each k d lt));

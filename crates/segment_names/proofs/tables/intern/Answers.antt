@@ -4,7 +4,8 @@ use Rattle.std.specs.List.{list_any}
 use Rattle.trace_types.specs.Firsts.{firsts_of}
 use Rattle.event_table.specs.Texts.{AreDifferent}
 use Rattle.trace_types.proofs.ComparingLemmas.{text_means, text_own}
-use Rattle.segment_names.proofs.FirstLemmas.{differ-new, firsts-push, firsts-same, with_key}
+use Rattle.trace_types.proofs.FirstsLemmas.{with_key, firsts-push}
+use Rattle.segment_names.proofs.FirstLemmas.{differ-new, firsts-same}
 use Rattle.segment_names.proofs.tables.intern.Goals as goal
 
 -- the texts with one more, where the test says whether it is there

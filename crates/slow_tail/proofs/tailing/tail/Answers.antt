@@ -19,13 +19,14 @@ use Rattle.trace_paths.specs.NumberedPaths.{IsNamedPath, IsPathUnder}
 use Rattle.trace_paths.specs.NameOrders.{AreNamesOf, number_cmp}
 use Rattle.trace_paths.specs.Tables.{IsTableOf}
 use Rattle.trace_paths.proofs.PathTimeLemmas.{joined, traces_at, segments_at, segments_shown, latencies_shown, paths_are, paths_named}
+use Rattle.trace_types.proofs.ExactLemmas.{ListsExactly-same}
 use Rattle.slow_tail.specs.declared.tail_row.TailRow.{TailRow}
 use Rattle.slow_tail.specs.SlowReports.{trace_latencies}
 use Rattle.trace_rules.specs.ReportRows.{AreSlowAndRest}
 use Rattle.trace_rules.specs.SlowTraces.{IsFloor, marked, rest_of, slow_count, slow_marks, slow_of, unmarked}
 use Rattle.slow_tail.proofs.MarkLemmas.{All-kept, length-kept}
 use Rattle.slow_tail.proofs.PathLemmas.{short_paths}
-use Rattle.slow_tail.proofs.TailLemmas.{length-marks, listed_as, row_of}
+use Rattle.slow_tail.proofs.TailLemmas.{length-marks, row_of}
 use Rattle.slow_tail.proofs.tailing.tail.Goals as goal
 
 pub find_slow-requires : goal.find_slow-requires
@@ -128,8 +129,8 @@ returns g c =
       floor = subst (λ (l : List ℕ). IsFloor (slow_of l l) c.in_ok-slow.slow.floor) told c.in_ok-slow.ensures.floor;
       names = subst (λ (l : List TailRow). AreNamesOf known traces (map (λ (r : TailRow). r.name) l)) (sym c.of.ensures)
           (subst (λ (l : List NamedSegment). ListsExactly (number_cmp known) (Contains (map number_of_name l)) (map (λ (r : TailRow). r.name) c.in_ok-rows.rows.items)) same
-          (listed_as (number_cmp known) (λ n. slice_get c.deref-7.result.now n ≡ Some true) (Contains (map number_of_name segments)) (map (λ (r : TailRow). r.name) c.in_ok-rows.rows.items)
-          (subst (λ (m : List Bool). (n : ℕ) → (slice_get m n ≡ Some true) ↔ Contains (map number_of_name segments) n) (sym c.deref-7.ensures.value) c.in_ok-marked.ensures.exactly) listed));
+          (ListsExactly-same (number_cmp known) (λ n. slice_get c.deref-7.result.now n ≡ Some true) (Contains (map number_of_name segments))
+          (subst (λ (m : List Bool). (n : ℕ) → (slice_get m n ≡ Some true) ↔ Contains (map number_of_name segments) n) (sym c.deref-7.ensures.value) c.in_ok-marked.ensures.exactly) (map (λ (r : TailRow). r.name) c.in_ok-rows.rows.items) listed));
       rows = subst (All (λ (r : TailRow). AreSlowAndRest by_number nat_eq (slow_of latencies paths) (rest_of latencies paths) r.name r.slow_on r.slow_sum r.rest_on r.rest_sum)) (sym c.of.ensures)
           (λ k d lt. row_of names (slow_of latencies paths) (rest_of latencies paths) c.in_ok-tables.tables.slow c.in_ok-tables.tables.rest (get_or c.in_ok-rows.rows.items k d) slow_table rest_table
           (All-kept (IsNamedPath names) (λ b. b) (slow_marks latencies) paths named) (All-kept (IsNamedPath names) not (slow_marks latencies) paths named) (rows.each k d lt));

@@ -4,7 +4,8 @@ use Rattle.session_rules.specs.KeptTraces.{Kept}
 use Rattle.session_rules.specs.Parts.{GraphOf, Header, ModelOf, PathOf, SlacksOf}
 use Rattle.session_rules.specs.Sessions.{report_parts}
 use Rattle.session_rules.specs.declared.job.Job.TheVariants.{Control}
-use Rattle.session.proofs.ControlLemmas.{grace_step, one_part, view_step, watch_step}
+use Rattle.view_rows.proofs.ReportPrintLemmas.{one_part}
+use Rattle.session.proofs.ControlLemmas.{grace_step, view_step, watch_step}
 use Rattle.session.proofs.sessions.Session.print_command.Goals as goal
 
 pub returns-in-Watch-clause-stepped : goal.returns-in-Watch-clause-stepped

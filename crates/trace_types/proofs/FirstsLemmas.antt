@@ -1,9 +1,9 @@
 -- The order of first sight, where the test tells equality.
-use Rattle.std.proofs.Common.{◌≡◌, List, [], ◌∷◌, ◌++◌, filter, Bool, true, false, not, if◌then◌else◌, refl, sym, ◌∙◌, subst, true≢false, append-nil}
+use Rattle.std.proofs.Common.{List, [], ◌∷◌, ◌++◌, Bool, if◌then◌else◌, ◌≡◌, filter, true, false, not, refl, sym, ◌∙◌, subst, true≢false, append-nil}
 use Rattle.std.specs.List.{list_any}
 use Rattle.std.proofs.lemmas.List.Elements.{filter-append}
-use Rattle.trace_types.specs.Firsts.{firsts_of}
 use Rattle.trace_types.proofs.ShortLemmas.{any-filter}
+use Rattle.trace_types.specs.Firsts.{firsts_of}
 
 -- the list with one more at its end, unless it is there
 abbrev pub with_key : {X : Type 0} → (X → X → Bool) → List X → X → List X
