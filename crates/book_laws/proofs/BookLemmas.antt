@@ -8,8 +8,7 @@ use Rattle.trace_types.specs.Firsts.{firsts_of}
 use Rattle.day_partitions.specs.Books.{BookState, KeptDay, kept_day, all_traces, traces_kept_on, AreRising, HasTraces, AreOfDay, IsBook, with_day_traces, days_without, newest_days}
 use Rattle.trace_types.proofs.ListingLemmas.{pairs_tail}
 use Rattle.day_partitions.proofs.DayLemmas.{with_below, with_same, with_above}
-use Rattle.day_partitions.proofs.FilterLemmas.{filter_yes, filter_no, filter_all, filter_none}
-use Rattle.book_laws.proofs.ZipLemmas.{filter_same}
+use Rattle.day_partitions.proofs.FilterLemmas.{filter_yes, filter_no, filter_all, filter_none, filter_same}
 use Rattle.book_laws.proofs.TakenLemmas.{put_all, has_key, Rises, filter_above, put_all_before, put_all_behind, rises_append}
 
 abbrev pub named_day : NamedTrace → ℕ

@@ -12,4 +12,3 @@ mod ShareLemmas
 pub mod SheetLemmas
 mod TakenLemmas
 mod WatchLawLemmas
-mod ZipLemmas

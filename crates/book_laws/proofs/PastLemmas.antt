@@ -11,11 +11,10 @@ use Rattle.session_rules.specs.declared.job.Job.TheVariants.{Add, Control, Summa
 use Rattle.session_rules.specs.KeptTraces.{Kept, day_of, greater_days, is_of_day, traces_on, with_taken}
 use Rattle.session_rules.specs.Parts.{Part}
 use Rattle.session_rules.specs.Sessions.{State, Commands, Does, Leads, first_state, graced}
-use Rattle.day_partitions.proofs.FilterLemmas.{filter_yes, filter_no, filter_all}
+use Rattle.day_partitions.proofs.FilterLemmas.{filter_yes, filter_no, filter_all, filter_same}
 use Rattle.book_laws.specs.PastJobs.{PastJob, Takes, job_drops, is_dropped_by, remaining_of, AreRemaining, ArePast, KeptRemain, OneListRemains}
 use Rattle.book_laws.proofs.LawLemmas.{with_is}
 use Rattle.book_laws.proofs.TakenLemmas.{Rises, filter_put_all, one_rising, put_all, put_all_rises}
-use Rattle.book_laws.proofs.ZipLemmas.{filter_same}
 
 module _ {X : Type 0} where
   -- what every item meets

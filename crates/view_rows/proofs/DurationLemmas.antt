@@ -16,8 +16,9 @@ use Rattle.trace_types.specs.Parts.{by_number}
 use Rattle.trace_types.specs.Segments.{SegmentName, end_of, name_of}
 use Rattle.segment_names.proofs.TextLemmas.{name_means, name_own}
 use Rattle.trace_types.proofs.ElementLemmas.{one_place}
+use Rattle.trace_types.proofs.ZipLemmas.{zip_mapped}
 use Rattle.view_rows.specs.inner.ShownPaths.{ArePathsShown, AreSegmentsShown, IsSegmentShown}
-use Rattle.view_rows.proofs.ReportZipLemmas.{zip_any, zip_count, zip_filter, zip_map, zip_sum}
+use Rattle.view_rows.proofs.ReportZipLemmas.{zip_any, zip_count, zip_filter, zip_sum}
 
 -- ---- names
 module _ (known : Known) where
@@ -47,7 +48,7 @@ module _ (known : Known) where
         (eqb_tells (number_of_name s) n)
 
     pub durations_shown : (path : List NamedSegment) (text : List Segment) → AreSegmentsShown known path text → durations_of by_number eqb n path ≡ durations_of by_kept same_name (name_with_number known.names n) text
-    durations_shown path text shown = zip_map (IsSegmentShown known) (duration by_number) (duration by_kept) lasts_shown (filter (λ s. eqb (number_of_name s) n) path) (filter (λ x. same_name (name_of x) (name_with_number known.names n)) text)
+    durations_shown path text shown = zip_mapped (IsSegmentShown known) (duration by_number) (duration by_kept) lasts_shown (filter (λ s. eqb (number_of_name s) n) path) (filter (λ x. same_name (name_of x) (name_with_number known.names n)) text)
         (zip_filter (IsSegmentShown known) (λ s. eqb (number_of_name s) n) (λ x. same_name (name_of x) (name_with_number known.names n)) test_shown path text shown)
 
     pub counts_shown : (paths : List (List NamedSegment)) (texts : List (List Segment)) → ArePathsShown known paths texts → paths_with by_number eqb n paths ≡ paths_with by_kept same_name (name_with_number known.names n) texts

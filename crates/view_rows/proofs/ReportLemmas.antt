@@ -30,6 +30,7 @@ use Rattle.trace_types.specs.NameOrder.{name_cmp}
 use Rattle.trace_types.specs.Parts.{by_number, segments_of}
 use Rattle.trace_types.specs.Segments.{SegmentName}
 use Rattle.trace_types.proofs.ElementLemmas.{map_twice}
+use Rattle.trace_types.proofs.ZipLemmas.{zip_mapped}
 use Rattle.view_rows.specs.inner.NumberedTexts.{latency_row, report_head, segment_row, tail_head, tail_row}
 use Rattle.view_rows.specs.inner.ShownPaths.{ArePathsShown, AreSegmentsShown, PathsAreShown}
 use Rattle.view_rows.specs.inner.ShownReports.{AreReportTexts, AreTailTexts}
@@ -37,7 +38,7 @@ use Rattle.view_rows.proofs.DurationLemmas.{counts_shown, durations_shown, lengt
 use Rattle.view_rows.proofs.ListLemmas.{All-unmap}
 use Rattle.view_rows.proofs.ReportNameLemmas.{AreListedInOneWay, names_told, number_within}
 use Rattle.view_rows.proofs.ReportPathLemmas.{IsMatched, all_segments_shown}
-use Rattle.view_rows.proofs.ReportZipLemmas.{zip_map, zip_marked, zip_unmarked}
+use Rattle.view_rows.proofs.ReportZipLemmas.{zip_marked, zip_unmarked}
 
 module _ (known : Known) (traces : List NamedTrace) (kept : List Kept) (fits : IsKept known) (shown : AreShown known traces kept) (matched : IsMatched known.names)
     (paths_law : PathsAreShown) (total : IsTotalOrder name_cmp) (one : AreListedInOneWay) where
@@ -45,7 +46,7 @@ module _ (known : Known) (traces : List NamedTrace) (kept : List Kept) (fits : I
   count_shown = sym (AllZip-long (IsShown known) traces kept shown)
 
   latencies_shown : by_trace.trace_latencies traces ≡ latencies_of kept
-  latencies_shown = zip_map (IsShown known) (λ (t : NamedTrace). t.latency) (λ (k : Kept). k.trace.latency) (λ t k s. s.latency) traces kept shown
+  latencies_shown = zip_mapped (IsShown known) (λ (t : NamedTrace). t.latency) (λ (k : Kept). k.trace.latency) (λ t k s. s.latency) traces kept shown
 
   segments : AreSegmentsShown known (segments_of by_number traces) (segments_of by_kept kept)
   segments = all_segments_shown known matched traces kept shown

@@ -16,12 +16,6 @@ module _ {A B : Type 0} (R : A → B → Type 0) where
   zip_get (a ∷ xs) (b ∷ ys) z zero x e = (b, refl, subst (λ v. R v b) (same_Some a x e) z.0)
   zip_get (a ∷ xs) (b ∷ ys) z (suc i) x e = zip_get xs ys z.1 i x e
 
-  pub zip_map : {C : Type 0} (f : A → C) (g : B → C) → ((x : A) (y : B) → R x y → f x ≡ g y) → (xs : List A) (ys : List B) → AllZip R xs ys → map f xs ≡ map g ys
-  zip_map f g same [] [] z = refl
-  zip_map f g same [] (y ∷ ys) z = absurd z
-  zip_map f g same (x ∷ xs) [] z = absurd z
-  zip_map {C = C} f g same (x ∷ xs) (y ∷ ys) z = ap (λ (v : C). v ∷ map f xs) (same x y z.0) ∙ ap (λ (l : List C). g y ∷ l) (zip_map f g same xs ys z.1)
-
   pub zip_sum : (f : A → ℕ) (g : B → ℕ) → ((x : A) (y : B) → R x y → f x ≡ g y) → (xs : List A) (ys : List B) → AllZip R xs ys → sum_by f xs ≡ sum_by g ys
   zip_sum f g same [] [] z = refl
   zip_sum f g same [] (y ∷ ys) z = absurd z
