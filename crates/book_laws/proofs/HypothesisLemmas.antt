@@ -4,6 +4,7 @@ use Rattle.std.proofs.lemmas.Bool.{cases_order}
 use Rattle.std.proofs.lemmas.Option.{slice_get_within}
 use Rattle.std.specs.List.{slice_get}
 use Rattle.hypothesis_index.specs.declared.relation.Relation.{Relation}
+use Rattle.hypothesis_index.specs.declared.relation.Relation.TheVariants.{Before as BeforeNumbers, Exclusive as ExclusiveNumbers, Apart as ApartNumbers, Pipe as PipeNumbers, Unshared as UnsharedNumbers}
 use Rattle.session_rules.specs.Hypotheses.{Hypothesis, Before, Exclusive, Apart, Pipe, Unshared, IsSame, exchanged_hypothesis}
 use Rattle.trace_types.proofs.ElementLemmas.{one_item, one_place}
 

@@ -11,6 +11,7 @@ use Rattle.trace_types.specs.Segments.{SegmentName}
 use Rattle.hypothesis_index.specs.Places.{IsRelation}
 use Rattle.hypothesis_index.specs.Refuting as number
 use Rattle.hypothesis_index.specs.declared.relation.Relation.{Relation}
+use Rattle.hypothesis_index.specs.declared.relation.Relation.TheVariants.{Before as BeforeNumbers, Exclusive as ExclusiveNumbers, Apart as ApartNumbers, Pipe as PipeNumbers, Unshared as UnsharedNumbers}
 use Rattle.segment_names.specs.Known.{Known}
 use Rattle.segment_names.specs.Limits.{IsKept}
 use Rattle.session_rules.specs.Hypotheses.{Hypothesis, Before, Exclusive, Apart, Pipe, Unshared}

@@ -1,26 +1,22 @@
 -- The report, from its tables.
-use Rattle.std.proofs.Common.{◌≡◌, ◌≢◌, ◌↔◌, ℕ, suc, zero, ◌<◌, ◌≤◌, ◌^◌, Bool, true, false, cond, eqb, List, [], ◌∷◌, ◌++◌, map, length, get_or, All, AllPairs, Contains, arith, refl, sym, ap, ◌∙◌, subst, ⊎_elim}
+use Rattle.std.proofs.Common.{◌≡◌, ◌↔◌, ℕ, suc, zero, ◌<◌, ◌≤◌, ◌^◌, Bool, true, false, cond, eqb, List, [], ◌∷◌, ◌++◌, map, length, get_or, All, Contains, arith, refl, sym, ap, ◌∙◌, subst, ⊎_elim}
 use Rattle.std.specs.Borrow.{Bor}
-use Rattle.std.specs.Prelude.{filter, sum, sum_by, count_by}
-use Rattle.std.specs.List.{list_any}
-use Rattle.std.proofs.lemmas.Bool.{cases_lt, eqb-true, eq-eqb, eqb-false}
+use Rattle.std.specs.Prelude.{filter, sum}
+use Rattle.std.proofs.lemmas.Bool.{cases_lt, eqb-true, eqb-false}
 use Rattle.std.proofs.lemmas.List.{get_or_default, get_or_past, length-map}
-use Rattle.std.proofs.lemmas.List.Elements.{All-nil, All-cons, All-append, All-head, All-tail, All-contains, Contains-append_cases, Contains-append_left, Contains-append_right}
+use Rattle.std.proofs.lemmas.List.Elements.{All-nil, All-cons, All-append, All-head, All-tail, Contains-append_cases, Contains-append_right}
 use Rattle.std.proofs.lemmas.List.Sums.{count_by-le-length}
 use Rattle.refute_tests.specs.Clearing.{HaveNamesBelow}
 use Rattle.trace_types.specs.declared.named_trace.NamedTrace.{NamedTrace}
 use Rattle.trace_types.specs.NamedSegments.{number_of_name}
 use Rattle.trace_types.specs.Parts.{by_number, segments_of}
 use Rattle.trace_types.specs.SegmentLists.{NamesDiffer}
-use Rattle.trace_rules.specs.CriticalPaths.{AreCriticalPaths}
 use Rattle.trace_paths.specs.NumberedPaths.{IsNamedPath}
 use Rattle.trace_rules.specs.Durations.{duration, has_name}
-use Rattle.trace_paths.specs.NameOrders.{number_cmp}
 use Rattle.trace_paths.specs.Tables.{IsTableOf}
-use Rattle.trace_types.specs.Segments.{SegmentName}
 use Rattle.trace_paths.proofs.PathTimeLemmas.{Seg, with_name, lasts, joined, once_each, time_each, segments_at}
 use Rattle.latency_report.specs.declared.segment_row.SegmentRow.{SegmentRow}
-use Rattle.latency_report.specs.inner.TableRows.{AreRowsFrom, IsRowFrom}
+use Rattle.latency_report.specs.inner.TableRows.{IsRowFrom}
 use Rattle.trace_paths.specs.Tables.{list_at}
 use Rattle.trace_rules.specs.Numbers.{AreFigures}
 use Rattle.trace_rules.specs.ReportRows.{AreFiguresOf}

@@ -1,5 +1,5 @@
 -- The report, from its tables and marks.
-use Rattle.std.proofs.Common.{◌≡◌, ℕ, ◌+◌, ◌<◌, Bool, cond, eqb, List, [], ◌∷◌, ◌++◌, map, length, get_or, slice_get, take, Some, true, All, Contains, Ordering, arith, sym, ap, ◌∙◌, subst}
+use Rattle.std.proofs.Common.{◌≡◌, ℕ, ◌<◌, Bool, cond, eqb, List, length, get_or, slice_get, Some, true, All, Contains, Ordering, arith, sym, ◌∙◌, subst}
 use Rattle.std.specs.Prelude.{sum}
 use Rattle.std.proofs.lemmas.List.{length-map}
 use Rattle.std.proofs.lemmas.List.Elements.{Contains-get_or}
@@ -15,7 +15,7 @@ use Rattle.slow_tail.specs.declared.tail_row.TailRow.{TailRow}
 use Rattle.slow_tail.specs.inner.TableRows.{IsTailRowFrom}
 use Rattle.slow_tail.specs.SlowLaws.{AddUp}
 use Rattle.trace_rules.specs.ReportRows.{AreSlowAndRest}
-use Rattle.trace_rules.specs.SlowTraces.{rest_of, slow_marks, slow_of, with_indices, is_slow}
+use Rattle.trace_rules.specs.SlowTraces.{slow_marks, with_indices, is_slow}
 use Rattle.slow_tail.proofs.MarkLemmas.{sums_add_up}
 use Rattle.slow_tail.proofs.PathLemmas.{table_has}
 use Rattle.slow_tail.proofs.SlowLemmas.{length_places}

@@ -1,5 +1,5 @@
 -- The marked names, collected by number and sorted by their texts.
-use Rattle.std.proofs.Common.{◌≡◌, ◌≢◌, ◌⊎◌, ℕ, ◌+◌, ◌<◌, ◌≤◌, Bool, true, false, eqb, List, [], ◌∷◌, ◌++◌, map, length, get_or, slice_get, Some, All, AllPairs, Contains, arith, refl, sym, ap, ◌∙◌, subst, ⊎_elim}
+use Rattle.std.proofs.Common.{◌≡◌, ◌≢◌, ℕ, ◌+◌, ◌<◌, ◌≤◌, Bool, true, false, eqb, List, [], ◌∷◌, ◌++◌, map, length, get_or, slice_get, Some, All, AllPairs, Contains, arith, refl, sym, ap, ◌∙◌, subst, ⊎_elim}
 use Rattle.std.specs.Borrow.{Bor}
 use Rattle.std.specs.Cmp.{IsTotalOrder}
 use Rattle.std.specs.List.{IsDistinct}
@@ -10,9 +10,9 @@ use Rattle.std.specs.declared.cmp.Ordering.TheVariants.{Less, Equal, Greater}
 use Rattle.std.proofs.lemmas.Bool.{cases_lt, false≢true}
 use Rattle.std.proofs.lemmas.Bool.Decides.{nat_tests}
 use Rattle.std.proofs.lemmas.Cmp.{nat_cmp_total, then_total, on_total}
-use Rattle.std.proofs.lemmas.List.{get_or_append_left, get_or_push, length_push, get_or_default, get_or-map, length-map}
-use Rattle.std.proofs.lemmas.List.Elements.{All-nil, All-push, Contains-get_or, Contains-push, Contains-append_left, All-get_or}
-use Rattle.std.proofs.lemmas.List.Sorted.{All-permutation, Contains-permutation, IsPermutation-map, IsPermutation-sym, length_permutation, sorted_far, ranks_by}
+use Rattle.std.proofs.lemmas.List.{get_or_append_left, get_or_push, length_push, get_or-map, length-map}
+use Rattle.std.proofs.lemmas.List.Elements.{All-nil, All-push, Contains-push, Contains-append_left, All-get_or}
+use Rattle.std.proofs.lemmas.List.Sorted.{All-permutation, Contains-permutation, IsPermutation-map, IsPermutation-sym, sorted_far, ranks_by}
 use Rattle.std.proofs.lemmas.Map.Keys.{IsDistinct-from_apart, IsDistinct-IsPermutation, apart_from_distinct}
 use Rattle.std.proofs.lemmas.Option.{slice_get_within, get_or_from_slice_get}
 use Rattle.trace_types.specs.Listing.{ListsExactly}
@@ -20,7 +20,7 @@ use Rattle.trace_types.specs.NameOrder.{name_cmp}
 use Rattle.trace_types.specs.Segments.{SegmentName}
 use Rattle.trace_types.proofs.ComparingLemmas.{name_exact}
 use Rattle.trace_types.proofs.ListingLemmas.{name_total}
-use Rattle.trace_paths.specs.NameOrders.{name_with_number, number_cmp}
+use Rattle.trace_paths.specs.NameOrders.{number_cmp}
 
 -- a name and its number
 abbrev pub Entry : Type 0

@@ -1,7 +1,6 @@
 -- Reports on traces by number, as the texts of reports on kept traces.
 use Rattle.std.proofs.Common.{◌≡◌, ℕ, ◌<◌, eqb, List, length, map, get_or, refl, sym, ap, ◌∙◌, subst}
 use Rattle.std.specs.Cmp.{IsTotalOrder}
-use Rattle.std.specs.List.{All}
 use Rattle.std.proofs.lemmas.Slice.Zip.{AllZip-long}
 use Rattle.book_laws.specs.Shown.{AreShown, IsShown}
 use Rattle.trace_rules.specs.Numbers.{AreFigures}
@@ -9,7 +8,7 @@ use Rattle.latency_report.specs.Reports.{IsReport}
 use Rattle.trace_rules.specs.ReportRows.{AreFiguresOf}
 use Rattle.latency_report.specs.declared.full_report.FullReport.{FullReport}
 use Rattle.latency_report.specs.declared.segment_row.SegmentRow.{SegmentRow}
-use Rattle.segment_names.specs.Known.{Known, same_name}
+use Rattle.segment_names.specs.Known.{Known}
 use Rattle.segment_names.specs.Limits.{IsKept}
 use Rattle.session_rules.specs.KeptTraces.{Kept, by_kept, latencies_of}
 use Rattle.session_rules.specs.ReportTexts.{IsSegmentText}
@@ -21,17 +20,14 @@ use Rattle.trace_rules.specs.SlowTraces.{IsFloor, rest_of, slow_count, slow_mark
 use Rattle.slow_tail.specs.declared.slow_report.SlowReport.{SlowReport}
 use Rattle.slow_tail.specs.declared.tail_row.TailRow.{TailRow}
 use Rattle.trace_rules.specs.CriticalPaths.{AreCriticalPaths}
-use Rattle.trace_rules.specs.Durations.{durations_of}
 use Rattle.trace_paths.specs.NameOrders.{name_with_number}
-use Rattle.trace_types.specs.declared.named_segment.NamedSegment.{NamedSegment}
 use Rattle.trace_types.specs.declared.named_trace.NamedTrace.{NamedTrace}
 use Rattle.trace_types.specs.declared.segment.Segment.{Segment}
 use Rattle.trace_types.specs.NameOrder.{name_cmp}
 use Rattle.trace_types.specs.Parts.{by_number, segments_of}
-use Rattle.trace_types.specs.Segments.{SegmentName}
 use Rattle.trace_types.proofs.ElementLemmas.{map_twice}
 use Rattle.trace_types.proofs.ZipLemmas.{zip_mapped}
-use Rattle.view_rows.specs.inner.NumberedTexts.{latency_row, report_head, segment_row, tail_head, tail_row}
+use Rattle.view_rows.specs.inner.NumberedTexts.{report_head, segment_row, tail_head, tail_row}
 use Rattle.view_rows.specs.inner.ShownPaths.{ArePathsShown, AreSegmentsShown, PathsAreShown}
 use Rattle.view_rows.specs.inner.ShownReports.{AreReportTexts, AreTailTexts}
 use Rattle.view_rows.proofs.DurationLemmas.{counts_shown, durations_shown, lengths_shown, times_shown}

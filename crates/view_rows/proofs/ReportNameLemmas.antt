@@ -1,8 +1,8 @@
 -- The names of kept traces, by their numbers.
-use Rattle.std.proofs.Common.{◌≡◌, ◌↔◌, ℕ, ◌<◌, Some, List, [], ◌∷◌, length, map, get_or, refl, sym, ap, ◌∙◌, subst, arith, Ordering}
+use Rattle.std.proofs.Common.{◌≡◌, ◌↔◌, ℕ, ◌<◌, List, length, map, get_or, refl, sym, ap, ◌∙◌, subst, arith, Ordering}
 use Rattle.std.specs.declared.cmp.Ordering.TheVariants.{Less}
 use Rattle.std.specs.Cmp.{IsTotalOrder}
-use Rattle.std.specs.List.{All, AllPairs, AllZip, Contains, flat_map, slice_get}
+use Rattle.std.specs.List.{All, AllPairs, Contains}
 use Rattle.std.proofs.lemmas.List.{get_or-map, length-map}
 use Rattle.std.proofs.lemmas.List.Elements.{All-contains}
 use Rattle.std.proofs.lemmas.Option.{slice_get_within}
@@ -11,11 +11,10 @@ use Rattle.refute_tests.specs.Clearing.{HaveNamesBelow}
 use Rattle.segment_names.specs.Known.{Known}
 use Rattle.session_rules.specs.KeptTraces.{Kept, by_kept}
 use Rattle.session_rules.specs.ReportTexts as texts
-use Rattle.trace_paths.specs.NameOrders.{name_with_number, number_cmp}
+use Rattle.trace_paths.specs.NameOrders.{name_with_number}
 use Rattle.trace_paths.specs.NameOrders as numbers
 use Rattle.trace_types.specs.declared.named_segment.NamedSegment.{NamedSegment}
 use Rattle.trace_types.specs.declared.named_trace.NamedTrace.{NamedTrace}
-use Rattle.trace_types.specs.declared.segment.Segment.{Segment}
 use Rattle.trace_types.specs.NamedSegments.{number_of_name}
 use Rattle.trace_types.specs.NameOrder.{name_cmp}
 use Rattle.trace_types.specs.Parts.{by_number, segments_of}

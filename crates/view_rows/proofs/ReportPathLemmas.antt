@@ -1,5 +1,5 @@
 -- The critical paths of kept traces, by those of traces by number.
-use Rattle.std.proofs.Common.{◌≡◌, ◌↔◌, ℕ, Some, List, [], ◌∷◌, refl}
+use Rattle.std.proofs.Common.{◌≡◌, ◌↔◌, ℕ, Some, List, [], ◌∷◌}
 use Rattle.std.specs.List.{AllZip, Contains, enumerate_from, slice_get}
 use Rattle.book_laws.specs.GraphLaws.{GraphIsShown}
 use Rattle.book_laws.specs.Shown.{AreShown, IsShown}

@@ -2,7 +2,7 @@
 use Rattle.std.proofs.Common.{◌≡◌, ℕ, ◌+◌, ◌≤◌, ◌<◌, List, [], ◌∷◌, ◌++◌, length, take, drop, get_or, map, Option, inl, inr, refl, sym, ◌∙◌, ap, subst}
 use Rattle.std.specs.Prelude.{Result, Ok, Err}
 use Rattle.std.specs.List.{All}
-use Rattle.std.proofs.lemmas.List.{append-nil, drop_more, get_or_default, map-append, take_all, take_more, take-append-drop}
+use Rattle.std.proofs.lemmas.List.{append-nil, drop_more, map-append, take_all, take_more, take-append-drop}
 use Rattle.session_rules.specs.Parts.{IsPart, Part}
 use Rattle.text_rows.specs.PartsFollow.{CallPrintsOnePart, NoPartIsBegun, NoPartIsPrinted, PartCallGoesOn, PartCallsFollow}
 use Rattle.text_rows.specs.Printing.{PrintsText}

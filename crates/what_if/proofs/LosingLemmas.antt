@@ -1,16 +1,15 @@
 -- The longest length with weights that are not greater.
-use Rattle.std.proofs.Common.{◌≡◌, ◌≢◌, ◌⊎◌, ℕ, suc, zero, ◌+◌, ◌-◌, ◌<◌, ◌≤◌, List, [], ◌∷◌, length, get_or, set, All, Contains, arith, refl, sym, ap, ◌∙◌, subst, ⊎_elim, inl, inr}
+use Rattle.std.proofs.Common.{◌≡◌, ◌≢◌, ◌⊎◌, ℕ, suc, zero, ◌+◌, ◌-◌, ◌<◌, ◌≤◌, List, [], ◌∷◌, length, get_or, set, All, Contains, arith, refl, sym, ap, subst, ⊎_elim, inl, inr}
 use Rattle.std.specs.Prelude.{sum_by}
 use Rattle.std.specs.List.{range_with_len}
 use Rattle.std.proofs.lemmas.Bool.{cases_lt, cases_order}
 use Rattle.std.proofs.lemmas.List.{get_or-set_other, get_or-set_same, length-set}
-use Rattle.std.proofs.lemmas.List.Elements.{All-nil, All-cons, All-head, All-tail, All-weaker}
+use Rattle.std.proofs.lemmas.List.Elements.{All-nil, All-cons, All-head, All-tail}
 use Rattle.std.proofs.lemmas.List.Sums.{sum_by-cons}
-use Rattle.weighted_dag.specs.Chains.{IsChain, IsLongestLength, LeadsTo, chain_length}
-use Rattle.weighted_dag.specs.Graphs.{Graph, IsEdge, IsGraph, order_of, weight_of, with_weights}
-use Rattle.weighted_dag.specs.Slacks.{IsSlack, KeepsLongest, raised}
+use Rattle.weighted_dag.specs.Chains.{IsChain}
+use Rattle.weighted_dag.specs.Graphs.{Graph, IsGraph, order_of, weight_of, with_weights}
 use Rattle.weighted_dag.proofs.LengthLemmas.{chain_within}
-use Rattle.what_if.specs.ForecastLaws.{AreNoGreater, LosesNoMore, SlackLosesNothing, all_lost}
+use Rattle.what_if.specs.ForecastLaws.{LosesNoMore, SlackLosesNothing}
 
 -- the weight of a vertex by a list
 abbrev at : List ℕ → ℕ → ℕ

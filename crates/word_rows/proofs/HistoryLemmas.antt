@@ -1,5 +1,5 @@
 -- What stays along a history: bits that are 0, and rows that are done.
-use Rattle.std.proofs.Common.{◌≡◌, ◌≢◌, ℕ, zero, suc, ◌+◌, ◌<◌, Bool, true, false, not, ◌||◌, ◌==◌, List, [], ◌∷◌, ◌++◌, length, get_or, set, map, sym, refl, ap, ◌∙◌, subst, ⊎_elim, length-set, length-append}
+use Rattle.std.proofs.Common.{◌≡◌, ◌≢◌, ℕ, zero, suc, ◌+◌, ◌<◌, Bool, true, false, not, ◌||◌, ◌==◌, List, [], ◌∷◌, ◌++◌, length, get_or, set, sym, refl, ap, ◌∙◌, subst, ⊎_elim, length-set, length-append}
 use Rattle.std.specs.Prelude.{Option, Some, None, Contains}
 use Rattle.std.proofs.lemmas.Bool.{cases_eq, cond_both, not-false, eqb-false, or_parts}
 use Rattle.std.proofs.lemmas.List.{length-map, length-replicate}
@@ -10,8 +10,8 @@ use Rattle.word_rows.specs.declared.events.StepEvent.{StepEvent}
 use Rattle.word_rows.proofs.MachineLemmas.{passed, live_inside}
 use Rattle.word_rows.specs.declared.entries.Entry.{Entry}
 use Rattle.word_rows.specs.declared.views.View.{View}
-use Rattle.word_rows.specs.Words.{bit_of, full_words}
-use Rattle.word_rows.specs.Changes.{is_idle, empty_view, finished_view, midway_view, next_view, with_reading, left_view, new_view, joined_view}
+use Rattle.word_rows.specs.Words.{bit_of}
+use Rattle.word_rows.specs.Changes.{empty_view, finished_view, midway_view, next_view, left_view, new_view, joined_view}
 use Rattle.word_rows.specs.Machine.{StepState, Fault, clear, load, split, join, close, opening_state, step, steps, after, fault_of, next_state, outcome, is_live, view_at, entry_at, no_seat}
 use Rattle.word_rows.specs.Keeping.{WidthStays, ZerosStay, IsDone, DoneStays}
 use Rattle.word_rows.proofs.BitLemmas.{bit_stays}

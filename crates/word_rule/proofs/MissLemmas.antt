@@ -1,8 +1,7 @@
 -- Of two passes that each offer a row and then read, not both miss the other's row.
-use Rattle.std.proofs.Common.{◌≡◌, ℕ, zero, suc, ◌+◌, ◌-◌, ◌<◌, true, false, not, ◌||◌, ◌&&◌, ◌==◌, cond, List, [], ◌∷◌, ◌++◌, length, get_or, set, slice_index, IsTrue, sym, refl, ap, ◌∙◌, subst, ⊎_elim, ◌⊎◌, inl, inr, arith}
+use Rattle.std.proofs.Common.{◌≡◌, ℕ, ◌+◌, ◌-◌, ◌<◌, true, false, List, [], ◌∷◌, ◌++◌, length, slice_index, sym, refl, ap, ◌∙◌, subst, ⊎_elim, ◌⊎◌, inl, inr, arith}
 use Rattle.std.specs.Prelude.{Option, Some, None, Ok}
-use Rattle.std.proofs.lemmas.Bool.{false≢true, not-false, or_left, or_right, cases_eq}
-use Rattle.std.proofs.lemmas.List.{append-nil}
+use Rattle.std.proofs.lemmas.Bool.{false≢true, or_left, or_right, cases_eq}
 use Rattle.std.proofs.lemmas.List.Folds.{list_any-append}
 use Rattle.std.specs.Int.{bit_at}
 use mathlib.Core.Option.{some}
@@ -12,21 +11,19 @@ use Rattle.word_rows.specs.declared.entries.Entry.{Entry}
 use Rattle.word_rows.specs.declared.views.View.{View}
 use Rattle.word_rows.specs.declared.events.StepEvent.{StepEvent}
 use Rattle.word_rows.specs.declared.events.StepEvent.TheVariants.{Clear as clear, Load as load}
-use Rattle.word_rows.specs.declared.replies.Reply.{Reply}
-use Rattle.word_rows.specs.declared.replies.Reply.TheVariants.{Cleared, Loaded}
-use Rattle.word_rows.specs.Rows.{clears, is_row, rows_clear}
+use Rattle.word_rows.specs.declared.replies.Reply.TheVariants.{Cleared}
+use Rattle.word_rows.specs.Rows.{clears, is_row}
 use Rattle.word_rows.specs.Words.{bit_of}
 use Rattle.word_rows.specs.Accounts.{AreZero, view_clears}
-use Rattle.word_rows.specs.Changes.{is_idle, next_view, finished_view, empty_view, with_done}
-use Rattle.word_rows.specs.Machine.{StepState, Fault, HaveRows, step, steps, after, opening_state, fault_of, outcome, next_state, view_at}
+use Rattle.word_rows.specs.Changes.{is_idle, next_view, empty_view, with_done}
+use Rattle.word_rows.specs.Machine.{StepState, Fault, after, opening_state, fault_of, outcome, next_state, view_at}
 use Rattle.word_rows.specs.Meeting.{RowIsSame}
 use Rattle.word_rows.specs.Keeping.{EventsKeepSound, WidthStays, ZerosStay}
 use Rattle.word_rows.proofs.HistoryLemmas.{steps_snoc}
 use Rattle.word_rows.proofs.ViewLemmas.{put_here}
-use Rattle.word_rule.specs.Holdings.{Holding, Opened}
 use Rattle.word_rule.specs.Histories.{ArePrefixes, HasStep, IsClearBetween, IsLoadBetween, offered_until, read_until}
-use Rattle.word_rule.specs.Uses.{HasOfferedAndRead, NotBothMiss}
-use Rattle.word_rule.proofs.ListLemmas.{at_or, at_inside}
+use Rattle.word_rule.specs.Uses.{NotBothMiss}
+use Rattle.word_rule.proofs.ListLemmas.{at_or}
 use Rattle.word_rule.proofs.StepLemmas.{rows_snoc, loaded_by}
 use Rattle.word_rule.proofs.OfferLemmas.{next, ends}
 use Rattle.word_rule.proofs.PastLemmas.{prefix_itself, prefix_longer}

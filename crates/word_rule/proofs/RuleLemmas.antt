@@ -1,5 +1,5 @@
 -- Each step keeps the rule, since it is a step of the step machine or changes nothing.
-use Rattle.std.proofs.Common.{◌≡◌, ◌≢◌, ℕ, zero, suc, ◌+◌, ◌^◌, ◌<◌, ◌≤◌, Bool, true, false, not, ◌||◌, ◌==◌, List, [], ◌∷◌, ◌++◌, length, map, set, get_or, take, bit_and, bit_xor, slice_index, sym, refl, ap, ◌∙◌, subst, ⊎_elim, ◌⊎◌, inl, inr, arith, length-set}
+use Rattle.std.proofs.Common.{◌≡◌, ◌≢◌, ℕ, zero, suc, ◌+◌, ◌^◌, ◌<◌, ◌≤◌, Bool, true, false, not, ◌||◌, ◌==◌, List, [], ◌∷◌, ◌++◌, length, map, set, get_or, take, bit_and, bit_xor, slice_index, sym, refl, ap, ◌∙◌, subst, ⊎_elim, inl, inr, arith, length-set}
 use Rattle.std.specs.Prelude.{Result, Ok, MatchBool}
 use Rattle.std.proofs.lemmas.Bool.{eqb-true, cond_both, not_from_false, ne_eqb, or_cases, or_left}
 use Rattle.std.proofs.lemmas.List.{map-set, map-append, set-get_or, length-replicate}

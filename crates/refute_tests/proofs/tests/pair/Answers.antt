@@ -1,4 +1,4 @@
-use Rattle.std.proofs.Common.{List, [], ◌∷◌, ◌≡◌, ◌∙◌, sym, subst, arith}
+use Rattle.std.proofs.Common.{List, [], ◌∷◌, ◌≡◌, ◌∙◌, sym, subst}
 use Rattle.trace_types.proofs.FewSegmentLemmas.{two_names, two_together, two_joined, two_elements}
 use Rattle.trace_types.specs.NamedSegments.{number_of_name, number_of_task, number_of_element, named_start, named_end}
 use Rattle.trace_types.specs.SegmentLists.{NamesDiffer, TasksStandTogether, JoinInTasks, ElementsCountUp}

@@ -1,4 +1,4 @@
-use Rattle.std.proofs.Common.{◌≡◌, ◌↔◌, ◌<◌, ◌≤◌, ◌^◌, ℕ, Bool, List, map, length, get_or, All, Contains, Some, true, arith, sym, ap, ◌∙◌, subst}
+use Rattle.std.proofs.Common.{◌≡◌, ◌↔◌, ℕ, Bool, List, map, length, get_or, All, Contains, Some, true, arith, sym, ap, ◌∙◌, subst}
 use Rattle.std.specs.Borrow.{Bor}
 use Rattle.std.specs.Prelude.{count_by, nat_eq, not, slice_get}
 use Rattle.std.specs.List.{AllZip}
@@ -6,7 +6,6 @@ use Rattle.std.proofs.lemmas.List.{length-map}
 use Rattle.std.proofs.lemmas.Slice.Zip.{AllZip-long}
 use Rattle.day_partitions.specs.Books.{BookState, all_traces}
 use Rattle.model_meet.specs.ModelStates.{ModelState}
-use Rattle.refute_tests.specs.Clearing.{HaveNamesBelow}
 use Rattle.refute_tests.specs.Survivors.{AreSurvivors}
 use Rattle.segment_names.specs.Known.{Known}
 use Rattle.trace_types.specs.declared.named_segment.NamedSegment.{NamedSegment}
