@@ -1,5 +1,6 @@
 //! Tests of what records traces, by public calls alone: words and rows of bits, the places of
-//! relations, what a model answers from words, tables of words, and workers that record a day.
+//! relations, what a model answers from words, tables of words, and workers that record a day. The
+//! traces of which two tasks share their elements are made here for the checks above too.
 #![tactic(auto)]
 
 #[cfg(test)]
@@ -14,7 +15,6 @@ mod questions;
 mod recordings;
 #[cfg(test)]
 mod rows;
-#[cfg(test)]
 mod shared_traces;
 #[cfg(test)]
 mod task_rows;
@@ -24,3 +24,5 @@ mod traces;
 mod word_tables;
 #[cfg(test)]
 mod workers;
+
+pub use shared_traces::shared_trace;

@@ -26,7 +26,7 @@ fn segment(name: u32, task: u32, element: u32, start: i64, end: i64) -> NamedSeg
 
 /// Makes a trace in which task 0 handles the elements 0 and 1 from 0 to 20, and task 1 does so in the
 /// given order from a start over a middle to an end.
-pub(crate) fn shared_trace(
+pub fn shared_trace(
     alloc: Global,
     order: (u32, u32),
     times: (i64, i64, i64),
