@@ -1,20 +1,19 @@
 -- The report, from its tables.
-use Rattle.std.proofs.Common.{◌≡◌, ◌↔◌, ℕ, suc, zero, ◌<◌, ◌≤◌, ◌^◌, Bool, true, false, cond, eqb, List, [], ◌∷◌, ◌++◌, map, length, get_or, All, Contains, arith, refl, sym, ap, ◌∙◌, subst, ⊎_elim}
+use Rattle.std.proofs.Common.{◌≡◌, ◌↔◌, ℕ, suc, zero, ◌<◌, ◌≤◌, ◌^◌, Bool, true, false, cond, eqb, List, [], ◌∷◌, ◌++◌, map, length, All, Contains, arith, refl, ap, ◌∙◌, subst, ⊎_elim}
 use Rattle.std.specs.Borrow.{Bor}
 use Rattle.std.specs.Prelude.{filter, sum}
 use Rattle.std.proofs.lemmas.Bool.{cases_lt, eqb-true, eqb-false}
-use Rattle.std.proofs.lemmas.List.{get_or_default, get_or_past, length-map}
+use Rattle.std.proofs.lemmas.List.{get_or_past, length-map}
 use Rattle.std.proofs.lemmas.List.Elements.{All-nil, All-cons, All-append, All-head, All-tail, Contains-append_cases, Contains-append_right}
-use Rattle.std.proofs.lemmas.List.Sums.{count_by-le-length}
 use Rattle.refute_tests.specs.Clearing.{HaveNamesBelow}
 use Rattle.trace_types.specs.declared.named_trace.NamedTrace.{NamedTrace}
 use Rattle.trace_types.specs.NamedSegments.{number_of_name}
 use Rattle.trace_types.specs.Parts.{by_number, segments_of}
 use Rattle.trace_types.specs.SegmentLists.{NamesDiffer}
 use Rattle.trace_paths.specs.NumberedPaths.{IsNamedPath}
-use Rattle.trace_rules.specs.Durations.{duration, has_name}
+use Rattle.trace_rules.specs.Durations.{duration}
 use Rattle.trace_paths.specs.Tables.{IsTableOf}
-use Rattle.trace_paths.proofs.PathTimeLemmas.{Seg, with_name, lasts, joined, once_each, time_each, segments_at}
+use Rattle.trace_paths.proofs.PathTimeLemmas.{Seg, with_name, lasts, joined, once_each, time_each, segments_at, short_table}
 use Rattle.latency_report.specs.declared.segment_row.SegmentRow.{SegmentRow}
 use Rattle.latency_report.specs.inner.TableRows.{IsRowFrom}
 use Rattle.trace_paths.specs.Tables.{list_at}
@@ -60,20 +59,8 @@ segments_below names (t ∷ ts) below =
     All-append (λ (s : Seg). s.name < names) t.now.segments (segments_at ts) (All-head (λ (x : Bor NamedTrace). HaveNamesBelow names x.now) t ts below)
     (segments_below names ts (All-tail (λ (x : Bor NamedTrace). HaveNamesBelow names x.now) t ts below))
 
--- the lists of a table are short
-pub short_table : (names : ℕ) (xss : List (List Seg)) (xs : List Seg) (table : List (List ℕ)) → IsTableOf names xs table → xs ≡ joined xss → All (NamesDiffer number_of_name) xss → length xss < 2 ^ 32 → All (λ (ns : List ℕ). length ns < 2 ^ 32) table
-short_table names xss xs table t is differ few n d lt =
-    let count = t.count in
-    let list : get_or table n d ≡ lasts n (joined xss) = get_or_default table n d [] lt ∙ (t.lists n (omega arith) ∙ ap (lasts n) is) in
-    let many = once_each n xss differ in
-    let most = count_by-le-length (has_name by_number eqb n) xss in
-    subst (λ (ns : List ℕ). length ns < 2 ^ 32) (sym list) (omega arith)
-
 pub short_traces : (names : ℕ) (ts : List (Bor NamedTrace)) (table : List (List ℕ)) → IsTableOf names (segments_at ts) table → length ts < 2 ^ 32 → All (λ (ns : List ℕ). length ns < 2 ^ 32) table
 short_traces names ts table t few = short_table names (lists_at ts) (segments_at ts) table t (segments_joined ts) (lists_differ ts) (omega (arith, length-map ts (λ (x : Bor NamedTrace). x.now.segments)))
-
-pub short_paths : (names : ℕ) (paths : List (List Seg)) (table : List (List ℕ)) → IsTableOf names (joined paths) table → All (IsNamedPath names) paths → length paths < 2 ^ 32 → All (λ (ns : List ℕ). length ns < 2 ^ 32) table
-short_paths names paths table t named few = short_table names paths (joined paths) table t refl (λ k d lt. (named k d lt).differ) few
 
 -- a row from the tables is a row of the name
 pub row_of : (names : ℕ) (traces : List NamedTrace) (segments : List Seg) (paths : List (List Seg)) (durations on_paths : List (List ℕ)) (row : SegmentRow) → segments ≡ segments_of by_number traces

@@ -28,6 +28,7 @@ use Rattle.event_lines.specs.declared.line_run.LineRun.{LineRun}
 use Rattle.event_lines.specs.declared.why.Why.{Why}
 use Rattle.event_lines.specs.declared.why.Why.TheVariants.{NotJson}
 use Rattle.std.specs.Prelude.{codes}
+use Rattle.trace_types.proofs.TruthLemmas.{some_same}
 use Rattle.line_split.specs.declared.reason.Reason.{Reason}
 use Rattle.line_split.specs.CommandLines.{Call}
 use Rattle.line_split.specs.Lines.{longest_line, request_of, request_said}
@@ -187,9 +188,6 @@ event_more call es i e old start part get is h =
         let same : x ≡ e = cc in
         ap (λ y. y ∷ []) same
     taken (x ∷ xs) (suc i) g = ap (λ ys. x ∷ ys) (taken xs i g)
-
-some_same : (a b : ℕ) → Some a ≡ Some b → a ≡ b
-some_same a b h = cc
 
 part_within : (call : Call) → 0 < call.parts → (r : Result (Option (List ℕ)) Reason) (part : ℕ) → part_said call r ≡ Ok (Some part) → part < call.parts
 part_within call some (Ok (Some request)) part e =

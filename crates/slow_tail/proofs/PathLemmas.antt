@@ -1,14 +1,13 @@
 -- Durations on critical paths, by names.
-use Rattle.std.proofs.Common.{◌≡◌, ℕ, ◌<◌, ◌^◌, eqb, List, [], ◌∷◌, ◌++◌, length, get_or, All, arith, sym, ap, ◌∙◌, subst}
+use Rattle.std.proofs.Common.{◌≡◌, ℕ, ◌<◌, eqb, List, [], ◌∷◌, ◌++◌, length, get_or, All, sym, ap, ◌∙◌, subst}
 use Rattle.std.specs.Prelude.{sum}
 use Rattle.std.proofs.lemmas.List.Concat.{flat_map-append}
-use Rattle.std.proofs.lemmas.List.{append-nil, get_or_default}
-use Rattle.std.proofs.lemmas.List.Sums.{count_by-le-length}
+use Rattle.std.proofs.lemmas.List.{append-nil}
 use Rattle.trace_types.specs.Parts.{by_number}
 use Rattle.trace_paths.specs.NumberedPaths.{IsNamedPath}
-use Rattle.trace_rules.specs.Durations.{has_name, paths_with, time_on}
+use Rattle.trace_rules.specs.Durations.{paths_with, time_on}
 use Rattle.trace_paths.specs.Tables.{IsTableOf}
-use Rattle.trace_paths.proofs.PathTimeLemmas.{Seg, lasts, joined, once_each, time_each}
+use Rattle.trace_paths.proofs.PathTimeLemmas.{Seg, joined, once_each, time_each}
 
 -- what a table of the durations on paths has of a name
 pub record HasOf (paths : List (List Seg)) (n : ℕ) (numbers : List ℕ) : Type 0 where
@@ -29,12 +28,3 @@ table_more names before path old new t add =
     subst (λ (k : ℕ). IsTableOf k (joined before ++ path) new) count (add (joined before) (subst (λ (k : ℕ). IsTableOf k (joined before) old) (sym count) t)) in
     subst (λ (l : List Seg). IsTableOf names l new)
     (sym (flat_map-append (λ (xs : List Seg). xs) before (path ∷ []) ∙ ap (λ (l : List Seg). joined before ++ l) (append-nil path))) added
-
--- the lists of a table are short
-pub short_paths : (names : ℕ) (paths : List (List Seg)) (table : List (List ℕ)) → IsTableOf names (joined paths) table → All (IsNamedPath names) paths → length paths < 2 ^ 32 → All (λ (ns : List ℕ). length ns < 2 ^ 32) table
-short_paths names paths table t named few n d lt =
-    let count = t.count in
-    let list : get_or table n d ≡ lasts n (joined paths) = get_or_default table n d [] lt ∙ t.lists n (omega arith) in
-    let many = once_each n paths (λ k e within. (named k e within).differ) in
-    let most = count_by-le-length (has_name by_number eqb n) paths in
-    subst (λ (ns : List ℕ). length ns < 2 ^ 32) (sym list) (omega arith)

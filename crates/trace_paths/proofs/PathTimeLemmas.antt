@@ -1,21 +1,22 @@
 -- How long the segments with a name last, on several paths.
 use Rattle.trace_types.specs.declared.named_segment.NamedSegment.{NamedSegment}
-use Rattle.std.proofs.Common.{ℕ, Bool, eqb, List, ◌≡◌, ◌++◌, map, ap, ◌∙◌, false, cond, [], ◌∷◌, All, refl, suc, zero, true, ◌||◌, length, get_or, arith, sym, ◌+◌}
+use Rattle.std.proofs.Common.{ℕ, Bool, eqb, List, ◌≡◌, ◌++◌, map, ap, ◌∙◌, false, cond, [], ◌∷◌, All, refl, suc, zero, true, ◌||◌, length, get_or, arith, sym, ◌+◌, ◌<◌, ◌^◌, subst}
 use Rattle.trace_types.specs.Parts.{by_number, segments_of}
 use Rattle.trace_rules.specs.Durations.{durations_of, duration, has_name, paths_with, time_on}
 use Rattle.std.specs.Prelude.{filter, sum}
-use Rattle.std.proofs.lemmas.List.{map-append, length-append}
+use Rattle.std.proofs.lemmas.List.{map-append, length-append, get_or_default}
 use Rattle.std.proofs.lemmas.List.Elements.{filter-append, All-head, All-tail, All-nil, All-cons}
 use Rattle.std.proofs.lemmas.Bool.{eqb-true, ne_eqb}
 use Rattle.trace_types.specs.NamedSegments.{number_of_name}
 use Rattle.trace_types.specs.SegmentLists.{NamesDiffer}
 use Rattle.std.specs.List.{flat_map, AllZip}
-use Rattle.std.proofs.lemmas.List.Sums.{sum_by-cons, sum_by-append}
+use Rattle.std.proofs.lemmas.List.Sums.{sum_by-cons, sum_by-append, count_by-le-length}
 use Rattle.std.specs.Borrow.{Bor}
 use Rattle.trace_types.specs.declared.named_trace.NamedTrace.{NamedTrace}
 use Rattle.refute_tests.specs.Survivors.{AreSurvivors}
 use Rattle.model_meet.specs.ModelStates.{ModelState}
 use Rattle.trace_rules.specs.CriticalPaths.{IsCriticalPath}
+use Rattle.trace_paths.specs.Tables.{IsTableOf}
 use Rattle.trace_paths.specs.NumberedPaths.{IsPathUnder, IsNamedPath}
 
 abbrev pub Seg : Type 0
@@ -101,3 +102,15 @@ paths_named model [] [] all = All-nil (IsNamedPath model.names)
 paths_named model [] (p ∷ ps) all = absurd all
 paths_named model (t ∷ ts) [] all = absurd all
 paths_named model (t ∷ ts) (p ∷ ps) all = All-cons (IsNamedPath model.names) p ps all.0.named (paths_named model ts ps all.1)
+
+-- the lists of a table are short
+pub short_table : (names : ℕ) (xss : List (List Seg)) (xs : List Seg) (table : List (List ℕ)) → IsTableOf names xs table → xs ≡ joined xss → All (NamesDiffer number_of_name) xss → length xss < 2 ^ 32 → All (λ (ns : List ℕ). length ns < 2 ^ 32) table
+short_table names xss xs table t is differ few n d lt =
+    let count = t.count in
+    let list : get_or table n d ≡ lasts n (joined xss) = get_or_default table n d [] lt ∙ (t.lists n (omega arith) ∙ ap (lasts n) is) in
+    let many = once_each n xss differ in
+    let most = count_by-le-length (has_name by_number eqb n) xss in
+    subst (λ (ns : List ℕ). length ns < 2 ^ 32) (sym list) (omega arith)
+
+pub short_paths : (names : ℕ) (paths : List (List Seg)) (table : List (List ℕ)) → IsTableOf names (joined paths) table → All (IsNamedPath names) paths → length paths < 2 ^ 32 → All (λ (ns : List ℕ). length ns < 2 ^ 32) table
+short_paths names paths table t named few = short_table names paths (joined paths) table t refl (λ k d lt. (named k d lt).differ) few

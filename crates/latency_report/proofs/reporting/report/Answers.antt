@@ -19,13 +19,13 @@ use Rattle.trace_paths.specs.NumberedPaths.{IsNamedPath, IsPathUnder}
 use Rattle.trace_rules.specs.Durations.{path_length}
 use Rattle.trace_paths.specs.NameOrders.{AreNamesOf, number_cmp}
 use Rattle.trace_paths.specs.Tables.{IsTableOf}
-use Rattle.trace_paths.proofs.PathTimeLemmas.{joined, traces_at, segments_at, segments_shown, latencies_shown, paths_are, paths_named}
+use Rattle.trace_paths.proofs.PathTimeLemmas.{joined, traces_at, segments_at, segments_shown, latencies_shown, paths_are, paths_named, short_paths}
 use Rattle.trace_types.proofs.ExactLemmas.{ListsExactly-same}
 use Rattle.latency_report.specs.declared.segment_row.SegmentRow.{SegmentRow}
 use Rattle.trace_paths.specs.Tables.{list_at}
 use Rattle.trace_rules.specs.Numbers.{AreFigures}
 use Rattle.trace_rules.specs.ReportRows.{AreFiguresOf}
-use Rattle.latency_report.proofs.ReportLemmas.{durations_tell, row_of, segments_below, short_paths, short_traces}
+use Rattle.latency_report.proofs.ReportLemmas.{durations_tell, row_of, segments_below, short_traces}
 use Rattle.latency_report.proofs.reporting.report.Goals as goal
 
 pub tabulate_paths-requires : goal.tabulate_paths-requires

@@ -17,14 +17,13 @@ use Rattle.trace_rules.specs.CriticalPaths.{IsCriticalPath}
 use Rattle.trace_paths.specs.NumberedPaths.{IsNamedPath, IsPathUnder}
 use Rattle.trace_paths.specs.NameOrders.{AreNamesOf, number_cmp}
 use Rattle.trace_paths.specs.Tables.{IsTableOf}
-use Rattle.trace_paths.proofs.PathTimeLemmas.{joined, traces_at, segments_at, segments_shown, latencies_shown, paths_are, paths_named}
+use Rattle.trace_paths.proofs.PathTimeLemmas.{joined, traces_at, segments_at, segments_shown, latencies_shown, paths_are, paths_named, short_paths}
 use Rattle.trace_types.proofs.ExactLemmas.{ListsExactly-same}
 use Rattle.slow_tail.specs.declared.tail_row.TailRow.{TailRow}
 use Rattle.slow_tail.specs.SlowReports.{trace_latencies}
 use Rattle.trace_rules.specs.ReportRows.{AreSlowAndRest}
 use Rattle.trace_rules.specs.SlowTraces.{IsFloor, marked, rest_of, slow_count, slow_marks, slow_of, unmarked}
 use Rattle.slow_tail.proofs.MarkLemmas.{All-kept, length-kept}
-use Rattle.slow_tail.proofs.PathLemmas.{short_paths}
 use Rattle.slow_tail.proofs.TailLemmas.{length-marks, row_of}
 use Rattle.slow_tail.proofs.tailing.tail.Goals as goal
 
