@@ -13,7 +13,9 @@ use Rattle.refute_tests.specs.Clearing.{HaveNamesBelow}
 use Rattle.segment_names.specs.Known.{Known, same_name, with_segments, with_traces}
 use Rattle.segment_names.specs.Limits.{Fits, HasCause, IsKept, IsPassed, PassesLimit}
 use Rattle.segment_names.specs.declared.name_fault.NameFault.{NameFault}
-use Rattle.segment_names.specs.declared.name_fault.NameFault.TheVariants.{Memory, TooManyNames, TooManyTasks}
+use Rattle.segment_names.specs.declared.name_fault.NameFault.TheVariants.{Memory, Over}
+use Rattle.segment_names.specs.declared.name_fault.NameLimit.{NameLimit}
+use Rattle.segment_names.specs.declared.name_fault.NameLimit.TheVariants.{Names, Tasks}
 use Rattle.session_rules.specs.KeptTraces.{Kept, by_kept, kept_with}
 use Rattle.trace_types.specs.Firsts.{firsts_of}
 use Rattle.trace_types.specs.Parts.{by_number}
@@ -115,10 +117,9 @@ shown_below known (n ∷ ns) (k ∷ ks) z =
 
 -- ---- limits
 
-pub cause_weaker : (P Q : NameFault → Type 0) → ((f : NameFault) → P f → Q f) → (fault : NameFault) → HasCause P fault → HasCause Q fault
+pub cause_weaker : (P Q : NameLimit → Type 0) → ((l : NameLimit) → P l → Q l) → (fault : NameFault) → HasCause P fault → HasCause Q fault
 cause_weaker P Q weaker Memory h = h
-cause_weaker P Q weaker (TooManyNames count) h = weaker (TooManyNames count) h
-cause_weaker P Q weaker (TooManyTasks count) h = weaker (TooManyTasks count) h
+cause_weaker P Q weaker (Over limit) h = weaker limit h
 
 -- a limit that the first traces pass
 pub front_passes : (old : Known) (xs ys : List Trace) (fault : NameFault) → HasCause (PassesLimit old xs) fault → HasCause (PassesLimit old (xs ++ ys)) fault
@@ -141,10 +142,9 @@ one_passes old trace fault kept = cause_weaker (IsPassed (with_segments old trac
 )) fault
 
 -- none is passed where all traces fit
-pub none_passes : (old new : Known) (grace : ℕ) (traces : List Trace) (named : List NamedTrace) → AddsAndNames old new grace traces named → (fault : NameFault) → PassesLimit old traces fault → ⊥
-none_passes old new grace traces named a Memory p = p.3
-none_passes old new grace traces named a (TooManyNames count) p = let h = p.1 in let f = (a.fits (p.0 + 1) (omega (arith, h))).0 in let g = p.3.0 in absurd (omega (arith, f, g))
-none_passes old new grace traces named a (TooManyTasks count) p = let h = p.1 in let f = (a.fits (p.0 + 1) (omega (arith, h))).1 in let g = p.3.1 in absurd (omega (arith, f, g))
+pub none_passes : (old new : Known) (grace : ℕ) (traces : List Trace) (named : List NamedTrace) → AddsAndNames old new grace traces named → (limit : NameLimit) → PassesLimit old traces limit → ⊥
+none_passes old new grace traces named a (Names count) p = let h = p.1 in let f = (a.fits (p.0 + 1) (omega (arith, h))).0 in let g = p.3.0 in absurd (omega (arith, f, g))
+none_passes old new grace traces named a (Tasks count) p = let h = p.1 in let f = (a.fits (p.0 + 1) (omega (arith, h))).1 in let g = p.3.1 in absurd (omega (arith, f, g))
 
 -- ---- traces that are added and named
 

@@ -3,7 +3,8 @@ use Rattle.std.specs.Prelude.{◌≡◌, ℕ, List, length}
 use Rattle.std.specs.List.{AllZip}
 use Rattle.day_partitions.specs.declared.dated_sheet.DatedSheet.{DatedSheet}
 use Rattle.hypothesis_index.specs.Places.{width_of}
-use Rattle.trace_pass.specs.Watch.{AreNumberedWatchLines}
+use Rattle.trace_rules.specs.WatchLines.{AreWatchLines}
+use Rattle.trace_types.specs.Parts.{by_number}
 use Rattle.batch_sheets.specs.declared.days.DayTraces.{DayTraces}
 use Rattle.batch_sheets.specs.declared.recording.DayLines.{DayLines}
 
@@ -17,7 +18,7 @@ pub record IsSheetOfDay (names : ℕ) (split : DayTraces) (sheet : DatedSheet) :
 pub record AreLinesOfDay (every workers : ℕ) (split : DayTraces) (watched : DayLines)
     : Type 0 where
   pub day : watched.day ≡ split.day
-  pub lines : AreNumberedWatchLines every workers split.traces.items watched.lines
+  pub lines : AreWatchLines by_number every workers split.traces.items watched.lines
 
 -- a sheet and watch lines for each day, in order
 pub record AreRecorded (names every workers : ℕ) (split : List DayTraces)

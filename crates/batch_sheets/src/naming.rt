@@ -5,7 +5,7 @@ ghost use Rattle.book_laws.specs.Shown.{AreShown};
 ghost use Rattle.refute_tests.specs.Clearing.{HaveNamesBelow};
 ghost use Rattle.segment_names.specs.Known.{with_traces};
 ghost use Rattle.segment_names.specs.Limits.{HasCause, PassesLimit};
-ghost use Rattle.segment_names.specs.declared.name_fault.NameFault.{NameFault};
+ghost use Rattle.segment_names.specs.declared.name_fault.NameLimit.{NameLimit};
 ghost use Rattle.session_rules.specs.KeptTraces.{kept_with};
 ghost use Rattle.trace_types.specs.Limits.{most_grace};
 ghost use Rattle.trace_types.specs.declared.trace.Trace.{Trace};
@@ -174,8 +174,8 @@ pub fn name_batch<R: Threads + Sync>(
     requires grace { grace ≤ most_grace }
     ensures added { OnOk result
         (catalogue.new ≡ with_traces catalogue.old (map cut_trace traces.entry.items)) }
-    ensures none { OnOk result ((fault : NameFault)
-        → PassesLimit catalogue.old (map cut_trace traces.entry.items) fault → ⊥) }
+    ensures none { OnOk result ((limit : NameLimit)
+        → PassesLimit catalogue.old (map cut_trace traces.entry.items) limit → ⊥) }
     ensures shown { IfOk result (λ named. AreShown catalogue.new named.items
         (map (kept_with grace) (map cut_trace traces.entry.items))) }
     ensures below { IfOk result

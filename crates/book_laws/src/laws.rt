@@ -9,8 +9,7 @@ ghost use Rattle.book_laws.specs.TextBounds.{WatchLinesAreToldByText};
 use session_rules::KeptTrace;
 use trace_graph::laws::renamed_graph_is_the_same;
 use trace_types::laws::{
-    names_are_totally_ordered, numbering_is_one_to_one, relations_are_symmetric,
-    renamed_trace_refutes_alike,
+    names_are_totally_ordered, numbering_is_one_to_one, renamed_trace_refutes_alike,
 };
 use trace_types::{NameText, NamedSegment, NamedTrace, Segment, Text};
 
@@ -79,7 +78,6 @@ pub fn watch_lines_are_told_by_text()
 {
     numbering_is_one_to_one::<NameText>();
     numbering_is_one_to_one::<Text>();
-    relations_are_symmetric::<NamedTrace, NamedSegment, u32, u32, u32>();
     renamed_trace_refutes_alike::<
         NamedTrace,
         NamedSegment,

@@ -10,7 +10,7 @@ use Rattle.event_lines.specs.declared.command.Command.TheVariants as commands
 use Rattle.event_lines.specs.declared.line.Line.{Line}
 use Rattle.segment_names.specs.Known.{Known, same_name, with_traces}
 use Rattle.segment_names.specs.Limits.{Fits, PassesLimit}
-use Rattle.segment_names.specs.declared.name_fault.NameFault.TheVariants.{TooManyNames, TooManyTasks}
+use Rattle.segment_names.specs.declared.name_fault.NameLimit.TheVariants.{Names, Tasks}
 use Rattle.session_rules.specs.KeptTraces.{Kept, day_of, greater_days, is_of_day, kept_with}
 use Rattle.session_rules.specs.Parts.{Part}
 use Rattle.session_rules.specs.Sessions.{Adds, Commands, Does, Leads, State, first_state, graced, with_kept}
@@ -75,7 +75,7 @@ module _ (known : Known) (valid : List Trace) (fits : Fits known) where
       let tasks : length known.tasks ≤ 64 = fits.1 in
       (omega (arith, firsts-short same_name (known.names ++ []), length-append known.names []), omega (arith, firsts-short bytes_eq (known.tasks ++ []), length-append known.tasks []))
 
-  module _ (names : (count : ℕ) → PassesLimit known valid (TooManyNames count) → ⊥) (tasks : (count : ℕ) → PassesLimit known valid (TooManyTasks count) → ⊥) where
+  module _ (names : (count : ℕ) → PassesLimit known valid (Names count) → ⊥) (tasks : (count : ℕ) → PassesLimit known valid (Tasks count) → ⊥) where
     one_fits : (k : ℕ) → k < length valid → ((j : ℕ) → j ≤ k → Fits (with_traces known (take j valid))) → Fits (with_traces known (take (k + 1) valid))
     one_fits k within before =
         let after : Known = with_traces known (take (k + 1) valid) in

@@ -1,7 +1,7 @@
 //! Names and tasks by number, and traces of one segment named by them.
 ghost use Rattle.std.specs.Prelude.{◌≡◌, length};
 
-use segment_names::{Catalogue, NameFault, NameOne};
+use segment_names::{Catalogue, NameFault, NameLimit, NameOne};
 use std::process::Abort;
 use std::rt::HostRuntime;
 use trace_types::{NameText, NamedTrace, Segment, SegmentList, Text, Trace};
@@ -139,12 +139,26 @@ fn first_limit(rt: &(impl Abort + AllocGlobal), one_task: bool) -> (Option<NameF
     (fault, catalogue.names(), catalogue.tasks())
 }
 
+/// The fault of too many names, with how many there would be.
+fn over_names(count: u32) -> Option<NameFault> {
+    Some(NameFault::Over {
+        limit: NameLimit::Names { count },
+    })
+}
+
+/// The fault of too many tasks, with how many there would be.
+fn over_tasks(count: u32) -> Option<NameFault> {
+    Some(NameFault::Over {
+        limit: NameLimit::Tasks { count },
+    })
+}
+
 #[test]
 fn limits_are_told_and_nothing_is_added(rt: HostRuntime) {
     let (fault, names, tasks) = first_limit(&rt, true);
-    assert!(rt; fault == Some(NameFault::TooManyNames { count: 513 }));
+    assert!(rt; fault == over_names(513));
     assert!(rt; names == 512 && tasks == 1);
     let (fault, names, tasks) = first_limit(&rt, false);
-    assert!(rt; fault == Some(NameFault::TooManyTasks { count: 65 }));
+    assert!(rt; fault == over_tasks(65));
     assert!(rt; names == 64 && tasks == 64);
 }

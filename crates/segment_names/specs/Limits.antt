@@ -3,8 +3,9 @@ use Rattle.std.specs.Prelude.{◌≡◌, ℕ, ◌+◌, ◌<◌, ◌≤◌, ◌�
 use Rattle.trace_types.specs.declared.trace.Trace.{Trace}
 use Rattle.trace_types.specs.Limits.{most_names, most_tasks}
 use Rattle.segment_names.specs.declared.name_fault.NameFault.{NameFault}
-use Rattle.segment_names.specs.declared.name_fault.NameFault.TheVariants.{Memory, TooManyNames}
-use Rattle.segment_names.specs.declared.name_fault.NameFault.TheVariants.{TooManyTasks}
+use Rattle.segment_names.specs.declared.name_fault.NameFault.TheVariants.{Memory, Over}
+use Rattle.segment_names.specs.declared.name_fault.NameLimit.{NameLimit}
+use Rattle.segment_names.specs.declared.name_fault.NameLimit.TheVariants.{Names, Tasks}
 use Rattle.segment_names.specs.Known.{Known, with_traces}
 
 -- neither names nor tasks are too many
@@ -20,21 +21,19 @@ pub record IsKept (known : Known) : Type 0 where
 
 -- the limit that is passed, with how many names there are where those are too many, and else how
 -- many tasks
-abbrev pub IsPassed : Known → NameFault → Type 0
-IsPassed known Memory = ⊥
-IsPassed known (TooManyNames count) = (most_names < length known.names)
+abbrev pub IsPassed : Known → NameLimit → Type 0
+IsPassed known (Names count) = (most_names < length known.names)
     × (count ≡ length known.names)
-IsPassed known (TooManyTasks count) = (length known.names ≤ most_names)
+IsPassed known (Tasks count) = (length known.names ≤ most_names)
     × (most_tasks < length known.tasks) × (count ≡ length known.tasks)
 
 -- some trace of the list is the first after which a limit is passed, and it is this one
-abbrev pub PassesLimit : Known → List Trace → NameFault → Type 0
-PassesLimit known traces fault = (k : ℕ) × (k < length traces)
+abbrev pub PassesLimit : Known → List Trace → NameLimit → Type 0
+PassesLimit known traces limit = (k : ℕ) × (k < length traces)
     × ((j : ℕ) → j ≤ k → Fits (with_traces known (take j traces)))
-    × IsPassed (with_traces known (take (k + 1) traces)) fault
+    × IsPassed (with_traces known (take (k + 1) traces)) limit
 
 -- out of memory, or this limit is passed
-abbrev pub HasCause : (NameFault → Type 0) → NameFault → Type 0
+abbrev pub HasCause : (NameLimit → Type 0) → NameFault → Type 0
 HasCause passed Memory = Unit {0}
-HasCause passed (TooManyNames count) = passed (TooManyNames count)
-HasCause passed (TooManyTasks count) = passed (TooManyTasks count)
+HasCause passed (Over limit) = passed limit

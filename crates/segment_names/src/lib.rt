@@ -15,6 +15,6 @@ mod tables;
 mod unnamed;
 
 pub use catalogue::Catalogue;
-pub use name_fault::NameFault;
+pub use name_fault::{NameFault, NameLimit};
 pub use name_one::NameOne;
 pub use namer::Namer;

@@ -5,9 +5,9 @@ ghost use Rattle.trace_types.specs.Segments.{name_of};
 ghost use Rattle.event_table.specs.Texts.{AreDifferent};
 ghost use Rattle.segment_names.specs.inner.Filing.{IsFiledAs};
 
-use crate::NameFault;
 use crate::hints::{HINTS, hint_of};
 use crate::name_key::NameKey;
+use crate::{NameFault, NameLimit};
 use indexmap::{IndexMap, IndexSet};
 use std::alloc::{AllocError, Global};
 use std::marker::Model;
@@ -280,7 +280,7 @@ impl Tables {
     }
 
     /// Tells the limit that is passed, the names first.
-    fn check_limits(&self) -> Result<(), NameFault>
+    fn check_limits(&self) -> Result<(), NameLimit>
         requires names { length (known_in self.now).names < 2 ^ 32 }
         requires tasks { length (known_in self.now).tasks < 2 ^ 32 }
         ensures { MatchResult result (λ _. Fits (known_in self.now)) (IsPassed
@@ -288,11 +288,11 @@ impl Tables {
     {
         let names = self.name_count() as u32;
         if names > MOST_NAMES {
-            return Err(NameFault::TooManyNames { count: names });
+            return Err(NameLimit::Names { count: names });
         }
         let tasks = self.task_count() as u32;
         if tasks > MOST_TASKS {
-            return Err(NameFault::TooManyTasks { count: tasks });
+            return Err(NameLimit::Tasks { count: tasks });
         }
         Ok(())
     }
@@ -315,7 +315,8 @@ impl Tables {
             (known_in self.old) segments.now))) }
     {
         self.note_all(alloc, segments)?;
-        self.check_limits()
+        self.check_limits()?;
+        Ok(())
     }
 
     /// Tells how many elements each table has.

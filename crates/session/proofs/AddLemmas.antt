@@ -11,8 +11,8 @@ use Rattle.std.specs.Ordering.{nat_cmp}
 use Rattle.trace_types.specs.Listing.{ListsExactly}
 use Rattle.segment_names.specs.Known.{with_traces}
 use Rattle.segment_names.specs.Limits.{PassesLimit}
-use Rattle.segment_names.specs.declared.name_fault.NameFault.{NameFault}
-use Rattle.segment_names.specs.declared.name_fault.NameFault.TheVariants as names
+use Rattle.segment_names.specs.declared.name_fault.NameLimit.{NameLimit}
+use Rattle.segment_names.specs.declared.name_fault.NameLimit.TheVariants as limits
 use Rattle.session_rules.specs.Batches.{AreJudged}
 use Rattle.session_rules.specs.KeptTraces.{Kept, day_of, days_of, kept_with, with_taken}
 use Rattle.session_rules.specs.Parts.{IsPart, Part, Refusals, refused_row, watch_row}
@@ -64,8 +64,8 @@ module _ (grown : GrownShows) (shown : SheetsShow) (counted : DaysAreCounted) (o
       counted (with_traces old.known valid) wide s.kept (graced_by old.grace valid) sheets named a.book before_shown a.shown a.parts
       ∙ ap (λ k. length (days_of (with_taken s.kept k))) same_graced
 
-  no_name_limit : (fault : NameFault) → PassesLimit s.known valid fault → ⊥
-  no_name_limit = subst (λ k. (fault : NameFault) → PassesLimit k valid fault → ⊥) h.known a.none
+  no_name_limit : (limit : NameLimit) → PassesLimit s.known valid limit → ⊥
+  no_name_limit = subst (λ k. (limit : NameLimit) → PassesLimit k valid limit → ⊥) h.known a.none
 
   pub passes_days : (days : ℕ) → 64 < days → days ≡ length wide.days + new_days wide.days sheets → PassesLimitOf s valid (Days days)
   passes_days days many is = (no_name_limit, (let e = after_days in omega (arith, e, many, is)), is ∙ after_days)
@@ -87,8 +87,8 @@ module _ (grown : GrownShows) (shown : SheetsShow) (counted : DaysAreCounted) (o
   }
     where
       fits : (limit : Limit) → PassesLimitOf s valid limit → ⊥
-      fits (Names count) p = no_name_limit grown shown counted old s h wide valid a.recorded.named sheets batch (names.TooManyNames count) p
-      fits (Tasks count) p = no_name_limit grown shown counted old s h wide valid a.recorded.named sheets batch (names.TooManyTasks count) p
+      fits (Names count) p = no_name_limit grown shown counted old s h wide valid a.recorded.named sheets batch (limits.Names count) p
+      fits (Tasks count) p = no_name_limit grown shown counted old s h wide valid a.recorded.named sheets batch (limits.Tasks count) p
       fits (Days count) p = (let e = after_days grown shown counted old s h wide valid a.recorded.named sheets batch in let few = room in let many = p.1 in absurd (omega (arith, e, few, many)))
 
   pub shows_after : Shows (session_after old wide valid sheets) (state_after s valid)

@@ -13,6 +13,8 @@ use Rattle.segment_names.specs.Known.{Known, with_traces}
 use Rattle.segment_names.specs.Limits.{HasCause, IsKept, PassesLimit}
 use Rattle.segment_names.specs.declared.name_fault.NameFault.{NameFault}
 use Rattle.segment_names.specs.declared.name_fault.NameFault.TheVariants as names
+use Rattle.segment_names.specs.declared.name_fault.NameLimit.{NameLimit}
+use Rattle.segment_names.specs.declared.name_fault.NameLimit.TheVariants as limits
 use Rattle.session_rules.specs.Batches.{AreJudged}
 use Rattle.session_rules.specs.KeptTraces.{Kept, kept_with}
 use Rattle.session_rules.specs.Parts.{Refusals}
@@ -35,8 +37,8 @@ use Rattle.session.specs.inner.Changes.{session_with_book}
 -- why names are not added
 pub names_cause : (fault : NameFault) (known : Known) (valid : List Trace) → HasCause (PassesLimit known valid) fault → HasNamesCause known valid (fault_of_names fault)
 names_cause names.Memory known valid h = h
-names_cause (names.TooManyNames count) known valid h = h
-names_cause (names.TooManyTasks count) known valid h = h
+names_cause (names.Over (limits.Names count)) known valid h = h
+names_cause (names.Over (limits.Tasks count)) known valid h = h
 
 -- why days are not added
 pub days_cause : (fault : AddAllFault) (old : SessionState) (valid : List Trace) (sheets : List DatedSheet) (watched : List DayLines) → IsBook old.book → AreSheets old.known old.workers old.watch (graced_by old.grace valid) sheets watched → IsBatchFault old.book sheets fault
@@ -59,7 +61,7 @@ room_cause (Over (Days days)) old valid named shown h = record { named = named; 
 abbrev pub session_of : ℕ → Known → BookState → ℕ → ℕ → SessionState
 session_of workers known book watch grace = record { workers = workers; known = known; book = book; watch = watch; grace = grace }
 
-pub are_named : (old : SessionState) (valid : List Trace) (workers : ℕ) (book after : KeptState) (watch grace : ℕ) → session_of workers book.known book.book watch grace ≡ old → IsKept book.known → ((fault : NameFault) → PassesLimit book.known valid fault → ⊥)
+pub are_named : (old : SessionState) (valid : List Trace) (workers : ℕ) (book after : KeptState) (watch grace : ℕ) → session_of workers book.known book.book watch grace ≡ old → IsKept book.known → ((limit : NameLimit) → PassesLimit book.known valid limit → ⊥)
     → after ≡ under_catalogue (with_traces book.known valid) book.book → AreNamed old valid (session_of workers after.known after.book watch grace)
 are_named old valid workers book after watch grace view kept none added = subst (λ (s : SessionState). AreNamed s valid (session_of workers after.known after.book watch grace)) view (record {
   kept = kept;
@@ -70,8 +72,8 @@ are_named old valid workers book after watch grace view kept none added = subst 
 -- an add whose names are not added
 pub named_cause : (fault : AddFault) (old : SessionState) (s : State) (events : List Event) (valid : List Trace) (refused : List Refused) → Shows old s → AreJudged (traces_of events) valid refused → HasNamesCause old.known valid fault → HasAddCause events s fault
 named_cause Memory old s events valid refused shown j h = tt
-named_cause (Over (Names count)) old s events valid refused shown j h = (valid, refused, j, subst (λ k. PassesLimit k valid (names.TooManyNames count)) shown.known h)
-named_cause (Over (Tasks count)) old s events valid refused shown j h = (valid, refused, j, subst (λ k. PassesLimit k valid (names.TooManyTasks count)) shown.known h)
+named_cause (Over (Names count)) old s events valid refused shown j h = (valid, refused, j, subst (λ k. PassesLimit k valid (limits.Names count)) shown.known h)
+named_cause (Over (Tasks count)) old s events valid refused shown j h = (valid, refused, j, subst (λ k. PassesLimit k valid (limits.Tasks count)) shown.known h)
 named_cause (Over (Days count)) old s events valid refused shown j h = absurd h
 
 -- names that are known, and then days

@@ -9,7 +9,7 @@ use Rattle.day_partitions.specs.Books.{BookState, IsBook}
 use Rattle.day_partitions.specs.Batches.{trace_count}
 use Rattle.day_partitions.specs.declared.dated_sheet.DatedSheet.{DatedSheet}
 use Rattle.segment_names.specs.Limits.{PassesLimit}
-use Rattle.segment_names.specs.declared.name_fault.NameFault.{NameFault}
+use Rattle.segment_names.specs.declared.name_fault.NameLimit.{NameLimit}
 use Rattle.segment_names.specs.Known.{Known, with_traces}
 use Rattle.segment_names.specs.Limits.{IsKept}
 use Rattle.session_rules.specs.KeptTraces.{Kept}
@@ -59,7 +59,7 @@ pub record IsAdded (old : SessionState) (wide : BookState) (valid : List Trace)
   pub kept : IsKept old.known
   pub days : wide.days ≡ old.book.days
   pub book : IsBook wide
-  pub none : (fault : NameFault) → PassesLimit old.known valid fault → ⊥
+  pub none : (limit : NameLimit) → PassesLimit old.known valid limit → ⊥
   pub recorded : AreSheets (with_traces old.known valid) old.workers old.watch
       (graced_by old.grace valid) sheets watched
 
@@ -82,7 +82,7 @@ pub record IsNamedAdd (old : SessionState) (wide : BookState) (valid : List Trac
   pub kept : IsKept old.known
   pub days : wide.days ≡ old.book.days
   pub book : IsBook wide
-  pub none : (fault : NameFault) → PassesLimit old.known valid fault → ⊥
+  pub none : (limit : NameLimit) → PassesLimit old.known valid limit → ⊥
   pub shown : AreShown (with_traces old.known valid) named (graced_by old.grace valid)
   pub parts : AreSheetsOf sheets named
 

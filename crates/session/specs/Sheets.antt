@@ -8,8 +8,8 @@ use Rattle.book_laws.specs.Shown.{AreShown}
 use Rattle.day_partitions.specs.Books.{IsSheetOf}
 use Rattle.day_partitions.specs.declared.dated_sheet.DatedSheet.{DatedSheet}
 use Rattle.segment_names.specs.Known.{Known}
-use Rattle.session_rules.specs.KeptTraces.{Kept, day_of, kept_with, traces_on}
-use Rattle.session_rules.specs.WatchLines.{AreWatchLines}
+use Rattle.session_rules.specs.KeptTraces.{Kept, by_kept, day_of, kept_with, traces_on}
+use Rattle.trace_rules.specs.WatchLines.{AreWatchLines}
 use Rattle.trace_types.specs.Listing.{ListsExactly}
 use Rattle.trace_types.specs.declared.named_trace.NamedTrace.{NamedTrace}
 use Rattle.trace_types.specs.declared.trace.Trace.{Trace}
@@ -18,7 +18,7 @@ use Rattle.trace_types.specs.declared.trace.Trace.{Trace}
 pub record AreLinesOn (every workers : ℕ) (traces : List Kept) (day : ℕ) (watched : DayLines)
     : Type 0 where
   pub same : watched.day ≡ day
-  pub lines : AreWatchLines every workers (traces_on day traces) watched.lines
+  pub lines : AreWatchLines by_kept every workers (traces_on day traces) watched.lines
 
 -- the sheets and the watch lines of kept traces, which the catalogue names: one for each of their
 -- days, rising

@@ -3,7 +3,7 @@ ghost use Rattle.session.specs.declared.add_fault.AddFault.TheVariants.{Memory};
 ghost use Rattle.session.specs.inner.AddFaults.{fault_of_names, fault_of_sheets};
 
 use day_partitions::AddAllFault;
-use segment_names::NameFault;
+use segment_names::{NameFault, NameLimit};
 use session_rules::Limit;
 use std::alloc::AllocError;
 
@@ -35,10 +35,14 @@ impl From<NameFault> for AddFault {
     fn from(fault: NameFault) -> AddFault {
         match fault {
             NameFault::Memory => AddFault::Memory,
-            NameFault::TooManyNames { count } => AddFault::Over {
+            NameFault::Over {
+                limit: NameLimit::Names { count },
+            } => AddFault::Over {
                 limit: Limit::Names { count },
             },
-            NameFault::TooManyTasks { count } => AddFault::Over {
+            NameFault::Over {
+                limit: NameLimit::Tasks { count },
+            } => AddFault::Over {
                 limit: Limit::Tasks { count },
             },
         }

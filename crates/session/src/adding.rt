@@ -7,7 +7,7 @@ ghost use Rattle.refute_tests.specs.Clearing.{HaveNamesBelow};
 ghost use Rattle.segment_cut.specs.NumberedCuts.{NumberedCut};
 ghost use Rattle.segment_names.specs.Known.{with_traces};
 ghost use Rattle.segment_names.specs.Limits.{PassesLimit};
-ghost use Rattle.segment_names.specs.declared.name_fault.NameFault.{NameFault};
+ghost use Rattle.segment_names.specs.declared.name_fault.NameLimit.{NameLimit};
 ghost use Rattle.session_rules.specs.KeptTraces.{kept_with};
 ghost use Rattle.session_rules.specs.Sessions.{State};
 ghost use Rattle.session.specs.Carrying.{kept_count};
@@ -80,8 +80,8 @@ fn name_and_widen<R: Threads + Sync>(
     requires texts { All (λ (c : NumberedCut). c.texts ≡ texts.now) traces.items }
     requires grace { grace ≤ most_grace }
     ensures kept { IsKeptBook book }
-    ensures none { OnOk result ((fault : NameFault)
-        → PassesLimit book.known (map cut_trace traces.entry.items) fault → ⊥) }
+    ensures none { OnOk result ((limit : NameLimit)
+        → PassesLimit book.known (map cut_trace traces.entry.items) limit → ⊥) }
     ensures added { IfOk result (λ b. b.book
         ≡ under_catalogue (with_traces book.known (map cut_trace traces.entry.items)) book.book) }
     ensures shown { IfOk result (λ b. AreShown b.book.known b.named.items

@@ -8,7 +8,7 @@ ghost use Rattle.batch_sheets.specs.Named.{HasFewSegments, cut_trace};
 use batch_sheets::{judge_batch, name_batch};
 use event_table::{EventFields, EventTable, GatheredEvents, TextHints, Texts, gather};
 use segment_cut::CutTrace;
-use segment_names::{Catalogue, NameFault};
+use segment_names::{Catalogue, NameFault, NameLimit};
 use std::alloc::{AllocError, Global};
 use std::process::Abort;
 use std::test::Fail;
@@ -276,8 +276,12 @@ fn last_fault<R: Abort + Threads + Sync>(
 #[test]
 fn limits_are_told_of_early_and_late_traces(rt: HostRuntime) -> Result<(), Fail> {
     let alloc = rt.alloc();
-    let names = Some(NameFault::TooManyNames { count: 513 });
-    let tasks = Some(NameFault::TooManyTasks { count: 65 });
+    let names = Some(NameFault::Over {
+        limit: NameLimit::Names { count: 513 },
+    });
+    let tasks = Some(NameFault::Over {
+        limit: NameLimit::Tasks { count: 65 },
+    });
     assert_eq!(rt; last_fault(&rt, alloc, 0, 512, true)?, None);
     assert_eq!(rt; last_fault(&rt, alloc, 0, 513, true)?, names);
     assert_eq!(rt; last_fault(&rt, alloc, 700, 512, true)?, names);

@@ -14,8 +14,8 @@ use Rattle.segment_cut.specs.Faults.{IsTraceFault}
 use Rattle.segment_cut.specs.declared.trace_fault.TraceFault.{TraceFault}
 use Rattle.segment_names.specs.Known.{Known, with_traces}
 use Rattle.segment_names.specs.Limits.{Fits, IsPassed, PassesLimit}
-use Rattle.segment_names.specs.declared.name_fault.NameFault.{NameFault}
-use Rattle.segment_names.specs.declared.name_fault.NameFault.TheVariants as faults
+use Rattle.segment_names.specs.declared.name_fault.NameLimit.{NameLimit}
+use Rattle.segment_names.specs.declared.name_fault.NameLimit.TheVariants as limits
 use Rattle.session_rules.specs.Batches.{AreJudged, IsJudged, refused_of, valid_of}
 use Rattle.session_rules.specs.KeptTraces.{Kept, by_kept, day_of}
 use Rattle.session_rules.specs.Parts.{Part, Refusals, KeptNewest}
@@ -38,22 +38,18 @@ use Rattle.trace_types.specs.declared.trace.Trace.{Trace}
 
 -- ---- limits of names and tasks
 
-passed_fits_not : (known : Known) (f : NameFault) → IsPassed known f → Fits known → ⊥
-passed_fits_not known faults.Memory p fits = p
-passed_fits_not known (faults.TooManyNames count) p fits = omega (arith, p.0, fits.0)
-passed_fits_not known (faults.TooManyTasks count) p fits = omega (arith, p.1, fits.1)
+passed_fits_not : (known : Known) (f : NameLimit) → IsPassed known f → Fits known → ⊥
+passed_fits_not known (limits.Names count) p fits = omega (arith, p.0, fits.0)
+passed_fits_not known (limits.Tasks count) p fits = omega (arith, p.1, fits.1)
 
-passed_one : (known : Known) (f g : NameFault) → IsPassed known f → IsPassed known g → f ≡ g
-passed_one known faults.Memory g p q = absurd p
-passed_one known (faults.TooManyNames a) faults.Memory p q = absurd q
-passed_one known (faults.TooManyTasks a) faults.Memory p q = absurd q
-passed_one known (faults.TooManyNames a) (faults.TooManyNames b) p q = ap faults.TooManyNames (p.1 ∙ sym q.1)
-passed_one known (faults.TooManyNames a) (faults.TooManyTasks b) p q = absurd (omega (arith, p.0, q.0))
-passed_one known (faults.TooManyTasks a) (faults.TooManyNames b) p q = absurd (omega (arith, p.0, q.0))
-passed_one known (faults.TooManyTasks a) (faults.TooManyTasks b) p q = ap faults.TooManyTasks (p.2 ∙ sym q.2)
+passed_one : (known : Known) (f g : NameLimit) → IsPassed known f → IsPassed known g → f ≡ g
+passed_one known (limits.Names a) (limits.Names b) p q = ap limits.Names (p.1 ∙ sym q.1)
+passed_one known (limits.Names a) (limits.Tasks b) p q = absurd (omega (arith, p.0, q.0))
+passed_one known (limits.Tasks a) (limits.Names b) p q = absurd (omega (arith, p.0, q.0))
+passed_one known (limits.Tasks a) (limits.Tasks b) p q = ap limits.Tasks (p.2 ∙ sym q.2)
 
 -- what is known grows past a limit once
-one_passed : (at : ℕ → Known) (k m : ℕ) (f g : NameFault) → ((j : ℕ) → j ≤ k → Fits (at j)) → ((j : ℕ) → j ≤ m → Fits (at j)) → IsPassed (at (k + 1)) f → IsPassed (at (m + 1)) g → f ≡ g
+one_passed : (at : ℕ → Known) (k m : ℕ) (f g : NameLimit) → ((j : ℕ) → j ≤ k → Fits (at j)) → ((j : ℕ) → j ≤ m → Fits (at j)) → IsPassed (at (k + 1)) f → IsPassed (at (m + 1)) g → f ≡ g
 one_passed at k m f g low high p q = elim (cases_lt k m) [
   | inl less ↦ absurd (passed_fits_not (at (k + 1)) f p (high (k + 1) (omega arith)))
   | inr more ↦ elim (cases_lt m k) [
@@ -64,28 +60,28 @@ one_passed at k m f g low high p q = elim (cases_lt k m) [
   ]
 ]
 
-one_name_limit : (known : Known) (traces : List Trace) (f g : NameFault) → PassesLimit known traces f → PassesLimit known traces g → f ≡ g
+one_name_limit : (known : Known) (traces : List Trace) (f g : NameLimit) → PassesLimit known traces f → PassesLimit known traces g → f ≡ g
 one_name_limit known traces f g p q = one_passed (λ (j : ℕ). with_traces known (take j traces)) p.0 q.0 f g p.2 q.2 p.3 q.3
 
 limits_one : (s : State) (valid : List Trace) (l m : Limit) → PassesLimitOf s valid l → PassesLimitOf s valid m → l ≡ m
 limits_one s valid (Names a) (Names b) p q =
-    let e : faults.TooManyNames a ≡ faults.TooManyNames b = one_name_limit s.known valid (faults.TooManyNames a) (faults.TooManyNames b) p q in
+    let e : limits.Names a ≡ limits.Names b = one_name_limit s.known valid (limits.Names a) (limits.Names b) p q in
     let same : a ≡ b = cc in
     ap Names same
 limits_one s valid (Names a) (Tasks b) p q =
-    let e : faults.TooManyNames a ≡ faults.TooManyTasks b = one_name_limit s.known valid (faults.TooManyNames a) (faults.TooManyTasks b) p q in
+    let e : limits.Names a ≡ limits.Tasks b = one_name_limit s.known valid (limits.Names a) (limits.Tasks b) p q in
     absurd (cc e)
 limits_one s valid (Tasks a) (Names b) p q =
-    let e : faults.TooManyTasks a ≡ faults.TooManyNames b = one_name_limit s.known valid (faults.TooManyTasks a) (faults.TooManyNames b) p q in
+    let e : limits.Tasks a ≡ limits.Names b = one_name_limit s.known valid (limits.Tasks a) (limits.Names b) p q in
     absurd (cc e)
 limits_one s valid (Tasks a) (Tasks b) p q =
-    let e : faults.TooManyTasks a ≡ faults.TooManyTasks b = one_name_limit s.known valid (faults.TooManyTasks a) (faults.TooManyTasks b) p q in
+    let e : limits.Tasks a ≡ limits.Tasks b = one_name_limit s.known valid (limits.Tasks a) (limits.Tasks b) p q in
     let same : a ≡ b = cc in
     ap Tasks same
-limits_one s valid (Names a) (Days b) p q = absurd (q.0 (faults.TooManyNames a) p)
-limits_one s valid (Tasks a) (Days b) p q = absurd (q.0 (faults.TooManyTasks a) p)
-limits_one s valid (Days a) (Names b) p q = absurd (p.0 (faults.TooManyNames b) q)
-limits_one s valid (Days a) (Tasks b) p q = absurd (p.0 (faults.TooManyTasks b) q)
+limits_one s valid (Names a) (Days b) p q = absurd (q.0 (limits.Names a) p)
+limits_one s valid (Tasks a) (Days b) p q = absurd (q.0 (limits.Tasks a) p)
+limits_one s valid (Days a) (Names b) p q = absurd (p.0 (limits.Names b) q)
+limits_one s valid (Days a) (Tasks b) p q = absurd (p.0 (limits.Tasks b) q)
 limits_one s valid (Days a) (Days b) p q = ap Days (p.2 ∙ sym q.2)
 
 -- ---- what is cited of the crates below

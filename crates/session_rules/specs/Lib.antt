@@ -1,7 +1,6 @@
 pub mod Batches
 pub mod CertificateTexts
 pub mod ForecastTexts
-pub mod Hypotheses
 pub mod JobTexts
 pub mod Jobs
 pub mod KeptTraces
@@ -13,4 +12,3 @@ pub mod ReportTexts
 pub mod Sessions
 pub mod TailTexts
 pub mod TraceTexts
-pub mod WatchLines

@@ -10,12 +10,12 @@ use Rattle.session_rules.specs.declared.named_change.NamedChange.{NamedChange}
 use Rattle.session_rules.specs.declared.refused.Refused.{Refused}
 use Rattle.session_rules.specs.CertificateTexts.{IsRefutedText, verdict_row, why_row}
 use Rattle.session_rules.specs.ForecastTexts.{IsForecastHead, IsForecastText}
-use Rattle.session_rules.specs.KeptTraces.{Kept}
+use Rattle.session_rules.specs.KeptTraces.{Kept, by_kept}
 use Rattle.session_rules.specs.ModelTexts.{IsModelHead, IsModelText}
 use Rattle.session_rules.specs.ReportTexts.{IsLatencyText, IsReportHead, IsSegmentText}
 use Rattle.session_rules.specs.TailTexts.{IsTailHead, IsTailText}
 use Rattle.session_rules.specs.TraceTexts.{IsGraphText, IsPathText, IsSlackText}
-use Rattle.session_rules.specs.WatchLines.{AreWatchLines}
+use Rattle.trace_rules.specs.WatchLines.{AreWatchLines}
 
 -- a part of a text
 pub data Part : Type 0 where
@@ -77,7 +77,7 @@ traces_row word count = row_of (word ∷ figure (codes "traces") count ∷ [])
 -- the bytes are watch rows of the traces
 pub record AreWatchRows (every workers day : ℕ) (traces : List Kept) (bytes : List ℕ) : Type 0 where
   pub lines : List WatchLine
-  pub are : AreWatchLines every workers traces lines
+  pub are : AreWatchLines by_kept every workers traces lines
   pub text : bytes ≡ flat_map (watch_row day) lines
 
 -- the bytes are a text of the part

@@ -12,8 +12,8 @@ use Rattle.trace_types.specs.Listing.{ListsExactly}
 use Rattle.trace_types.specs.NameOrder.{name_cmp, pair_cmp}
 use Rattle.trace_types.specs.Segments.{SegmentName}
 use Rattle.trace_types.specs.Surviving.{IsRefuted}
-use Rattle.session_rules.specs.Hypotheses as hypotheses
-use Rattle.session_rules.specs.Hypotheses.{Hypothesis, RefutesHypothesis}
+use Rattle.trace_rules.specs.Hypotheses as hypotheses
+use Rattle.trace_rules.specs.Hypotheses.{Hypothesis, RefutesHypothesis}
 use Rattle.session_rules.specs.KeptTraces.{Kept, by_kept, day_of, traces_on}
 
 -- the relation as a hypothesis on texts

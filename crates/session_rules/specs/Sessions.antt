@@ -8,9 +8,8 @@ use Rattle.event_lines.specs.declared.command.Command.{Command}
 use Rattle.event_lines.specs.declared.command.Command.TheVariants as commands
 use Rattle.segment_names.specs.Known.{Known, with_traces}
 use Rattle.segment_names.specs.Limits.{PassesLimit}
-use Rattle.segment_names.specs.declared.name_fault.NameFault.{NameFault}
-use Rattle.segment_names.specs.declared.name_fault.NameFault.TheVariants.{TooManyNames}
-use Rattle.segment_names.specs.declared.name_fault.NameFault.TheVariants.{TooManyTasks}
+use Rattle.segment_names.specs.declared.name_fault.NameLimit.{NameLimit}
+use Rattle.segment_names.specs.declared.name_fault.NameLimit.TheVariants as catalogue
 use Rattle.trace_types.specs.declared.event.Event.{Event}
 use Rattle.trace_types.specs.declared.trace.Trace.{Trace}
 use Rattle.trace_types.specs.Batch.{traces_of}
@@ -83,9 +82,9 @@ most_days = 64
 -- an add of these valid traces passes this limit: that of names or of tasks at the first trace
 -- after which there are too many, or else that of days
 abbrev pub PassesLimitOf : State → List Trace → Limit → Type 0
-PassesLimitOf s valid (Names count) = PassesLimit s.known valid (TooManyNames count)
-PassesLimitOf s valid (Tasks count) = PassesLimit s.known valid (TooManyTasks count)
-PassesLimitOf s valid (Days count) = ((fault : NameFault) → PassesLimit s.known valid fault → ⊥)
+PassesLimitOf s valid (Names count) = PassesLimit s.known valid (catalogue.Names count)
+PassesLimitOf s valid (Tasks count) = PassesLimit s.known valid (catalogue.Tasks count)
+PassesLimitOf s valid (Days count) = ((limit : NameLimit) → PassesLimit s.known valid limit → ⊥)
     × (most_days < length (days_of (kept_after s valid)))
     × (count ≡ length (days_of (kept_after s valid)))
 

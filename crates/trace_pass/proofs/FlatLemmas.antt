@@ -10,7 +10,9 @@ use Rattle.word_rows.specs.Words.{AreWords}
 use Rattle.trace_types.proofs.ListingLemmas.{pairs_tail}
 use Rattle.trace_types.proofs.ElementLemmas.{All-weaker}
 use Rattle.trace_types.proofs.PairLemmas.{AllPairs-nil}
-use Rattle.trace_pass.specs.Counts.{IsAtLeastRefutedCount, zeros}
+use Rattle.trace_rules.specs.Hypotheses.{IsAtLeastRefuted}
+use Rattle.trace_types.specs.Parts.{by_number}
+use Rattle.trace_pass.specs.Counts.{zeros}
 use Rattle.trace_rules.specs.Halving.{share_at}
 use Rattle.trace_pass.specs.States.{RecordingState}
 use Rattle.trace_pass.specs.Watch.{HasWatched}
@@ -31,7 +33,7 @@ abbrev Rises : WatchLine → WatchLine → Type 0
 Rises k l = k.worker ≡ l.worker → k.refuted ≤ l.refuted
 
 abbrev IsLeast : List (List NamedTrace) → WatchLine → Type 0
-IsLeast shares l = IsAtLeastRefutedCount (take l.done (share_at shares l.worker)) l.refuted
+IsLeast shares l = IsAtLeastRefuted by_number (take l.done (share_at shares l.worker)) l.refuted
 
 pairs_head : {X : Type 0} (R : X → X → Type 0) (x : X) (xs : List X) → AllPairs R (x ∷ xs) → All (R x) xs
 pairs_head R x xs h k d l = h 0 (suc k) d (omega arith) (omega arith)
@@ -99,7 +101,7 @@ module _ (every width : ℕ) where
       subst (All (IsLeast all)) (sym a.4)
       (All-append (IsLeast all) a.0 a.1
       (λ k d l. let at : (get_or a.0 k d).worker ≡ worker = a.6.of_worker k d l in
-      subst (λ (s : List NamedTrace). IsAtLeastRefutedCount (take (get_or a.0 k d).done s) (get_or a.0 k d).refuted) (sym (ap (share_at all) at ∙ here)) (a.6.least k d l))
+      subst (λ (s : List NamedTrace). IsAtLeastRefuted by_number (take (get_or a.0 k d).done s) (get_or a.0 k d).refuted) (sym (ap (share_at all) at ∙ here)) (a.6.least k d l))
       (subst (λ (ss : List (List NamedTrace)). All (IsLeast ss) a.1) (append_assoc front (share ∷ []) shares) later))
 
   pub has_watched : (shares : List (List NamedTrace)) (old new : RecordingState) (lines : List WatchLine) → HasWatchedFrom every width 0 shares old new lines → HasWatched every width shares old new lines

@@ -17,7 +17,9 @@ use Rattle.word_rows.specs.Accounts.{lacks}
 use Rattle.word_rows.specs.Changes.{readings_from}
 use Rattle.word_rows.specs.Meeting.{BlockLacks, LacksAppend}
 use Rattle.word_rows.specs.Words.{AreWords, bit_of}
-use Rattle.trace_pass.specs.Counts.{IsAtMostRefutedCount, zeros}
+use Rattle.trace_rules.specs.Hypotheses.{IsAtMostRefuted}
+use Rattle.trace_types.specs.Parts.{by_number}
+use Rattle.trace_pass.specs.Counts.{zeros}
 use Rattle.trace_pass.specs.Meaning.{CountIsOne, NumbersAreAtMost, NumbersAreWithin, SharesAreWhole, ZerosAreCount}
 use Rattle.trace_rules.specs.Halving.{shares_of}
 use Rattle.trace_rules.specs.declared.watch_line.WatchLine.{WatchLine}
@@ -57,7 +59,7 @@ zeros_are_count differ fit names ts words few below wide are = record {
         (within, (are.bits (place_of r).word (place_of r).bit within place.1).1 (r, h, refl, f))
 
 pub numbers_are_at_most : LacksAppend → BlockLacks → NumbersAreAtMost
-numbers_are_at_most join one every width shares ts old new lines w lack k d l = subst (IsAtMostRefutedCount ts) (sym counted) (most_refuted ts block bound only)
+numbers_are_at_most join one every width shares ts old new lines w lack k d l = subst (IsAtMostRefuted by_number ts) (sym counted) (most_refuted ts block bound only)
   where
     block : List ℕ
     block = get_or w.blocks k []

@@ -1,5 +1,6 @@
 pub mod RowLemmas
 pub mod CountLemmas
+pub mod RelationLemmas
 pub mod PlaceLemmas
 pub mod WatchLemmas
 pub mod HalvingLemmas

@@ -1,5 +1,5 @@
 -- The relations of the bits that are 0.
-use Rattle.std.proofs.Common.{◌≡◌, ◌≢◌, ℕ, ◌+◌, ◌*◌, ◌/◌, ◌%◌, ◌<◌, ◌≤◌, true, List, [], ◌∷◌, ⊎_elim, length, get_or, refl, ap, ◌∙◌, arith}
+use Rattle.std.proofs.Common.{◌≡◌, ◌≢◌, ℕ, ◌+◌, ◌*◌, ◌/◌, ◌%◌, ◌<◌, ◌≤◌, true, List, [], ◌∷◌, ⊎_elim, length, get_or, refl, sym, ap, ◌∙◌, subst, arith}
 use Rattle.std.proofs.lemmas.Bool.{and_parts, cases_eq, eq-eqb, eqb-true, false≢true, or_cases}
 use Rattle.std.specs.List.{All, AllPairs}
 use Rattle.hypothesis_index.specs.Places.{IsRelation, NamesBelow, pairs_below, place_of, width_of}
@@ -15,10 +15,13 @@ use Rattle.word_rows.specs.Accounts.{AreZero}
 use Rattle.word_rows.specs.Meeting.{ClearsBelow}
 use Rattle.word_rows.specs.Rows.{below, clears, rows_below, rows_clear}
 use Rattle.word_rows.specs.Words.{AreWords, bit_of}
+use Rattle.trace_rules.specs.Hypotheses.{Hypothesis, IsAtLeastRefuted, IsAtMostRefuted, IsSame, RefutesHypothesis}
+use Rattle.trace_types.specs.Parts.{by_number}
+use Rattle.trace_pass.specs.Counts.{zeros}
 use Rattle.hypothesis_index.proofs.PairLemmas.{pairs_below-512, all_below}
-use Rattle.trace_pass.specs.Counts.{IsAtLeastRefutedCount, IsAtMostRefutedCount, zeros}
 use Rattle.trace_pass.specs.Rows.{AreRowsWithin}
 use Rattle.trace_pass.proofs.CountLemmas.{chosen, is_zero, pigeons, zeros_count}
+use Rattle.trace_pass.proofs.RelationLemmas.{equal_hypotheses, hypothesis_of, of_relation, one_hypothesis, refutes_hypothesis, relation_of, told}
 
 -- what the laws on places say
 abbrev pub PlacesDiffer : Type 0
@@ -48,27 +51,32 @@ rows_clear_below law n (row ∷ rows) i b t c = let p = and_parts (below n row) 
 
 -- words that lack the bits of all refuted relations have at least as many zeros
 pub least_from : PlacesDiffer → PlacesFit → (ts : List NamedTrace) (words : List ℕ) → AreWords words
-    → ((r : Relation) → IsRelation r → IsRefuted (Refutes r) ts → ((place_of r).word < length words) × (bit_of words (place_of r).word (place_of r).bit ≡ 0)) → IsAtLeastRefutedCount ts (zeros words)
-least_from differ fit ts words bound clear rs are =
+    → ((r : Relation) → IsRelation r → IsRefuted (Refutes r) ts → ((place_of r).word < length words) × (bit_of words (place_of r).word (place_of r).bit ≡ 0)) → IsAtLeastRefuted by_number ts (zeros words)
+least_from differ fit ts words bound clear hs are =
     let z = zeros_count words bound in
-    let most : length rs ≤ _ = pigeons number_of (is_zero words) (64 * length words) rs apart inside in omega arith
+    let most : length hs ≤ _ = pigeons place_number (is_zero words) (64 * length words) hs apart inside in omega arith
   where
-    relation : (k : ℕ) (d : Relation) → k < length rs → IsRelation (get_or rs k d)
-    relation k d l = (are.refuted k d l).0
+    place_number : Hypothesis ℕ ℕ → ℕ
+    place_number h = number_of (relation_of h)
 
-    apart : AllPairs (λ r s. number_of r ≢ number_of s) rs
-    apart i j d l h e = are.differ i j d l h (numbers_differ differ fit _ _ (relation i d (omega arith)) (relation j d h) e)
+    relation : (h : Hypothesis ℕ ℕ) → IsRefuted (RefutesHypothesis by_number h) ts → IsRelation (relation_of h) × IsRefuted (Refutes (relation_of h)) ts
+    relation h f = let t = told h f.1 f.4 in (t.0, (f.0, f.1, f.2, f.3, t.1))
 
-    inside : All (λ r. (number_of r < 64 * length words) × (is_zero words (number_of r) ≡ true)) rs
+    apart : AllPairs (λ h i. place_number h ≢ place_number i) hs
+    apart i j d l h e =
+        let one = relation (get_or hs i d) (are.refuted i d (omega arith)) in let other = relation (get_or hs j d) (are.refuted j d h) in
+        are.differ i j d l h (one_hypothesis (get_or hs i d) (get_or hs j d) (numbers_differ differ fit _ _ one.0 other.0 e))
+
+    inside : All (λ h. (place_number h < 64 * length words) × (is_zero words (place_number h) ≡ true)) hs
     inside k d l =
-        let r = get_or rs k d in let at = are.refuted k d l in let p : BitPlace = place_of r in
+        let r = relation_of (get_or hs k d) in let at = relation (get_or hs k d) (are.refuted k d l) in let p : BitPlace = place_of r in
         let bit : p.bit < 64 = bit_fits fit r at.0 in
         let here = clear r at.0 at.1 in let within : p.word < length words = here.0 in
         let q : number_of r / 64 ≡ p.word = omega arith in let m : number_of r % 64 ≡ p.bit = omega arith in
         (omega arith, eq-eqb _ 0 (ap (λ (i : ℕ). bit_of words i (number_of r % 64)) q ∙ ap (bit_of words p.word) m ∙ here.1))
 
 -- words that lack all bits of the whole rows have at least as many zeros as there are refuted relations
-pub least_refuted : PlacesDiffer → PlacesFit → ClearsBelow → RowsClearRefuted → (names : ℕ) (ts : List NamedTrace) (rows : List (List Entry)) (words : List ℕ) → AreRowsWithin names ts rows → length words ≡ width_of names → AreWords words → AreZero words (rows_clear rows) → IsAtLeastRefutedCount ts (zeros words)
+pub least_refuted : PlacesDiffer → PlacesFit → ClearsBelow → RowsClearRefuted → (names : ℕ) (ts : List NamedTrace) (rows : List (List Entry)) (words : List ℕ) → AreRowsWithin names ts rows → length words ≡ width_of names → AreWords words → AreZero words (rows_clear rows) → IsAtLeastRefuted by_number ts (zeros words)
 least_refuted differ fit law refuted names ts rows words have wide bound clear = least_from differ fit ts words bound cleared
   where
     cleared : (r : Relation) → IsRelation r → IsRefuted (Refutes r) ts → ((place_of r).word < length words) × (bit_of words (place_of r).word (place_of r).bit ≡ 0)
@@ -80,19 +88,27 @@ least_refuted differ fit law refuted names ts rows words have wide bound clear =
         let within : p.word < length words = omega arith in
         (within, clear p.word p.bit within (bit_fits fit r h) c)
 
+-- the hypothesis is that of a relation, and some trace refutes it
+abbrev IsOfRelation : List NamedTrace → Hypothesis ℕ ℕ → Type 0
+IsOfRelation ts h = (r : Relation) × (h ≡ hypothesis_of r) × IsRelation r × IsRefuted (RefutesHypothesis by_number h) ts
+
 -- words that lack only bits of refuted relations have at most as many zeros
-pub most_refuted : (ts : List NamedTrace) (words : List ℕ) → AreWords words → ((i b : ℕ) → i < length words → b < 64 → bit_of words i b ≡ 0 → IsRefutedPlace ts i b) → IsAtMostRefutedCount ts (zeros words)
+pub most_refuted : (ts : List NamedTrace) (words : List ℕ) → AreWords words → ((i b : ℕ) → i < length words → b < 64 → bit_of words i b ≡ 0 → IsRefutedPlace ts i b) → IsAtMostRefuted by_number ts (zeros words)
 most_refuted ts words bound only =
     let z = zeros_count words bound in
-    let c = chosen number_of (λ r. IsRelation r × IsRefuted (Refutes r) ts) (is_zero words) (64 * length words) pick in
+    let c = chosen (λ h. number_of (relation_of h)) (IsOfRelation ts) (is_zero words) (64 * length words) pick in
     let long : length c.0 ≡ _ = c.3 in
-    (c.0, record { differ = c.1; refuted = λ k d l. (c.2 k d l).1 }, omega arith)
+    (c.0, record { differ = λ i j d l m same. apart (get_or c.0 i d) (get_or c.0 j d) (c.2 i d (omega arith)).1 (c.2 j d m).1 (c.1 i j d l m) same; refuted = λ k d l. (c.2 k d l).1.3 }, omega arith)
   where
-    pick : (k : ℕ) → k < 64 * length words → is_zero words k ≡ true → (r : Relation) × (number_of r ≡ k) × (IsRelation r × IsRefuted (Refutes r) ts)
+    apart : (h i : Hypothesis ℕ ℕ) → IsOfRelation ts h → IsOfRelation ts i → h ≢ i → IsSame h i → ⊥
+    apart h i f g other same = other (f.1 ∙ equal_hypotheses f.0 g.0 f.2 g.2 (subst (λ (x : Hypothesis ℕ ℕ). IsSame (hypothesis_of f.0) x) g.1 (subst (λ (x : Hypothesis ℕ ℕ). IsSame x i) f.1 same)) ∙ sym g.1)
+
+    pick : (k : ℕ) → k < 64 * length words → is_zero words k ≡ true → (h : Hypothesis ℕ ℕ) × (number_of (relation_of h) ≡ k) × IsOfRelation ts h
     pick k l h =
         let p = only (k / 64) (k % 64) (omega arith) (omega arith) (eqb-true _ 0 h) in
         let w : (place_of p.0).word ≡ k / 64 = ap (λ (q : BitPlace). q.word) p.2 in let b : (place_of p.0).bit ≡ k % 64 = ap (λ (q : BitPlace). q.bit) p.2 in
-        (p.0, omega arith, (p.1, p.3))
+        let at : number_of p.0 ≡ k = omega arith in let f = p.3 in
+        (hypothesis_of p.0, ap number_of (of_relation p.0 p.1) ∙ at, (p.0, refl, p.1, (f.0, f.1, f.2, f.3, refutes_hypothesis p.0 f.1 p.1 f.4)))
 
 abbrev pub PairsFollow : Type 0
 PairsFollow = (high higher : ℕ) → high < higher → (pairs_below high + high) ≤ pairs_below higher

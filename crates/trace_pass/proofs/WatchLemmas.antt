@@ -12,7 +12,9 @@ use Rattle.word_rows.specs.Accounts.{AreZero, lacks}
 use Rattle.word_rows.specs.Changes.{readings_from}
 use Rattle.word_rows.specs.Meeting.{BlockLacks, LacksAppend}
 use Rattle.word_rows.specs.Words.{AreWords, bit_of}
-use Rattle.trace_pass.specs.Counts.{IsAtLeastRefutedCount, zeros}
+use Rattle.trace_rules.specs.Hypotheses.{IsAtLeastRefuted}
+use Rattle.trace_types.specs.Parts.{by_number}
+use Rattle.trace_pass.specs.Counts.{zeros}
 use Rattle.trace_rules.specs.WatchMarks.{is_multiple, watch_counts}
 use Rattle.trace_rules.specs.declared.watch_line.WatchLine.{WatchLine}
 use Rattle.trace_pass.specs.inner.Working.{AreLines, AreLinesAfter, IsWatching}
@@ -83,7 +85,7 @@ lines_same every width worker offered share lines blocks off w = record {
 }
 
 lines_more : (every width worker offered : ℕ) (share : List NamedTrace) (lines : List WatchLine) (blocks : List (List ℕ)) (into : List ℕ) (l : WatchLine) → is_multiple every (offered + 1) ≡ true
-    → l.worker ≡ worker → l.done ≡ offered + 1 → l.refuted ≡ zeros into → length into ≡ width → AreWords into → IsAtLeastRefutedCount (take (offered + 1) share) l.refuted
+    → l.worker ≡ worker → l.done ≡ offered + 1 → l.refuted ≡ zeros into → length into ≡ width → AreWords into → IsAtLeastRefuted by_number (take (offered + 1) share) l.refuted
     → ((k : ℕ) → k < length blocks → zeros (get_or blocks k []) ≤ zeros into)
     → AreLinesAfter every width worker offered share lines blocks → AreLinesAfter every width worker (offered + 1) share (lines ++ l ∷ []) (blocks ++ into ∷ [])
 lines_more every width worker offered share lines blocks into l due mine at counted long bound least le w = record {
@@ -91,7 +93,7 @@ lines_more every width worker offered share lines blocks into l due mine at coun
   counts = map-append done_of lines (l ∷ []) ∙ ap₂ (λ (a b : List ℕ). a ++ b) w.counts (ap (λ (n : ℕ). n ∷ []) at) ∙ sym (counts_yes every offered due);
   wide = All-push (λ (b : List ℕ). (length b ≡ width) × AreWords b) blocks into w.wide (long, bound);
   numbers = map-append number lines (l ∷ []) ∙ ap₂ (λ (a b : List ℕ). a ++ b) w.numbers (ap (λ (n : ℕ). n ∷ []) counted) ∙ sym (map-append zeros blocks (into ∷ []));
-  least = All-push (λ (l : WatchLine). IsAtLeastRefutedCount (take l.done share) l.refuted) lines l w.least (subst (λ (n : ℕ). IsAtLeastRefutedCount (take n share) l.refuted) (sym at) least);
+  least = All-push (λ (l : WatchLine). IsAtLeastRefuted by_number (take l.done share) l.refuted) lines l w.least (subst (λ (n : ℕ). IsAtLeastRefuted by_number (take n share) l.refuted) (sym at) least);
   rising = all_pairs_push (λ (k : WatchLine) (l : WatchLine). k.refuted ≤ l.refuted) lines l w.rising (λ k d h. up k d h);
 }
   where
@@ -106,11 +108,11 @@ lines_more every width worker offered share lines blocks into l due mine at coun
 
 -- ---- the recording of one worker
 
-least_part : (xs ys : List NamedTrace) (n : ℕ) → IsAtLeastRefutedCount (xs ++ ys) n → IsAtLeastRefutedCount ys n
+least_part : (xs ys : List NamedTrace) (n : ℕ) → IsAtLeastRefuted by_number (xs ++ ys) n → IsAtLeastRefuted by_number ys n
 least_part xs ys n h rs are = h rs (record {
   differ = are.differ;
-  refuted = λ k d l. let p = are.refuted k d l in let f = p.1 in let i : f.0 < length ys = f.2 in let long = length-append xs ys in
-      (p.0, (length xs + f.0, f.1, omega arith, get_or-append-add xs ys f.0 f.1 ∙ f.3, f.4));
+  refuted = λ k d l. let f = are.refuted k d l in let i : f.0 < length ys = f.2 in let long = length-append xs ys in
+      (length xs + f.0, f.1, omega arith, get_or-append-add xs ys f.0 f.1 ∙ f.3, f.4);
 })
 
 pub watching_none : (every width worker : ℕ) (share : List NamedTrace) (base : List Reading) → IsWatching every width worker 0 share base base []
@@ -121,13 +123,13 @@ watching_same every width worker offered share base readings lines off w = recor
 
 pub watching_more : LacksAppend → BlockLacks → (every width worker offered : ℕ) (firsts share traces : List NamedTrace) (base readings : List Reading) (lines : List WatchLine) (into : List ℕ) (l : WatchLine)
     → is_multiple every (offered + 1) ≡ true → traces ≡ firsts ++ take (offered + 1) share
-    → l.worker ≡ worker → l.done ≡ offered + 1 → l.refuted ≡ zeros into → length into ≡ width → AreWords into → IsAtLeastRefutedCount traces l.refuted → AreZero into (lacks readings)
+    → l.worker ≡ worker → l.done ≡ offered + 1 → l.refuted ≡ zeros into → length into ≡ width → AreWords into → IsAtLeastRefuted by_number traces l.refuted → AreZero into (lacks readings)
     → IsWatching every width worker offered share base readings lines → IsWatching every width worker (offered + 1) share base (readings ++ readings_from 0 into) (lines ++ l ∷ [])
 watching_more join one every width worker offered firsts share traces base readings lines into l due parts mine at counted long bound least clear w = record {
   blocks = w.blocks ++ into ∷ [];
   added = ap (λ (r : List Reading). r ++ block into) w.added ∙ flat_map_more (readings_from 0) base w.blocks into;
   so_far = lines_more every width worker offered share lines w.blocks into l due mine at counted long bound
-      (least_part firsts (take (offered + 1) share) l.refuted (subst (λ (ts : List NamedTrace). IsAtLeastRefutedCount ts l.refuted) parts least))
+      (least_part firsts (take (offered + 1) share) l.refuted (subst (λ (ts : List NamedTrace). IsAtLeastRefuted by_number ts l.refuted) parts least))
       (blocks_le join one base w.blocks into width w.so_far.wide long bound (subst (λ (r : List Reading). AreZero into (lacks r)) w.added clear))
       w.so_far;
 }

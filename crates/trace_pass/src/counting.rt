@@ -1,9 +1,11 @@
 ghost use Rattle.std.specs.Prelude.{◌≡◌, ◌≤◌, length};
+ghost use Rattle.trace_rules.specs.Hypotheses.{IsAtLeastRefuted};
+ghost use Rattle.trace_types.specs.Parts.{by_number};
 ghost use Rattle.word_rows.specs.Accounts.{AreZero, lacks};
 ghost use Rattle.word_rows.specs.Changes.{readings_from, with_readings};
 ghost use Rattle.word_rows.specs.Words.{AreWords};
 ghost use Rattle.word_rule.specs.Histories.{KnowsMore};
-ghost use Rattle.trace_pass.specs.Counts.{IsAtLeastRefutedCount, zeros};
+ghost use Rattle.trace_pass.specs.Counts.{zeros};
 ghost use Rattle.trace_pass.specs.States.{IsOfRecorder};
 ghost use Rattle.trace_pass.specs.inner.Parts.{HasSameTraces, recording_of};
 
@@ -39,7 +41,7 @@ pub(crate) fn read_number(recorder: &Recorder, part: &mut Part<'_>, into: &mut [
     ensures more { KnowsMore part.old.pass.pasts part.new.pass.pasts }
     ensures count { result ≡ zeros into.new }
     ensures bound { AreWords into.new }
-    ensures least { IsAtLeastRefutedCount (recording_of part.old).traces result }
+    ensures least { IsAtLeastRefuted by_number (recording_of part.old).traces result }
 {
     places_differ();
     places_fit();

@@ -1,10 +1,12 @@
 pub mod CriticalPaths
 pub mod Durations
 pub mod Halving
+pub mod Hypotheses
 pub mod Numbers
 pub mod Pipes
 pub mod ReportRows
 pub mod SlowTraces
 pub mod TraceGraphs
 pub mod VertexOrder
+pub mod WatchLines
 pub mod WatchMarks

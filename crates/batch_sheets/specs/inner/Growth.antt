@@ -4,7 +4,7 @@ use Rattle.book_laws.specs.Shown.{AreShown, IsShown}
 use Rattle.segment_names.specs.Known.{Known, with_traces}
 use Rattle.segment_names.specs.Limits.{Fits, IsKept, PassesLimit}
 use Rattle.segment_names.specs.Naming.{HasUnknown}
-use Rattle.segment_names.specs.declared.name_fault.NameFault.{NameFault}
+use Rattle.segment_names.specs.declared.name_fault.NameLimit.{NameLimit}
 use Rattle.session_rules.specs.KeptTraces.{kept_with}
 use Rattle.trace_types.specs.declared.named_trace.NamedTrace.{NamedTrace}
 use Rattle.trace_types.specs.declared.trace.Trace.{Trace}
@@ -52,6 +52,6 @@ CompletesOne grace old new (New cut) result =
     AddsAndNames old new grace (cut.trace ∷ []) (result ∷ [])
 
 -- the names of a new trace pass this limit
-abbrev pub PassesIfNew : Known → NamedOrNew → NameFault → Type 0
-PassesIfNew known (Named named) fault = ⊥
-PassesIfNew known (New cut) fault = PassesLimit known (cut.trace ∷ []) fault
+abbrev pub PassesIfNew : Known → NamedOrNew → NameLimit → Type 0
+PassesIfNew known (Named named) limit = ⊥
+PassesIfNew known (New cut) limit = PassesLimit known (cut.trace ∷ []) limit

@@ -6,6 +6,7 @@ use Rattle.segment_names.specs.Known.{Known}
 use Rattle.segment_names.specs.Limits.{PassesLimit}
 use Rattle.segment_names.specs.declared.name_fault.NameFault.{NameFault}
 use Rattle.segment_names.specs.declared.name_fault.NameFault.TheVariants as names
+use Rattle.segment_names.specs.declared.name_fault.NameLimit.TheVariants as limits
 use Rattle.session_rules.specs.Sessions.{Passes, State}
 use Rattle.session_rules.specs.declared.job.Job.TheVariants.{Add}
 use Rattle.session_rules.specs.declared.limit.Limit.TheVariants.{Names, Tasks, Days}
@@ -19,8 +20,8 @@ use Rattle.session.specs.declared.command_fault.CommandFault.TheVariants as comm
 -- the fault of names that are not added
 abbrev pub fault_of_names : NameFault → AddFault
 fault_of_names names.Memory = Memory
-fault_of_names (names.TooManyNames count) = Over (Names count)
-fault_of_names (names.TooManyTasks count) = Over (Tasks count)
+fault_of_names (names.Over (limits.Names count)) = Over (Names count)
+fault_of_names (names.Over (limits.Tasks count)) = Over (Tasks count)
 
 -- the fault of sheets that are not added
 abbrev pub fault_of_sheets : AddAllFault → AddFault
@@ -40,6 +41,6 @@ HasAddCause events s (Over limit) = Passes (Add events) s limit
 -- memory ran out, or the traces pass this limit of names or tasks
 abbrev pub HasNamesCause : Known → List Trace → AddFault → Type 0
 HasNamesCause known valid Memory = ⊤
-HasNamesCause known valid (Over (Names count)) = PassesLimit known valid (names.TooManyNames count)
-HasNamesCause known valid (Over (Tasks count)) = PassesLimit known valid (names.TooManyTasks count)
+HasNamesCause known valid (Over (Names count)) = PassesLimit known valid (limits.Names count)
+HasNamesCause known valid (Over (Tasks count)) = PassesLimit known valid (limits.Tasks count)
 HasNamesCause known valid (Over (Days count)) = ⊥

@@ -7,7 +7,7 @@ use Rattle.day_partitions.specs.Batches.{HasRoomFor, new_days, with_all}
 use Rattle.day_partitions.specs.Books.{BookState, IsBook}
 use Rattle.day_partitions.specs.declared.dated_sheet.DatedSheet.{DatedSheet}
 use Rattle.segment_names.specs.Limits.{IsKept, PassesLimit}
-use Rattle.segment_names.specs.declared.name_fault.NameFault.{NameFault}
+use Rattle.segment_names.specs.declared.name_fault.NameLimit.{NameLimit}
 use Rattle.session_rules.specs.Parts.{IsPart, Part}
 use Rattle.session_rules.specs.Sessions.{Adds, State, most_days}
 use Rattle.session_rules.specs.declared.limit.Limit.TheVariants.{Names, Tasks, Days}
@@ -26,7 +26,7 @@ use Rattle.session.specs.inner.Changes.{session_with_book, session_with_names}
 -- the names and tasks of the valid traces were added, and none of their limits is passed
 pub record AreNamed (old : SessionState) (valid : List Trace) (named : SessionState) : Type 0 where
   pub kept : IsKept old.known
-  pub none : (fault : NameFault) → PassesLimit old.known valid fault → ⊥
+  pub none : (limit : NameLimit) → PassesLimit old.known valid limit → ⊥
   pub is : named ≡ session_with_names old valid
 
 -- the valid traces were recorded, and their sheets added to a book with room for their days

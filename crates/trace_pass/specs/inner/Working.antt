@@ -5,6 +5,8 @@ use Rattle.refute_tests.specs.Clearing.{HaveNamesBelow}
 use Rattle.trace_rules.specs.Halving.{first_part, shares_of}
 use Rattle.trace_rules.specs.WatchMarks.{watch_counts}
 use Rattle.trace_rules.specs.declared.watch_line.WatchLine.{WatchLine}
+use Rattle.trace_rules.specs.Hypotheses.{IsAtLeastRefuted}
+use Rattle.trace_types.specs.Parts.{by_number}
 use Rattle.trace_types.specs.declared.named_trace.NamedTrace.{NamedTrace}
 use Rattle.word_rows.specs.declared.views.Reading.{Reading}
 use Rattle.word_rows.specs.Changes.{readings_from}
@@ -13,7 +15,7 @@ use Rattle.word_rule.specs.Histories.{KnowsMore}
 use Rattle.word_rule.specs.Holdings.{Holding}
 use Rattle.trace_pass.specs.States.{HasStopped, IsOfRecorder, RecorderState, RecordingState}
 use Rattle.trace_pass.specs.inner.Parts.{HasRows, PartState, recording_of, rest_of, with_recorded}
-use Rattle.trace_pass.specs.Counts.{IsAtLeastRefutedCount, zeros}
+use Rattle.trace_pass.specs.Counts.{zeros}
 
 -- the workers from this one on, one for each share of the recording, may offer these traces
 pub record CanOffer (recorder : RecorderState) (recording : RecordingState)
@@ -24,7 +26,7 @@ pub record CanOffer (recorder : RecorderState) (recording : RecordingState)
   pub workers : worker + recording.pass.view.shares < 2 ^ 32
 
 -- these are all lines of one worker, so many of whose traces were offered; each number counts the
--- bits that are 0 in one block of all words, is at least the number of relations that its first
+-- bits that are 0 in one block of all words, is at least the number of hypotheses that its first
 -- traces refute, and never falls
 pub record AreLinesAfter (every width worker offered : ℕ) (share : List NamedTrace)
     (lines : List WatchLine) (blocks : List (List ℕ)) : Type 0 where
@@ -32,7 +34,7 @@ pub record AreLinesAfter (every width worker offered : ℕ) (share : List NamedT
   pub counts : map (λ (l : WatchLine). l.done) lines ≡ watch_counts every offered
   pub wide : All (λ (b : List ℕ). (length b ≡ width) × AreWords b) blocks
   pub numbers : map (λ (l : WatchLine). l.refuted) lines ≡ map zeros blocks
-  pub least : All (λ (l : WatchLine). IsAtLeastRefutedCount (take l.done share) l.refuted) lines
+  pub least : All (λ (l : WatchLine). IsAtLeastRefuted by_number (take l.done share) l.refuted) lines
   pub rising : AllPairs (λ (k : WatchLine) (l : WatchLine). k.refuted ≤ l.refuted) lines
 
 -- the lines of several workers, of whom this one is the first, and the blocks of their numbers, by

@@ -10,7 +10,4 @@ returns c = λ known every workers named kept lines is shown some h. told_by_tex
   tasks = λ k x. c.numbering_is_one_to_one-2.ensures.matched known.tasks k x;
   alike = λ trace k one. c.renamed_trace_refutes_alike.ensures by_number by_kept (enumerate_from 0 known.names) (enumerate_from 0 known.tasks) trace k
       (c.numbering_is_one_to_one.ensures.one_to_one known.names is.names_differ) (c.numbering_is_one_to_one-2.ensures.one_to_one known.tasks is.tasks_differ) one.renamed;
-  exclusive = λ a b trace. c.relations_are_symmetric.ensures.exclusive by_number a b trace;
-  apart = λ a b trace. c.relations_are_symmetric.ensures.apart by_number a b trace;
-  unshared = λ t u trace. c.relations_are_symmetric.ensures.unshared by_number t u trace;
 }) every workers named kept lines shown h

@@ -1,5 +1,5 @@
--- How many relations the traces of a list refute, whatever their names are. Each relation is a
--- hypothesis; exclusive, apart and unshared count once for their pair.
+-- How many relations the traces of a list refute, by any reading. Each relation is a hypothesis;
+-- exclusive, apart and unshared count once for their pair.
 use Rattle.std.specs.Prelude.{◌≡◌, ◌≢◌, ◌⊎◌, ℕ, ◌≤◌, List, length}
 use Rattle.std.specs.List.{All, AllPairs}
 use Rattle.trace_types.specs.Parts.{Parts}
@@ -50,3 +50,9 @@ module _ {A S N T E : Type 0} (p : Parts A S N T E) where
   abbrev pub IsAtMostRefuted : List A → ℕ → Type 0
   IsAtMostRefuted traces n = (hypotheses : List (Hypothesis N T)) × AreRefuted traces hypotheses
       × (n ≤ length hypotheses)
+
+  -- the bounds of a number that was taken while traces were recorded: it counts the hypotheses that
+  -- the first of them refute, and only such that some trace refutes
+  pub record IsWithinRefuted (firsts all : List A) (number : ℕ) : Type 0 where
+    pub least : IsAtLeastRefuted firsts number
+    pub most : IsAtMostRefuted all number
