@@ -23,15 +23,15 @@ time_under change name time =
 -- the segments took the time that they have under the change
 pub record IsForecastOf (change : NamedChange) (Excludes : SegmentName → SegmentName → Type 0)
     (k : Kept) (f : Forecast) : Type 0 where
-    pub order : List ℕ
-    pub graph : Graph
-    pub weights : List ℕ
-    pub is : IsGraphOf Excludes k order graph
-    pub count : length weights ≡ order_of graph
-    pub changed : (v : ℕ) → v < order_of graph
-        → slice_index weights v ≡ time_under change (name_of_vertex k order v) (weight_of graph v)
-    pub before : IsLongestLength graph f.before
-    pub after : IsLongestLength (with_weights graph weights) f.after
+  pub order : List ℕ
+  pub graph : Graph
+  pub weights : List ℕ
+  pub is : IsGraphOf Excludes k order graph
+  pub count : length weights ≡ order_of graph
+  pub changed : (v : ℕ) → v < order_of graph
+      → slice_index weights v ≡ time_under change (name_of_vertex k order v) (weight_of graph v)
+  pub before : IsLongestLength graph f.before
+  pub after : IsLongestLength (with_weights graph weights) f.after
 
 -- `whatif`, how many traces are kept, how long their critical paths are together, and how long they
 -- would be
