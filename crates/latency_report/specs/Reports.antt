@@ -14,7 +14,8 @@ use Rattle.latency_report.specs.declared.segment_row.SegmentRow.{SegmentRow}
 
 -- the report over a list of traces whose names have these texts, where the mutual exclusions
 -- survive which Excludes tells: how many traces there are, how long their critical paths are
--- together, the figures of their latencies, and a row for each name of their segments, in name order
+-- together, the figures of their latencies, and a row for each name of their segments, in name
+-- order
 pub record IsReport (known : List SegmentName) (Excludes : ℕ → ℕ → Type 0)
     (traces : List NamedTrace) (report : FullReport) : Type 0 where
   pub paths : List (List NamedSegment)

@@ -12,7 +12,8 @@ use trace_types::laws::{a_list_is_told_in_one_way, renamed_traces_leave_alike};
 /// other's start plus the trace's grace.
 pub fn dependencies_do_not_overlap<A, S, N, T, E>()
     ensures { (p : Parts A S N T E) (traces : List A) (trace : A) (i j : ℕ) → Contains traces trace
-        → (edge : IsDependency p (ExcludesIn p traces) trace i j) → DoNotOverlap p trace edge.s edge.t }
+        → (edge : IsDependency p (ExcludesIn p traces) trace i j)
+        → DoNotOverlap p trace edge.s edge.t }
 {}
 
 /// A graph by the bits of words is the graph by what survives in the traces of which they tell.

@@ -17,8 +17,8 @@ pub record RowAddsUp (row : TailRow) (all : SegmentRow) : Type 0 where
   pub counts : row.slow_on + row.rest_on ≡ all.on_path
   pub times : row.slow_sum + row.rest_sum ≡ all.on_path_sum
 
--- so it is for the rows of one name, of the two reports over one list of traces, by what survives in
--- one list of traces
+-- so it is for the rows of one name, of the two reports over one list of traces, where the same
+-- mutual exclusions survive
 abbrev pub RowsAddUp : Type 0
 RowsAddUp = (known : List SegmentName) (kept traces : List NamedTrace) (report : SlowReport)
     (full : FullReport) (row : TailRow) (all : SegmentRow)

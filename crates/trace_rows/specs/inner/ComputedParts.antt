@@ -12,8 +12,8 @@ use Rattle.weighted_dag.specs.Graphs.{Graph, IsEdge, IsGraph, order_of}
 use Rattle.weighted_dag.specs.Reductions.{IsKeptEdge}
 use Rattle.weighted_dag.specs.Slacks.{IsSlack}
 
--- the graph of a trace by what survives in the traces of a book; entry v of the order is the index of
--- vertex v's segment
+-- the graph of a trace by what survives in the traces of a book; entry v of the order is the index
+-- of vertex v's segment
 pub record IsGraphUnderBook (b : KeptState) (t : NamedTrace) (order : List ℕ) (g : Graph)
     : Type 0 where
   pub form : IsGraph g
