@@ -7,6 +7,7 @@ use Rattle.session_rules.specs.KeptTraces.{Kept, by_kept}
 use Rattle.session_rules.specs.TraceTexts.{name_of_vertex}
 use Rattle.session_rules.specs.declared.named_change.NamedChange.{NamedChange}
 use Rattle.text_rows.specs.Rows.{figure, row_of}
+use Rattle.trace_types.specs.Segments.{SegmentName}
 use Rattle.trace_graph.specs.GraphLaws.{HasOneGraph}
 use Rattle.weighted_dag.specs.Chains.{IsLongestLength}
 use Rattle.weighted_dag.specs.Graphs.{Graph, order_of, weight_of, with_weights}
@@ -14,14 +15,14 @@ use Rattle.trace_rules.specs.declared.forecast.Forecast.{Forecast}
 use Rattle.session_laws.proofs.JobLemmas.{zip_one}
 use Rattle.session_laws.proofs.TraceTextLemmas.{length_one, of_one_graph}
 
-module _ (graphs : HasOneGraph by_kept) (change : NamedChange) (kept : List Kept) where
-  forecast_one : (k : Kept) (f g : Forecast) → IsForecastOf change kept k f → IsForecastOf change kept k g → f ≡ g
+module _ (Excludes : SegmentName → SegmentName → Type 0) (graphs : HasOneGraph by_kept Excludes) (change : NamedChange) (kept : List Kept) where
+  forecast_one : (k : Kept) (f g : Forecast) → IsForecastOf change Excludes k f → IsForecastOf change Excludes k g → f ≡ g
   forecast_one k f g p q =
       ap (λ (n : ℕ). record { before = n; after = f.after }) (length_one q.graph f.before g.before (subst (λ (h : Graph). IsLongestLength h f.before) same.1 p.before) q.before)
       ∙ ap (λ (n : ℕ). record { before = g.before; after = n }) (length_one (with_weights q.graph q.weights) f.after g.after (subst (λ (h : Graph). IsLongestLength h f.after) changed p.after) q.after)
     where
       same : (p.order ≡ q.order) × (p.graph ≡ q.graph)
-      same = of_one_graph graphs kept k p.order q.order p.graph q.graph p.is q.is
+      same = of_one_graph Excludes graphs k p.order q.order p.graph q.graph p.is q.is
 
       under : (v : ℕ) → v < order_of q.graph → slice_index p.weights v ≡ time_under change (name_of_vertex k q.order v) (weight_of q.graph v)
       under = subst (λ (h : Graph). (v : ℕ) → v < order_of h → slice_index p.weights v ≡ time_under change (name_of_vertex k q.order v) (weight_of h v)) same.1
@@ -36,13 +37,13 @@ module _ (graphs : HasOneGraph by_kept) (change : NamedChange) (kept : List Kept
       changed : with_weights p.graph p.weights ≡ with_weights q.graph q.weights
       changed = ap (λ (h : Graph). with_weights h p.weights) same.1 ∙ ap (with_weights q.graph) weights
 
-  pub forecast_head_one : (t u : List ℕ) → IsForecastHead change kept t → IsForecastHead change kept u → t ≡ u
+  pub forecast_head_one : (t u : List ℕ) → IsForecastHead change Excludes kept t → IsForecastHead change Excludes kept u → t ≡ u
   forecast_head_one t u h k =
       h.text ∙ ap (λ (fs : List Forecast). row_of (codes "whatif" ∷ figure (codes "traces") (length kept)
       ∷ figure (codes "before") (sum_by (λ (f : Forecast). f.before) fs) ∷ figure (codes "after") (sum_by (λ (f : Forecast). f.after) fs) ∷ []))
-      (zip_one (IsForecastOf change kept) forecast_one kept h.forecasts k.forecasts h.told k.told) ∙ sym k.text
+      (zip_one (IsForecastOf change Excludes) forecast_one kept h.forecasts k.forecasts h.told k.told) ∙ sym k.text
 
-  pub forecast_row_one : (trace : Kept) (t u : List ℕ) → IsForecastText change kept trace t → IsForecastText change kept trace u → t ≡ u
+  pub forecast_row_one : (trace : Kept) (t u : List ℕ) → IsForecastText change Excludes trace t → IsForecastText change Excludes trace u → t ≡ u
   forecast_row_one trace t u h k =
       h.text ∙ ap (λ (f : Forecast). row_of (codes "forecast" ∷ trace.trace.request ∷ decimal trace.trace.day ∷ decimal f.before ∷ decimal f.after ∷ []))
       (forecast_one trace h.forecast k.forecast h.told k.told) ∙ sym k.text

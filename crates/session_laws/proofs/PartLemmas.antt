@@ -4,7 +4,7 @@ use Rattle.std.specs.Cmp.{IsTotalOrder}
 use Rattle.std.specs.Cmp.Lexicographic.{slice_cmp}
 use Rattle.std.specs.Ordering.{nat_cmp}
 use Rattle.trace_rules.specs.Pipes.{IsPipeline}
-use Rattle.session_rules.specs.KeptTraces.{Kept, by_kept, day_of}
+use Rattle.session_rules.specs.KeptTraces.{Kept, SurvivesIn, by_kept, day_of}
 use Rattle.session_rules.specs.ModelTexts.{AreModelFigures, Figures, IsModelHead, IsModelText, header_row, model_text}
 use Rattle.session_rules.specs.Parts.{AreWatchRows, Part, IsPart, Refusals, Watched, Dropped, KeptNewest, ModelOf, Header, PathOf, SlacksOf, GraphOf, ModelHead, ReportHead, LatenciesOf, SegmentOf, TailHead, TailOf, ForecastHead, ForecastOf, WhyHead, RefutedOf, Verdict, Verified}
 use Rattle.trace_paths.specs.PathLaws.{PathsAreOne}
@@ -36,8 +36,8 @@ pub record OneTelling : Type 0 where
   pub task_count : OneCount (List ℕ)
   pub name_order : IsTotalOrder (pair_cmp name_cmp)
   pub task_order : IsTotalOrder (pair_cmp (slice_cmp nat_cmp))
-  pub graphs : HasOneGraph by_kept
-  pub paths : PathsAreOne by_kept
+  pub graphs : (kept : List Kept) → HasOneGraph by_kept (SurvivesIn kept)
+  pub paths : (kept : List Kept) → PathsAreOne by_kept (SurvivesIn kept)
 
 watch_one : (every workers day : ℕ) (traces : List Kept) (t u : List ℕ) → AreWatchRows every workers day traces t → AreWatchRows every workers day traces u → AreSameRows day t u
 watch_one every workers day traces t u h k = record { lines = h.lines; others = k.lines; text_is = h.text; other_is = k.text; marks = h.are.marks ∙ sym k.are.marks }
@@ -83,17 +83,17 @@ module _ (told : OneTelling) where
   part_one (KeptNewest days count) t u h k = h ∙ sym k
   part_one (ModelOf kept) t u h k = model_one kept t u h k
   part_one (Header word count) t u h k = h ∙ sym k
-  part_one (PathOf kept trace) t u h k = path_one told.graphs kept trace t u h k
-  part_one (SlacksOf kept trace) t u h k = slacks_one told.graphs kept trace t u h k
-  part_one (GraphOf kept trace) t u h k = graph_one told.graphs told.numbers kept trace t u h k
+  part_one (PathOf kept trace) t u h k = path_one (SurvivesIn kept) (told.graphs kept) trace t u h k
+  part_one (SlacksOf kept trace) t u h k = slacks_one (SurvivesIn kept) (told.graphs kept) trace t u h k
+  part_one (GraphOf kept trace) t u h k = graph_one (SurvivesIn kept) (told.graphs kept) told.numbers trace t u h k
   part_one (ModelHead kept) t u h k = model_head_one kept t u h k
-  part_one (ReportHead kept) t u h k = report_head_one told.paths kept t u h k
+  part_one (ReportHead kept) t u h k = report_head_one (SurvivesIn kept) (told.paths kept) kept t u h k
   part_one (LatenciesOf kept) t u h k = latencies_one kept t u h k
-  part_one (SegmentOf kept name) t u h k = segment_one told.paths kept name t u h k
+  part_one (SegmentOf kept name) t u h k = segment_one (SurvivesIn kept) (told.paths kept) kept name t u h k
   part_one (TailHead kept) t u h k = tail_head_one kept t u h k
-  part_one (TailOf kept name) t u h k = tail_one told.paths kept name t u h k
-  part_one (ForecastHead change kept) t u h k = forecast_head_one told.graphs change kept t u h k
-  part_one (ForecastOf change kept trace) t u h k = forecast_row_one told.graphs change kept trace t u h k
+  part_one (TailOf kept name) t u h k = tail_one (SurvivesIn kept) (told.paths kept) kept name t u h k
+  part_one (ForecastHead change kept) t u h k = forecast_head_one (SurvivesIn kept) (told.graphs kept) change kept t u h k
+  part_one (ForecastOf change kept trace) t u h k = forecast_row_one (SurvivesIn kept) (told.graphs kept) change kept trace t u h k
   part_one (WhyHead traces refuted) t u h k = h ∙ sym k
   part_one (RefutedOf kept matter) t u h k = refuted_one kept matter t u h k
   part_one (Verdict verdict line) t u h k = h ∙ sym k

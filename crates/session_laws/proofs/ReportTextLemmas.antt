@@ -69,13 +69,13 @@ tail_head_one kept t u h k =
     h.text ∙ ap (λ (n : ℕ). row_of (codes "tail" ∷ figure (codes "traces") (length kept) ∷ figure (codes "slow") (slow_count (length kept)) ∷ figure (codes "floor") n ∷ []))
     (floor_one (slow_of (latencies_of kept) (latencies_of kept)) h.floor k.floor h.least k.least) ∙ sym k.text
 
-module _ (paths : PathsAreOne by_kept) where
-  pub report_head_one : (kept : List Kept) (t u : List ℕ) → IsReportHead kept t → IsReportHead kept u → t ≡ u
+module _ (Excludes : SegmentName → SegmentName → Type 0) (paths : PathsAreOne by_kept Excludes) where
+  pub report_head_one : (kept : List Kept) (t u : List ℕ) → IsReportHead Excludes kept t → IsReportHead Excludes kept u → t ≡ u
   report_head_one kept t u h k =
       h.text ∙ ap (λ (ps : List (List Segment)). row_of (codes "report" ∷ figure (codes "traces") (length kept) ∷ figure (codes "critical") (sum_by (path_length by_kept) ps) ∷ []))
       (paths kept h.paths k.paths h.critical_paths k.critical_paths) ∙ sym k.text
 
-  pub segment_one : (kept : List Kept) (name : SegmentName) (t u : List ℕ) → IsSegmentText kept name t → IsSegmentText kept name u → t ≡ u
+  pub segment_one : (kept : List Kept) (name : SegmentName) (t u : List ℕ) → IsSegmentText Excludes kept name t → IsSegmentText Excludes kept name u → t ≡ u
   segment_one kept name t u h k = h.text ∙ ap (named_row (codes "segment") name) figures ∙ sym k.text
     where
       row : AreFiguresOf by_kept same_name kept k.paths name h.figures h.on_path h.on_path_sum
@@ -87,7 +87,7 @@ module _ (paths : PathsAreOne by_kept) where
           ∙ ap (λ (n : ℕ). numbers_of k.figures ++ (n ∷ h.on_path_sum ∷ [])) (row.on_path ∙ sym k.told.on_path)
           ∙ ap (λ (n : ℕ). numbers_of k.figures ++ (k.on_path ∷ n ∷ [])) (row.on_path_sum ∙ sym k.told.on_path_sum)
 
-  pub tail_one : (kept : List Kept) (name : SegmentName) (t u : List ℕ) → IsTailText kept name t → IsTailText kept name u → t ≡ u
+  pub tail_one : (kept : List Kept) (name : SegmentName) (t u : List ℕ) → IsTailText Excludes kept name t → IsTailText Excludes kept name u → t ≡ u
   tail_one kept name t u h k = h.text ∙ ap (named_row (codes "segment") name) figures ∙ sym k.text
     where
       row : AreSlowAndRest by_kept same_name (slow_of (latencies_of kept) k.paths) (rest_of (latencies_of kept) k.paths) name h.slow_on h.slow_sum h.rest_on h.rest_sum

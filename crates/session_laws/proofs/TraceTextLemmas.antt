@@ -17,6 +17,7 @@ use Rattle.session_rules.specs.KeptTraces.{Kept, by_kept}
 use Rattle.session_rules.specs.TraceTexts.{IsGraphOf, IsGraphText, IsPathText, IsSlackText, graph_text, name_of_vertex, path_text, slack_text, trace_row}
 use Rattle.trace_types.proofs.ComparingLemmas.{less_to}
 use Rattle.trace_paths.proofs.OnePathLemmas.{one_before}
+use Rattle.trace_types.specs.Segments.{SegmentName}
 use Rattle.session_laws.proofs.JobLemmas.{OneRisingList}
 
 -- ---- chains, lengths and slacks
@@ -58,23 +59,23 @@ module _ (listed : OneRisingList ℕ) where
 abbrev slack_row : Kept → List ℕ → Graph → List ℕ → ℕ → List ℕ
 slack_row k order graph slacks v = row_of (codes "segment" ∷ (name_of_vertex k order v).0 ∷ (name_of_vertex k order v).1 ∷ (name_of_vertex k order v).2 ∷ decimal (weight_of graph v) ∷ decimal (slice_index slacks v) ∷ [])
 
-module _ (graphs : HasOneGraph by_kept) where
-  pub of_one_graph : (kept : List Kept) (k : Kept) (order other : List ℕ) (g h : Graph) → IsGraphOf kept k order g → IsGraphOf kept k other h → (order ≡ other) × (g ≡ h)
-  of_one_graph kept k order other g h one two = graphs kept k order other g h one.keeps two.keeps one.of_trace two.of_trace
+module _ (Excludes : SegmentName → SegmentName → Type 0) (graphs : HasOneGraph by_kept Excludes) where
+  pub of_one_graph : (k : Kept) (order other : List ℕ) (g h : Graph) → IsGraphOf Excludes k order g → IsGraphOf Excludes k other h → (order ≡ other) × (g ≡ h)
+  of_one_graph k order other g h one two = graphs k order other g h one.keeps two.keeps one.of_trace two.of_trace
 
-  pub path_one : (kept : List Kept) (k : Kept) (t u : List ℕ) → IsPathText kept k t → IsPathText kept k u → t ≡ u
-  path_one kept k t u p q =
-      let same = of_one_graph kept k p.order q.order p.graph q.graph p.is q.is in
+  pub path_one : (k : Kept) (t u : List ℕ) → IsPathText Excludes k t → IsPathText Excludes k u → t ≡ u
+  path_one k t u p q =
+      let same = of_one_graph k p.order q.order p.graph q.graph p.is q.is in
       let chain : p.chain ≡ q.chain = chain_one q.graph p.chain q.chain (subst (λ (g : Graph). IsLongest g p.chain) same.1 p.longest) (subst (λ (g : Graph). NoLongestIsBefore g p.chain) same.1 p.first) q.longest q.first in
       p.text ∙ ap (λ (o : List ℕ). path_text k o p.graph p.chain) same.0 ∙ ap (λ (g : Graph). path_text k q.order g p.chain) same.1 ∙ ap (path_text k q.order q.graph) chain ∙ sym q.text
 
-  pub slacks_one : (kept : List Kept) (k : Kept) (t u : List ℕ) → IsSlackText kept k t → IsSlackText kept k u → t ≡ u
-  slacks_one kept k t u p q =
+  pub slacks_one : (k : Kept) (t u : List ℕ) → IsSlackText Excludes k t → IsSlackText Excludes k u → t ≡ u
+  slacks_one k t u p q =
       p.text ∙ ap (λ (o : List ℕ). slack_text k o p.graph p.longest p.slacks) same.0 ∙ ap (λ (g : Graph). slack_text k q.order g p.longest p.slacks) same.1
       ∙ ap (λ (n : ℕ). slack_text k q.order q.graph n p.slacks) longest ∙ ap (λ (rows : List ℕ). trace_row (codes "trace") k (decimal q.longest ∷ []) ++ rows) rows ∙ sym q.text
     where
       same : (p.order ≡ q.order) × (p.graph ≡ q.graph)
-      same = of_one_graph kept k p.order q.order p.graph q.graph p.is q.is
+      same = of_one_graph k p.order q.order p.graph q.graph p.is q.is
 
       longest : p.longest ≡ q.longest
       longest = length_one q.graph p.longest q.longest (subst (λ (g : Graph). IsLongestLength g p.longest) same.1 p.length) q.length
@@ -87,11 +88,11 @@ module _ (graphs : HasOneGraph by_kept) where
           (λ v lt. ap (λ (n : ℕ). row_of (codes "segment" ∷ (name_of_vertex k q.order v).0 ∷ (name_of_vertex k q.order v).1 ∷ (name_of_vertex k q.order v).2 ∷ decimal (weight_of q.graph v) ∷ decimal n ∷ [])) (each v (omega (arith, lt))))
 
   module _ (listed : OneRisingList ℕ) where
-    pub graph_one : (kept : List Kept) (k : Kept) (t u : List ℕ) → IsGraphText kept k t → IsGraphText kept k u → t ≡ u
-    graph_one kept k t u p q = p.text ∙ ap (λ (o : List ℕ). graph_text k o p.reduced) same.0 ∙ ap (graph_text k q.order) reduced ∙ sym q.text
+    pub graph_one : (k : Kept) (t u : List ℕ) → IsGraphText Excludes k t → IsGraphText Excludes k u → t ≡ u
+    graph_one k t u p q = p.text ∙ ap (λ (o : List ℕ). graph_text k o p.reduced) same.0 ∙ ap (graph_text k q.order) reduced ∙ sym q.text
       where
         same : (p.order ≡ q.order) × (p.graph ≡ q.graph)
-        same = of_one_graph kept k p.order q.order p.graph q.graph p.is q.is
+        same = of_one_graph k p.order q.order p.graph q.graph p.is q.is
 
         edges : (a b : ℕ) → IsEdge p.reduced a b ↔ IsKeptEdge q.graph a b
         edges = subst (λ (g : Graph). (a b : ℕ) → IsEdge p.reduced a b ↔ IsKeptEdge g a b) same.1 p.edges

@@ -1,5 +1,6 @@
--- The printed text of a forecast: how long the critical paths of kept traces are, and how long they
--- would be if the segments of one name took less time. Times are in nanoseconds.
+-- The printed text of a forecast: how long the critical paths of kept traces are where some mutual
+-- exclusions survive, which Excludes tells, and how long they would be if the segments of one name
+-- took less time. Times are in nanoseconds.
 use Rattle.std.specs.Prelude.{◌≡◌, ℕ, ◌*◌, ◌/◌, ◌<◌, List, [], ◌∷◌, length, sum_by, codes, decimal}
 use Rattle.std.specs.Prelude.{if◌then◌else◌, slice_index}
 use Rattle.std.specs.List.{AllZip}
@@ -20,32 +21,33 @@ time_under change name time =
 
 -- the length of a kept trace's critical path, and the greatest length of a chain of its graph if
 -- the segments took the time that they have under the change
-pub record IsForecastOf (change : NamedChange) (kept : List Kept) (k : Kept) (f : Forecast) : Type 0
-  where
-    pub order : List ℕ
-    pub graph : Graph
-    pub weights : List ℕ
-    pub is : IsGraphOf kept k order graph
-    pub count : length weights ≡ order_of graph
-    pub changed : (v : ℕ) → v < order_of graph
-        → slice_index weights v ≡ time_under change (name_of_vertex k order v) (weight_of graph v)
-    pub before : IsLongestLength graph f.before
-    pub after : IsLongestLength (with_weights graph weights) f.after
+pub record IsForecastOf (change : NamedChange) (Excludes : SegmentName → SegmentName → Type 0)
+    (k : Kept) (f : Forecast) : Type 0 where
+  pub order : List ℕ
+  pub graph : Graph
+  pub weights : List ℕ
+  pub is : IsGraphOf Excludes k order graph
+  pub count : length weights ≡ order_of graph
+  pub changed : (v : ℕ) → v < order_of graph
+      → slice_index weights v ≡ time_under change (name_of_vertex k order v) (weight_of graph v)
+  pub before : IsLongestLength graph f.before
+  pub after : IsLongestLength (with_weights graph weights) f.after
 
 -- `whatif`, how many traces are kept, how long their critical paths are together, and how long they
 -- would be
-pub record IsForecastHead (change : NamedChange) (kept : List Kept) (bytes : List ℕ) : Type 0 where
+pub record IsForecastHead (change : NamedChange) (Excludes : SegmentName → SegmentName → Type 0)
+    (kept : List Kept) (bytes : List ℕ) : Type 0 where
   pub forecasts : List Forecast
-  pub told : AllZip (IsForecastOf change kept) kept forecasts
+  pub told : AllZip (IsForecastOf change Excludes) kept forecasts
   pub text : bytes ≡ row_of (codes "whatif"
       ∷ figure (codes "traces") (length kept)
       ∷ figure (codes "before") (sum_by (λ (f : Forecast). f.before) forecasts)
       ∷ figure (codes "after") (sum_by (λ (f : Forecast). f.after) forecasts) ∷ [])
 
 -- `forecast`, the request and the day of a kept trace, and both lengths
-pub record IsForecastText (change : NamedChange) (kept : List Kept) (k : Kept) (bytes : List ℕ)
-    : Type 0 where
+pub record IsForecastText (change : NamedChange) (Excludes : SegmentName → SegmentName → Type 0)
+    (k : Kept) (bytes : List ℕ) : Type 0 where
   pub forecast : Forecast
-  pub told : IsForecastOf change kept k forecast
+  pub told : IsForecastOf change Excludes k forecast
   pub text : bytes ≡ row_of (codes "forecast" ∷ k.trace.request ∷ decimal k.trace.day
       ∷ decimal forecast.before ∷ decimal forecast.after ∷ [])

@@ -1,6 +1,7 @@
 -- Which traces are kept. Whatever was added is kept until its day is dropped.
 use Rattle.std.specs.Prelude.{ℕ, ◌==◌, not, nat_lt, nat_le, nat_eq, if◌then◌else◌, List, [], ◌∷◌}
 use Rattle.std.specs.Prelude.{length, map, filter, Bool}
+use Rattle.trace_rules.specs.TraceGraphs.{ExcludesIn}
 use Rattle.trace_types.specs.declared.segment.Segment.{Segment}
 use Rattle.trace_types.specs.declared.trace.Trace.{Trace}
 use Rattle.trace_types.specs.Firsts.{firsts_of}
@@ -23,6 +24,10 @@ by_kept = record {
   start = start_of;
   end = end_of;
 }
+
+-- the mutual exclusion of two names survives in these kept traces: none of them refutes it
+abbrev pub SurvivesIn : List Kept → SegmentName → SegmentName → Type 0
+SurvivesIn kept = ExcludesIn by_kept kept
 
 -- the trace with this grace
 abbrev pub kept_with : ℕ → Trace → Kept

@@ -10,7 +10,7 @@ use Rattle.session_rules.specs.declared.named_change.NamedChange.{NamedChange}
 use Rattle.session_rules.specs.declared.refused.Refused.{Refused}
 use Rattle.session_rules.specs.CertificateTexts.{IsRefutedText, verdict_row, why_row}
 use Rattle.session_rules.specs.ForecastTexts.{IsForecastHead, IsForecastText}
-use Rattle.session_rules.specs.KeptTraces.{Kept, by_kept}
+use Rattle.session_rules.specs.KeptTraces.{Kept, SurvivesIn, by_kept}
 use Rattle.session_rules.specs.ModelTexts.{IsModelHead, IsModelText}
 use Rattle.session_rules.specs.ReportTexts.{IsLatencyText, IsReportHead, IsSegmentText}
 use Rattle.session_rules.specs.TailTexts.{IsTailHead, IsTailText}
@@ -80,7 +80,8 @@ pub record AreWatchRows (every workers day : ℕ) (traces : List Kept) (bytes : 
   pub are : AreWatchLines by_kept every workers traces lines
   pub text : bytes ≡ flat_map (watch_row day) lines
 
--- the bytes are a text of the part
+-- the bytes are a text of the part: paths, slacks, graphs, reports and forecasts are by the mutual
+-- exclusions that survive in the kept traces
 abbrev pub IsPart : Part → List ℕ → Type 0
 IsPart (Refusals refused) bytes = bytes ≡ flat_map refused_row refused
 IsPart (Watched every workers day traces) bytes = AreWatchRows every workers day traces bytes
@@ -88,17 +89,17 @@ IsPart (Dropped day count) bytes = bytes ≡ count_row (codes "drop") day count
 IsPart (KeptNewest days count) bytes = bytes ≡ count_row (codes "keep") days count
 IsPart (ModelOf kept) bytes = IsModelText kept bytes
 IsPart (Header word count) bytes = bytes ≡ traces_row word count
-IsPart (PathOf kept k) bytes = IsPathText kept k bytes
-IsPart (SlacksOf kept k) bytes = IsSlackText kept k bytes
-IsPart (GraphOf kept k) bytes = IsGraphText kept k bytes
+IsPart (PathOf kept k) bytes = IsPathText (SurvivesIn kept) k bytes
+IsPart (SlacksOf kept k) bytes = IsSlackText (SurvivesIn kept) k bytes
+IsPart (GraphOf kept k) bytes = IsGraphText (SurvivesIn kept) k bytes
 IsPart (ModelHead kept) bytes = IsModelHead kept bytes
-IsPart (ReportHead kept) bytes = IsReportHead kept bytes
+IsPart (ReportHead kept) bytes = IsReportHead (SurvivesIn kept) kept bytes
 IsPart (LatenciesOf kept) bytes = IsLatencyText kept bytes
-IsPart (SegmentOf kept name) bytes = IsSegmentText kept name bytes
+IsPart (SegmentOf kept name) bytes = IsSegmentText (SurvivesIn kept) kept name bytes
 IsPart (TailHead kept) bytes = IsTailHead kept bytes
-IsPart (TailOf kept name) bytes = IsTailText kept name bytes
-IsPart (ForecastHead change kept) bytes = IsForecastHead change kept bytes
-IsPart (ForecastOf change kept k) bytes = IsForecastText change kept k bytes
+IsPart (TailOf kept name) bytes = IsTailText (SurvivesIn kept) kept name bytes
+IsPart (ForecastHead change kept) bytes = IsForecastHead change (SurvivesIn kept) kept bytes
+IsPart (ForecastOf change kept k) bytes = IsForecastText change (SurvivesIn kept) k bytes
 IsPart (WhyHead traces refuted) bytes = bytes ≡ why_row traces refuted
 IsPart (RefutedOf kept matter) bytes = IsRefutedText kept matter bytes
 IsPart (Verdict verdict line) bytes = bytes ≡ verdict_row verdict line

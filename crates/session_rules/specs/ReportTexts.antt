@@ -1,5 +1,6 @@
--- The printed text of the report on kept traces: their latencies, and their segments by name. Times
--- are in nanoseconds.
+-- The printed text of the report on kept traces: their latencies, and their segments by name. Their
+-- critical paths are by the mutual exclusions that survive, which Excludes tells. Times are in
+-- nanoseconds.
 use Rattle.std.specs.Prelude.{◌≡◌, ℕ, List, [], ◌∷◌, ◌++◌, length, map, sum_by, codes}
 use Rattle.std.specs.Prelude.{Contains, decimal}
 use Rattle.segment_names.specs.Known.{same_name}
@@ -31,9 +32,10 @@ abbrev pub numbers_of : Figures → List ℕ
 numbers_of f = f.count ∷ f.sum ∷ f.median ∷ f.greatest ∷ []
 
 -- `report`, how many traces are kept, and how long their critical paths are together
-pub record IsReportHead (kept : List Kept) (bytes : List ℕ) : Type 0 where
+pub record IsReportHead (Excludes : SegmentName → SegmentName → Type 0) (kept : List Kept)
+    (bytes : List ℕ) : Type 0 where
   pub paths : List (List Segment)
-  pub critical_paths : AreCriticalPaths by_kept kept paths
+  pub critical_paths : AreCriticalPaths by_kept Excludes kept paths
   pub text : bytes ≡ row_of (codes "report"
       ∷ figure (codes "traces") (length kept)
       ∷ figure (codes "critical") (sum_by (path_length by_kept) paths) ∷ [])
@@ -46,9 +48,10 @@ pub record IsLatencyText (kept : List Kept) (bytes : List ℕ) : Type 0 where
 
 -- `segment` and a name; the figures of the durations of the kept traces' segments with this name;
 -- on how many of the critical paths there is one, and how long they last there together
-pub record IsSegmentText (kept : List Kept) (name : SegmentName) (bytes : List ℕ) : Type 0 where
+pub record IsSegmentText (Excludes : SegmentName → SegmentName → Type 0) (kept : List Kept)
+    (name : SegmentName) (bytes : List ℕ) : Type 0 where
   pub paths : List (List Segment)
-  pub critical_paths : AreCriticalPaths by_kept kept paths
+  pub critical_paths : AreCriticalPaths by_kept Excludes kept paths
   pub figures : Figures
   pub on_path : ℕ
   pub on_path_sum : ℕ

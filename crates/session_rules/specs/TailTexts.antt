@@ -1,5 +1,5 @@
--- The printed text of the report on the slowest of the kept traces. Latencies and times are in
--- nanoseconds.
+-- The printed text of the report on the slowest of the kept traces. Their critical paths are by the
+-- mutual exclusions that survive, which Excludes tells. Latencies and times are in nanoseconds.
 use Rattle.std.specs.Prelude.{◌≡◌, ℕ, List, [], ◌∷◌, length, codes}
 use Rattle.segment_names.specs.Known.{same_name}
 use Rattle.text_rows.specs.Rows.{figure, row_of}
@@ -22,9 +22,10 @@ pub record IsTailHead (kept : List Kept) (bytes : List ℕ) : Type 0 where
 
 -- `segment` and a name; on how many critical paths of slow traces there is a segment with this
 -- name, and for how long together; the same of the rest
-pub record IsTailText (kept : List Kept) (name : SegmentName) (bytes : List ℕ) : Type 0 where
+pub record IsTailText (Excludes : SegmentName → SegmentName → Type 0) (kept : List Kept)
+    (name : SegmentName) (bytes : List ℕ) : Type 0 where
   pub paths : List (List Segment)
-  pub critical_paths : AreCriticalPaths by_kept kept paths
+  pub critical_paths : AreCriticalPaths by_kept Excludes kept paths
   pub slow_on : ℕ
   pub slow_sum : ℕ
   pub rest_on : ℕ

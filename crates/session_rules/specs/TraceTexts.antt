@@ -1,5 +1,5 @@
--- The printed texts of one kept trace: its critical path, its slacks and its graph. Times are in
--- nanoseconds.
+-- The printed texts of one kept trace where some mutual exclusions survive, which Excludes tells:
+-- its critical path, its slacks and its graph. Times are in nanoseconds.
 use Rattle.std.specs.Prelude.{◌≡◌, ℕ, ◌<◌, ◌++◌, ◌↔◌, List, [], ◌∷◌, length, codes, decimal}
 use Rattle.std.specs.Prelude.{slice_get, slice_index}
 use Rattle.std.specs.List.{flat_map, range_with_len}
@@ -13,11 +13,12 @@ use Rattle.weighted_dag.specs.Reductions.{IsKeptEdge}
 use Rattle.weighted_dag.specs.Slacks.{IsSlack}
 use Rattle.session_rules.specs.KeptTraces.{Kept, by_kept}
 
--- the graph of a kept trace under what the kept traces leave; entry v of the order is the index of
--- vertex v's segment
-pub record IsGraphOf (kept : List Kept) (k : Kept) (order : List ℕ) (graph : Graph) : Type 0 where
+-- the graph of a kept trace where these mutual exclusions survive; entry v of the order is the
+-- index of vertex v's segment
+pub record IsGraphOf (Excludes : SegmentName → SegmentName → Type 0) (k : Kept) (order : List ℕ)
+    (graph : Graph) : Type 0 where
   pub keeps : IsGraph graph
-  pub of_trace : IsTraceGraph by_kept kept k order graph
+  pub of_trace : IsTraceGraph by_kept Excludes k order graph
 
 -- the name of a vertex's segment
 abbrev pub name_of_vertex : Kept → List ℕ → ℕ → SegmentName
@@ -40,11 +41,12 @@ path_text k order graph chain =
     ∷ decimal (weight_of graph v) ∷ [])) chain
 
 -- the bytes are the text of the critical path of a kept trace: of its longest chains the first
-pub record IsPathText (kept : List Kept) (k : Kept) (bytes : List ℕ) : Type 0 where
+pub record IsPathText (Excludes : SegmentName → SegmentName → Type 0) (k : Kept)
+    (bytes : List ℕ) : Type 0 where
   pub order : List ℕ
   pub graph : Graph
   pub chain : List ℕ
-  pub is : IsGraphOf kept k order graph
+  pub is : IsGraphOf Excludes k order graph
   pub longest : IsLongest graph chain
   pub first : NoLongestIsBefore graph chain
   pub text : bytes ≡ path_text k order graph chain
@@ -60,12 +62,13 @@ slack_text k order graph longest slacks =
     (range_with_len 0 (order_of graph))
 
 -- the bytes are the text of the slacks of a kept trace
-pub record IsSlackText (kept : List Kept) (k : Kept) (bytes : List ℕ) : Type 0 where
+pub record IsSlackText (Excludes : SegmentName → SegmentName → Type 0) (k : Kept)
+    (bytes : List ℕ) : Type 0 where
   pub order : List ℕ
   pub graph : Graph
   pub longest : ℕ
   pub slacks : List ℕ
-  pub is : IsGraphOf kept k order graph
+  pub is : IsGraphOf Excludes k order graph
   pub length : IsLongestLength graph longest
   pub each : (v : ℕ) → v < order_of graph → IsSlack graph v (slice_index slacks v)
   pub text : bytes ≡ slack_text k order graph longest slacks
@@ -88,11 +91,12 @@ graph_text k order graph =
     row_of (codes "edge" ∷ decimal edge.0 ∷ decimal edge.1 ∷ [])) (edges_of graph))
 
 -- the bytes are the text of the transitive reduction of the graph of a kept trace
-pub record IsGraphText (kept : List Kept) (k : Kept) (bytes : List ℕ) : Type 0 where
+pub record IsGraphText (Excludes : SegmentName → SegmentName → Type 0) (k : Kept)
+    (bytes : List ℕ) : Type 0 where
   pub order : List ℕ
   pub graph : Graph
   pub reduced : Graph
-  pub is : IsGraphOf kept k order graph
+  pub is : IsGraphOf Excludes k order graph
   pub keeps : IsGraph reduced
   pub weights : reduced.weights ≡ graph.weights
   pub edges : (a b : ℕ) → IsEdge reduced a b ↔ IsKeptEdge graph a b

@@ -16,13 +16,14 @@ use Rattle.slow_tail.specs.declared.tail_row.TailRow.{TailRow}
 abbrev pub trace_latencies : List NamedTrace → List ℕ
 trace_latencies traces = map (λ (t : NamedTrace). t.latency) traces
 
--- the report over a list of traces whose names have these texts: how many traces there are, how
--- many are slow, which is one in twenty and exactly how many the definition has, the least latency
--- of the slow ones, and a row for each name of the traces' segments, in name order
-pub record IsSlowReport (known : List SegmentName) (traces : List NamedTrace) (report : SlowReport)
-    : Type 0 where
+-- the report over a list of traces whose names have these texts, where the mutual exclusions
+-- survive which Excludes tells: how many traces there are, how many are slow, which is one in
+-- twenty and exactly how many the definition has, the least latency of the slow ones, and a row for
+-- each name of the traces' segments, in name order
+pub record IsSlowReport (known : List SegmentName) (Excludes : ℕ → ℕ → Type 0)
+    (traces : List NamedTrace) (report : SlowReport) : Type 0 where
   pub paths : List (List NamedSegment)
-  pub critical_paths : AreCriticalPaths by_number traces paths
+  pub critical_paths : AreCriticalPaths by_number Excludes traces paths
   pub count : report.traces ≡ length traces
   pub slow : report.slow ≡ slow_count (length traces)
   pub exact : count_by (λ (m : Bool). m) (slow_marks (trace_latencies traces)) ≡ report.slow

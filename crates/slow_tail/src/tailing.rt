@@ -1,6 +1,8 @@
 ghost use Rattle.std.specs.Prelude.{IfOk};
 ghost use Rattle.kept_books.specs.KeptBooks.{traces_in};
 ghost use Rattle.slow_tail.specs.SlowReports.{IsSlowReport};
+ghost use Rattle.trace_rules.specs.TraceGraphs.{ExcludesIn};
+ghost use Rattle.trace_types.specs.Parts.{by_number};
 
 use crate::marking::{find_slow, list_latencies};
 use crate::names::mark_names;
@@ -11,21 +13,26 @@ use kept_books::KeptBook;
 use model_meet::Model;
 use std::alloc::{AllocError, Global};
 use std::thread::Threads;
+use trace_paths::laws::bits_tell_paths;
 use trace_paths::{critical_paths, kept_traces};
 use worker_limit::WorkerLimit;
 
-/// Reports on the slowest of the kept traces of a book. The critical paths are found by the
-/// workers; the rest takes one pass over the traces, and linear time on average to tell the slow
-/// ones. The only error is that memory ran out.
+/// Reports on the slowest of the kept traces of a book, where the mutual exclusions survive that
+/// none of the kept traces refutes. The critical paths are found by the workers; the rest takes one
+/// pass over the traces, and linear time on average to tell the slow ones. The only error is that
+/// memory ran out.
 pub fn tail<R: Threads + Sync>(
     workers: &WorkerLimit<'_, R>,
     alloc: Global,
     book: &KeptBook,
 ) -> Result<SlowReport, AllocError>
-    ensures { IfOk result (IsSlowReport book.now.known.names (traces_in book.now)) }
+    ensures { IfOk result (IsSlowReport book.now.known.names
+        (ExcludesIn by_number (traces_in book.now)) (traces_in book.now)) }
 {
     let names = book.names();
     let model = Model::new(book.words(), names);
+    model.tells_exclusions();
+    bits_tell_paths();
     let traces = kept_traces(alloc, book.day_book())?;
     let paths = critical_paths(workers, alloc, &traces, &model)?;
     let latencies = list_latencies(alloc, &traces)?;

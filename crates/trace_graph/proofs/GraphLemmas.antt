@@ -17,7 +17,7 @@ use Rattle.model_meet.specs.ModelStates.{ModelState}
 use Rattle.model_meet.specs.RelationBits.{KeepsExclusion}
 use Rattle.weighted_dag.specs.Graphs.{Graph, IsEdge, IsGraph, weight_of}
 use Rattle.trace_rules.specs.VertexOrder.{IsEarlier, IsVertexOrder}
-use Rattle.trace_rules.specs.TraceGraphs.{HasVertices, IsDependencyBy, IsGraphBy}
+use Rattle.trace_rules.specs.TraceGraphs.{HasVertices, IsDependency, IsTraceGraph}
 use Rattle.trace_types.proofs.ComparingLemmas.{time_asym}
 use Rattle.trace_types.proofs.FewSegmentLemmas.{few_names}
 use Rattle.trace_graph.specs.inner.Keys.{AreKeys, IsKeyBefore, Key, duration_of, index_in, key_at, name_in, no_key}
@@ -218,7 +218,7 @@ module _ (trace : NamedTrace) (model : ModelState) (keys : List Key) (a : AreKey
         ap (λ (n : ℕ). s.start +ℤ pos n) weight ∙ duration_added s.start s.end s.ordered;
   }
 
-  is_dependency : (v w i j : ℕ) → slice_get order v ≡ Some i → slice_get order w ≡ Some j → IsEdge made v w → IsDependencyBy by_number (KeepsExclusion model.words) trace i j
+  is_dependency : (v w i j : ℕ) → slice_get order v ≡ Some i → slice_get order w ≡ Some j → IsEdge made v w → IsDependency by_number (KeepsExclusion model.words) trace i j
   is_dependency v w i j iv jw edge =
       let (first, ei) = index_of v i iv in
       let (second, ej) = index_of w j jw in
@@ -236,7 +236,7 @@ module _ (trace : NamedTrace) (model : ModelState) (keys : List Key) (a : AreKey
             (subst (λ (n : ℕ). KeepsExclusion model.words (name_at names v) n) (vertex_name trace.segments keys a w other.s second other.got) (kept.0 edge));
       }
 
-  is_edge : (v w i j : ℕ) → slice_get order v ≡ Some i → slice_get order w ≡ Some j → IsDependencyBy by_number (KeepsExclusion model.words) trace i j → IsEdge made v w
+  is_edge : (v w i j : ℕ) → slice_get order v ≡ Some i → slice_get order w ≡ Some j → IsDependency by_number (KeepsExclusion model.words) trace i j → IsEdge made v w
   is_edge v w i j iv jw d =
       let (first, ei) = index_of v i iv in
       let (second, ej) = index_of w j jw in
@@ -257,7 +257,7 @@ module _ (trace : NamedTrace) (model : ModelState) (keys : List Key) (a : AreKey
       (cases_lt w v))
       (cases_lt v w)
 
-  pub graph_made : IsGraphBy by_number (KeepsExclusion model.words) trace order made
+  pub graph_made : IsTraceGraph by_number (KeepsExclusion model.words) trace order made
   graph_made = record {
     has = vertices_made;
     edges = λ v w i j iv jw. (is_dependency v w i j iv jw, is_edge v w i j iv jw);

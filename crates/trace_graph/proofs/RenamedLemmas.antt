@@ -9,7 +9,7 @@ use Rattle.trace_types.specs.Renaming.{Agree, IsSegmentRenamed, IsTraceRenamed}
 use Rattle.trace_types.specs.Surviving.{Survives}
 use Rattle.weighted_dag.specs.Graphs.{Graph, weight_of}
 use Rattle.trace_rules.specs.VertexOrder.{ComesBefore, IsEarlier, IsVertexOrder}
-use Rattle.trace_rules.specs.TraceGraphs.{IsDependency, IsTraceGraph}
+use Rattle.trace_rules.specs.TraceGraphs.{ExcludesIn, IsDependency, IsTraceGraph}
 use Rattle.trace_types.proofs.MatchLemmas.{some_and}
 
 -- what matches the element at an index stands at that index
@@ -54,19 +54,19 @@ module _ {A S N T E B X M U F : Type 0} (p : Parts A S N T E) (q : Parts B X M U
           let (y, jy, g) = here j t ts in
           (x, y, ix, jy, forward s t x y i j f g e)
 
-  dependency_there : (i j : ℕ) → IsDependency p traces trace i j → IsDependency q others other i j
+  dependency_there : (i j : ℕ) → IsDependency p (ExcludesIn p traces) trace i j → IsDependency q (ExcludesIn q others) other i j
   dependency_there i j d =
       let (x, ix, f) = here i d.s d.first in
       let (y, jy, g) = here j d.t d.second in
       record { s = x; t = y; first = ix; second = jy; earlier = forward d.s d.t x y i j f g d.earlier; excludes = (alike (p.name d.s) (p.name d.t) (q.name x) (q.name y) f.name g.name).0 d.excludes }
 
-  dependency_here : (i j : ℕ) → IsDependency q others other i j → IsDependency p traces trace i j
+  dependency_here : (i j : ℕ) → IsDependency q (ExcludesIn q others) other i j → IsDependency p (ExcludesIn p traces) trace i j
   dependency_here i j d =
       let (s, ix, f) = there i d.s d.first in
       let (t, jy, g) = there j d.t d.second in
       record { s = s; t = t; first = ix; second = jy; earlier = backward s t d.s d.t i j f g d.earlier; excludes = (alike (p.name s) (p.name t) (q.name d.s) (q.name d.t) f.name g.name).1 d.excludes }
 
-  pub same_graph : (order : List ℕ) (g : Graph) → IsTraceGraph p traces trace order g → IsTraceGraph q others other order g
+  pub same_graph : (order : List ℕ) (g : Graph) → IsTraceGraph p (ExcludesIn p traces) trace order g → IsTraceGraph q (ExcludesIn q others) other order g
   same_graph order g a = record {
     has = record {
       form = a.has.form;

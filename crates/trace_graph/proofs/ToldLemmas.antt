@@ -13,7 +13,7 @@ use Rattle.trace_types.specs.declared.named_segment.NamedSegment.{NamedSegment}
 use Rattle.trace_types.specs.declared.named_trace.NamedTrace.{NamedTrace}
 use Rattle.weighted_dag.specs.Graphs.{Graph}
 use Rattle.trace_rules.specs.VertexOrder.{IsEarlier}
-use Rattle.trace_rules.specs.TraceGraphs.{ExcludesIn, IsDependency, IsDependencyBy, IsGraphBy, IsTraceGraph}
+use Rattle.trace_rules.specs.TraceGraphs.{ExcludesIn, IsDependency, IsTraceGraph}
 use Rattle.trace_graph.proofs.GraphLemmas.{earlier_asym, same_segment}
 
 module _ (model : ModelState) (trace : NamedTrace) (tells : TellsExclusions model) (below : HaveNamesBelow model.names trace) (traces : List NamedTrace) (left : AreSurvivors traces model.words) where
@@ -41,13 +41,13 @@ module _ (model : ModelState) (trace : NamedTrace) (tells : TellsExclusions mode
   told : (i j : ℕ) (s t : NamedSegment) → slice_get trace.segments i ≡ Some s → slice_get trace.segments j ≡ Some t → IsEarlier by_number s i t j → KeepsExclusion model.words s.name t.name ↔ ExcludesIn by_number traces s.name t.name
   told i j s t is ts earlier = tells traces left s.name t.name (names_apart i j s t is ts earlier) (name_below i s is) (name_below j t ts)
 
-  by_traces : (i j : ℕ) → IsDependencyBy by_number (KeepsExclusion model.words) trace i j → IsDependency by_number traces trace i j
+  by_traces : (i j : ℕ) → IsDependency by_number (KeepsExclusion model.words) trace i j → IsDependency by_number (ExcludesIn by_number traces) trace i j
   by_traces i j d = record { s = d.s; t = d.t; first = d.first; second = d.second; earlier = d.earlier; excludes = (told i j d.s d.t d.first d.second d.earlier).0 d.excludes }
 
-  by_bits : (i j : ℕ) → IsDependency by_number traces trace i j → IsDependencyBy by_number (KeepsExclusion model.words) trace i j
+  by_bits : (i j : ℕ) → IsDependency by_number (ExcludesIn by_number traces) trace i j → IsDependency by_number (KeepsExclusion model.words) trace i j
   by_bits i j d = record { s = d.s; t = d.t; first = d.first; second = d.second; earlier = d.earlier; excludes = (told i j d.s d.t d.first d.second d.earlier).1 d.excludes }
 
-  pub told_graph : (order : List ℕ) (g : Graph) → IsGraphBy by_number (KeepsExclusion model.words) trace order g → IsTraceGraph by_number traces trace order g
+  pub told_graph : (order : List ℕ) (g : Graph) → IsTraceGraph by_number (KeepsExclusion model.words) trace order g → IsTraceGraph by_number (ExcludesIn by_number traces) trace order g
   told_graph order g a = record {
     has = a.has;
     edges = λ v w i j iv jw. (

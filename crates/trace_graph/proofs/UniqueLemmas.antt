@@ -79,11 +79,11 @@ module _ {A S N T E : Type 0} (p : Parts A S N T E) (trace : A) where
       (λ i j d lt within. before_less (get_or other i d) (get_or other j d) (w.rising i j d lt within))
       (λ i. ((λ has. (w.all i).1 ((v.all i).0 has)), (λ has. (v.all i).1 ((w.all i).0 has))))
 
-  module _ (traces : List A) (order : List ℕ) (g h : Graph) (one : IsGraph g) (two : IsGraph h) (a : IsTraceGraph p traces trace order g) (b : IsTraceGraph p traces trace order h) where
+  module _ (Excludes : N → N → Type 0) (order : List ℕ) (g h : Graph) (one : IsGraph g) (two : IsGraph h) (a : IsTraceGraph p Excludes trace order g) (b : IsTraceGraph p Excludes trace order h) where
     index_at : (v : ℕ) → v < length order → slice_get order v ≡ Some (get_or order v 0)
     index_at v lt = slice_get-get_or order v 0 lt
 
-    same_edge : (g h : Graph) → IsGraph g → IsTraceGraph p traces trace order g → IsTraceGraph p traces trace order h → (v w : ℕ) → v < length order → IsEdge g v w → IsEdge h v w
+    same_edge : (g h : Graph) → IsGraph g → IsTraceGraph p Excludes trace order g → IsTraceGraph p Excludes trace order h → (v w : ℕ) → v < length order → IsEdge g v w → IsEdge h v w
     same_edge g h one a b v w lt edge =
         let within : w < length order = omega (arith, one.within v w edge, a.has.count) in
         (b.edges v w (get_or order v 0) (get_or order w 0) (index_at v lt) (index_at w within)).1
@@ -102,20 +102,20 @@ module _ {A S N T E : Type 0} (p : Parts A S N T E) (trace : A) where
         let (s, got) = at_index (p.segments trace) (get_or order v 0) inside in
         cancelled (p.start s) (p.end s) (weight_of g v) (weight_of h v) (a.has.weights v (get_or order v 0) s (index_at v lt) got) (b.has.weights v (get_or order v 0) s (index_at v lt) got)
 
-pub one_graph : {A S N T E : Type 0} (p : Parts A S N T E) → OneRisingList → (traces : List A) (trace : A) (order other : List ℕ) (g h : Graph) → IsGraph g → IsGraph h → IsTraceGraph p traces trace order g → IsTraceGraph p traces trace other h → (order ≡ other) × (g ≡ h)
-one_graph {A} p listed traces trace order other g h one two a b = (orders, graphs)
+pub one_graph : {A S N T E : Type 0} (p : Parts A S N T E) → OneRisingList → (Excludes : N → N → Type 0) (trace : A) (order other : List ℕ) (g h : Graph) → IsGraph g → IsGraph h → IsTraceGraph p Excludes trace order g → IsTraceGraph p Excludes trace other h → (order ≡ other) × (g ≡ h)
+one_graph {A} p listed Excludes trace order other g h one two a b = (orders, graphs)
   where
     orders : order ≡ other
     orders = one_order p trace listed order other a.has.vertices b.has.vertices
 
-    c : IsTraceGraph p traces trace order h
-    c = subst (λ (o : List ℕ). IsTraceGraph p traces trace o h) (sym orders) b
+    c : IsTraceGraph p Excludes trace order h
+    c = subst (λ (o : List ℕ). IsTraceGraph p Excludes trace o h) (sym orders) b
 
     weights : g.weights ≡ h.weights
-    weights = ext_get_or 0 g.weights h.weights (a.has.count ∙ sym c.has.count) (λ v lt. same_weight p trace traces order g h one two a c v (omega (arith, a.has.count)))
+    weights = ext_get_or 0 g.weights h.weights (a.has.count ∙ sym c.has.count) (λ v lt. same_weight p trace Excludes order g h one two a c v (omega (arith, a.has.count)))
 
     successors : g.successors ≡ h.successors
-    successors = ext_get_or [] g.successors h.successors (one.lists ∙ (a.has.count ∙ sym (two.lists ∙ c.has.count))) (λ v lt. same_successors p trace traces order g h one two a c listed v (omega (arith, one.lists, a.has.count)))
+    successors = ext_get_or [] g.successors h.successors (one.lists ∙ (a.has.count ∙ sym (two.lists ∙ c.has.count))) (λ v lt. same_successors p trace Excludes order g h one two a c listed v (omega (arith, one.lists, a.has.count)))
 
     graphs : g ≡ h
     graphs = ap (λ (ws : List ℕ). record { weights = ws; successors = g.successors }) weights ∙ ap (λ (ls : List (List ℕ)). record { weights = h.weights; successors = ls }) successors

@@ -10,8 +10,9 @@ module _ {A S N T E : Type 0} (p : Parts A S N T E) where
   DoNotOverlap trace s t = (p.end s ≤ℤ (p.start t +ℤ pos (p.grace trace)))
       ⊎ (p.end t ≤ℤ (p.start s +ℤ pos (p.grace trace)))
 
-  -- two graphs of a trace are one, with one order of vertices
-  abbrev pub HasOneGraph : Type 0
-  HasOneGraph = (traces : List A) (trace : A) (order other : List ℕ) (g h : Graph) → IsGraph g
-      → IsGraph h → IsTraceGraph p traces trace order g → IsTraceGraph p traces trace other h
+  -- where these mutual exclusions survive, two graphs of a trace are one, with one order of
+  -- vertices
+  abbrev pub HasOneGraph : (N → N → Type 0) → Type 0
+  HasOneGraph Excludes = (trace : A) (order other : List ℕ) (g h : Graph) → IsGraph g → IsGraph h
+      → IsTraceGraph p Excludes trace order g → IsTraceGraph p Excludes trace other h
       → (order ≡ other) × (g ≡ h)

@@ -1,3 +1,4 @@
+pub mod BitGraphs
 pub mod GraphLaws
 pub mod RenamedGraphs
 pub mod inner

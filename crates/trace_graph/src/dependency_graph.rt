@@ -1,10 +1,8 @@
-ghost use Rattle.std.specs.Prelude.{List, IfOk};
+ghost use Rattle.std.specs.Prelude.{IfOk};
 ghost use Rattle.model_meet.specs.RelationBits.{KeepsExclusion};
 ghost use Rattle.refute_tests.specs.Clearing.{HaveNamesBelow};
-ghost use Rattle.refute_tests.specs.Survivors.{AreSurvivors};
-ghost use Rattle.trace_rules.specs.TraceGraphs.{HasVertices, IsGraphBy, IsTraceGraph};
+ghost use Rattle.trace_rules.specs.TraceGraphs.{HasVertices, IsTraceGraph};
 ghost use Rattle.trace_types.specs.Parts.{by_number};
-ghost use Rattle.trace_types.specs.declared.named_trace.NamedTrace.{NamedTrace};
 
 use crate::OrderedGraph;
 use crate::ordering::sort_keys;
@@ -23,11 +21,9 @@ use weighted_dag::{Dag, NumberList};
 /// is that memory ran out.
 pub fn graph(alloc: Global, trace: &NamedTrace, model: &Model) -> Result<OrderedGraph, AllocError>
     requires { HaveNamesBelow model.now.names trace.now }
-    ensures exact { IfOk result (λ g. IsGraphBy by_number (KeepsExclusion model.now.words)
+    ensures graph { IfOk result (λ g. IsTraceGraph by_number (KeepsExclusion model.now.words)
         trace.now g.order g.dag) }
     ensures vertices { IfOk result (λ g. HasVertices by_number trace.now g.order g.dag) }
-    ensures graph { IfOk result (λ g. (traces : List NamedTrace) → AreSurvivors traces
-        model.now.words → IsTraceGraph by_number traces trace.now g.order g.dag) }
 {
     make_graph(alloc, trace, model)
 }
@@ -40,11 +36,9 @@ pub fn graph_by(
     exclusions: &Exclusions,
 ) -> Result<OrderedGraph, AllocError>
     requires { HaveNamesBelow exclusions.now.names trace.now }
-    ensures exact { IfOk result (λ g. IsGraphBy by_number (KeepsExclusion exclusions.now.words)
+    ensures graph { IfOk result (λ g. IsTraceGraph by_number (KeepsExclusion exclusions.now.words)
         trace.now g.order g.dag) }
     ensures vertices { IfOk result (λ g. HasVertices by_number trace.now g.order g.dag) }
-    ensures graph { IfOk result (λ g. (traces : List NamedTrace) → AreSurvivors traces
-        exclusions.now.words → IsTraceGraph by_number traces trace.now g.order g.dag) }
 {
     make_graph(alloc, trace, exclusions.rows())
 }
@@ -56,18 +50,15 @@ fn make_graph<P: PairTest>(
     pairs: P,
 ) -> Result<OrderedGraph, AllocError>
     requires { HaveNamesBelow (P.model pairs).names trace.now }
-    ensures exact { IfOk result (λ g. IsGraphBy by_number (KeepsExclusion (P.model pairs).words)
+    ensures graph { IfOk result (λ g. IsTraceGraph by_number (KeepsExclusion (P.model pairs).words)
         trace.now g.order g.dag) }
     ensures vertices { IfOk result (λ g. HasVertices by_number trace.now g.order g.dag) }
-    ensures graph { IfOk result (λ g. (traces : List NamedTrace) → AreSurvivors traces
-        (P.model pairs).words → IsTraceGraph by_number traces trace.now g.order g.dag) }
 {
     let segments = trace.segments.items();
     let keys = sort_keys(alloc, segments)?;
     let names = names_of(alloc, segments, keys.as_slice())?;
     let weights = durations_of(alloc, keys.as_slice())?;
     let successors = list_successors(alloc, pairs, names.as_slice())?;
-    pairs.tells_exclusions();
     let order = indices_of(alloc, keys.as_slice())?;
     Ok(OrderedGraph {
         order: NumberList::of(order),

@@ -3,7 +3,6 @@ use model_meet::{ExclusionRows, Model};
 /// What tells whether two names are mutually exclusive.
 pub(crate) trait PairTest: Copy {
     ghost use Rattle.std.specs.Prelude.{◌≢◌, ◌<◌, ◌↔◌, IsTrue};
-    ghost use Rattle.model_meet.specs.ExclusionTables.{TellsExclusions};
     ghost use Rattle.model_meet.specs.ModelStates.{ModelState};
     ghost use Rattle.model_meet.specs.RelationBits.{KeepsExclusion};
 
@@ -16,10 +15,6 @@ pub(crate) trait PairTest: Copy {
         requires first { a < (model self).names }
         requires second { b < (model self).names }
         ensures { IsTrue result ↔ KeepsExclusion (model self).words a b };
-
-    /// Does nothing: the bits tell which mutual exclusions no trace refutes.
-    fn tells_exclusions(self)
-        ensures { TellsExclusions (model self) };
 }
 
 impl PairTest for &Model<'_> {
@@ -27,10 +22,6 @@ impl PairTest for &Model<'_> {
 
     fn exclusive(self, a: u32, b: u32) -> bool {
         Model::exclusive(self, a, b)
-    }
-
-    fn tells_exclusions(self) {
-        Model::tells_exclusions(self)
     }
 }
 
@@ -41,9 +32,5 @@ impl PairTest for ExclusionRows<'_> {
 
     fn exclusive(self, a: u32, b: u32) -> bool {
         ExclusionRows::exclusive(self, a, b)
-    }
-
-    fn tells_exclusions(self) {
-        ExclusionRows::tells_exclusions(self)
     }
 }

@@ -5,9 +5,10 @@ use Rattle.std.proofs.lemmas.Bool.{cases_order}
 use Rattle.std.proofs.lemmas.Option.{same_Some}
 use Rattle.trace_types.specs.Parts.{Parts}
 use Rattle.trace_graph.specs.GraphLaws.{HasOneGraph}
-use Rattle.trace_rules.specs.CriticalPaths.{AreCriticalPaths, IsCriticalPath, StandsFor}
+use Rattle.trace_rules.specs.CriticalPaths.{IsCriticalPath, StandsFor}
 use Rattle.weighted_dag.specs.Chains.{IsBefore, IsLongest, NoLongestIsBefore}
 use Rattle.weighted_dag.specs.Graphs.{Graph}
+use Rattle.trace_paths.specs.PathLaws.{PathsAreOne}
 
 -- of two lists one comes before the other, or they are one
 pub one_before : (c d : List ℕ) → (c ≡ d) ⊎ (IsBefore c d ⊎ IsBefore d c)
@@ -50,21 +51,21 @@ one_list {S} segments order (v ∷ chain) (s ∷ path) (t ∷ other) all more =
     let segment : s ≡ t = same_Some s t (sym all.0.2 ∙ (ap (slice_get segments) index ∙ more.0.2)) in
     ap (λ (x : S). x ∷ path) segment ∙ ap (λ (l : List S). t ∷ l) (one_list segments order chain path other all.1 more.1)
 
-one_path : {A S N T E : Type 0} (p : Parts A S N T E) → HasOneGraph p → (traces : List A) (trace : A) (path other : List S) → IsCriticalPath p traces trace path → IsCriticalPath p traces trace other → path ≡ other
-one_path {A} {S} p one traces trace path other is was =
-    let both = one traces trace is.order was.order is.graph was.graph is.form was.form is.dependencies was.dependencies in
+one_path : {A S N T E : Type 0} (p : Parts A S N T E) (Excludes : N → N → Type 0) → HasOneGraph p Excludes → (trace : A) (path other : List S) → IsCriticalPath p Excludes trace path → IsCriticalPath p Excludes trace other → path ≡ other
+one_path {A} {S} p Excludes one trace path other is was =
+    let both = one trace is.order was.order is.graph was.graph is.form was.form is.dependencies was.dependencies in
     let chain : is.chain ≡ was.chain = one_chain was.graph is.chain was.chain (subst (λ (g : Graph). IsLongest g is.chain) both.1 is.longest) was.longest (subst (λ (g : Graph). NoLongestIsBefore g is.chain) both.1 is.first) was.first in
     one_list (p.segments trace) was.order was.chain path other
     (subst (λ (c : List ℕ). AllZip (StandsFor (p.segments trace) was.order) c path) chain (subst (λ (o : List ℕ). AllZip (StandsFor (p.segments trace) o) is.chain path) both.0 is.segments)) was.segments
 
-pub paths_one : {A S N T E : Type 0} (p : Parts A S N T E) → HasOneGraph p → (traces : List A) (paths others : List (List S)) → AreCriticalPaths p traces paths → AreCriticalPaths p traces others → paths ≡ others
-paths_one {A} {S} p one traces = go traces
+pub paths_one : {A S N T E : Type 0} (p : Parts A S N T E) (Excludes : N → N → Type 0) → HasOneGraph p Excludes → PathsAreOne p Excludes
+paths_one {A} {S} p Excludes one = go
   where
-    go : (ts : List A) (paths others : List (List S)) → AllZip (IsCriticalPath p traces) ts paths → AllZip (IsCriticalPath p traces) ts others → paths ≡ others
+    go : (ts : List A) (paths others : List (List S)) → AllZip (IsCriticalPath p Excludes) ts paths → AllZip (IsCriticalPath p Excludes) ts others → paths ≡ others
     go [] [] [] all more = refl
     go [] [] (o ∷ others) all more = absurd more
     go [] (c ∷ paths) others all more = absurd all
     go (t ∷ ts) [] others all more = absurd all
     go (t ∷ ts) (c ∷ paths) [] all more = absurd more
     go (t ∷ ts) (c ∷ paths) (o ∷ others) all more =
-        ap (λ (x : List S). x ∷ paths) (one_path p one traces t c o all.0 more.0) ∙ ap (λ (l : List (List S)). o ∷ l) (go ts paths others all.1 more.1)
+        ap (λ (x : List S). x ∷ paths) (one_path p Excludes one t c o all.0 more.0) ∙ ap (λ (l : List (List S)). o ∷ l) (go ts paths others all.1 more.1)

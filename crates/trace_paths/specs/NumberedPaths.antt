@@ -2,8 +2,7 @@
 use Rattle.std.specs.Prelude.{ℕ, ◌<◌, ◌≤◌, List, length, All}
 use Rattle.model_meet.specs.ModelStates.{ModelState}
 use Rattle.model_meet.specs.RelationBits.{KeepsExclusion}
-use Rattle.refute_tests.specs.Survivors.{AreSurvivors}
-use Rattle.trace_rules.specs.CriticalPaths.{IsCriticalPath, IsPathBy}
+use Rattle.trace_rules.specs.CriticalPaths.{IsCriticalPath}
 use Rattle.trace_types.specs.declared.named_segment.NamedSegment.{NamedSegment}
 use Rattle.trace_types.specs.declared.named_trace.NamedTrace.{NamedTrace}
 use Rattle.trace_types.specs.NamedSegments.{number_of_name}
@@ -16,11 +15,8 @@ pub record IsNamedPath (names : ℕ) (path : List NamedSegment) : Type 0 where
   pub below : All (λ (s : NamedSegment). s.name < names) path
   pub few : length path ≤ 512
 
--- the path is such a path, and the trace's critical path by the bits of the model's words; so it is
--- under any traces of which these are the survivors
+-- the path is such a path, and the trace's critical path by the bits of the model's words
 pub record IsPathUnder (model : ModelState) (trace : NamedTrace) (path : List NamedSegment) : Type 0
   where
     pub named : IsNamedPath model.names path
-    pub exact : IsPathBy by_number (KeepsExclusion model.words) trace path
-    pub critical : (traces : List NamedTrace) → AreSurvivors traces model.words
-        → IsCriticalPath by_number traces trace path
+    pub critical : IsCriticalPath by_number (KeepsExclusion model.words) trace path

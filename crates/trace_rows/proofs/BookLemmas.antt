@@ -14,8 +14,8 @@ use Rattle.trace_types.specs.declared.named_trace.NamedTrace.{NamedTrace}
 use Rattle.weighted_dag.specs.Graphs.{Graph, IsGraph}
 
 -- each vertex has a weight, a segment and a name
-pub numbered_graph : (traces : List NamedTrace) (names : List SegmentName) (t : NamedTrace) (order : List ℕ) (g : Graph) → HaveNamesBelow (length names) t → IsTraceGraph by_number traces t order g → IsGraph g → IsNumbered (record { names = names; trace = t; order = order; weights = g.weights })
-numbered_graph traces names t order g below graph form = record {
+pub numbered_graph : (Excludes : ℕ → ℕ → Type 0) (names : List SegmentName) (t : NamedTrace) (order : List ℕ) (g : Graph) → HaveNamesBelow (length names) t → IsTraceGraph by_number Excludes t order g → IsGraph g → IsNumbered (record { names = names; trace = t; order = order; weights = g.weights })
+numbered_graph Excludes names t order g below graph form = record {
   few = form.small;
   weighted = graph.has.count;
   placed = λ v d lt. (graph.has.vertices.all (get_or order v d)).0 (v, lt, get_or_from_slice_get order v (get_or order v d) (get_or order v d) (slice_get-get_or order v d lt));

@@ -5,10 +5,10 @@ use Rattle.std.proofs.lemmas.List.FromFn.{length-range_with_len, get_or-range_wi
 use Rattle.book_laws.specs.Shown.{AreShown, IsShown}
 use Rattle.segment_names.specs.Known.{Known}
 use Rattle.segment_names.specs.Limits.{IsKept}
-use Rattle.session_rules.specs.KeptTraces.{Kept}
+use Rattle.session_rules.specs.KeptTraces.{Kept, SurvivesIn}
 use Rattle.session_rules.specs.TraceTexts.{IsGraphText, IsPathText, IsSlackText, edges_of, graph_text, name_of_vertex, path_text, slack_text, trace_row}
 use Rattle.text_rows.specs.Rows.{row_of}
-use Rattle.trace_rules.specs.TraceGraphs.{IsTraceGraph}
+use Rattle.trace_rules.specs.TraceGraphs.{ExcludesIn, IsTraceGraph}
 use Rattle.trace_types.specs.Parts.{by_number}
 use Rattle.trace_types.specs.declared.named_trace.NamedTrace.{NamedTrace}
 use Rattle.book_laws.specs.GraphLaws.{GraphIsShown}
@@ -55,7 +55,7 @@ same_row word t k more request day latency =
     ∙ (ap (λ d. row_of (word ∷ k.trace.request ∷ decimal d ∷ decimal t.latency ∷ more)) day ∙ ap (λ l. row_of (word ∷ k.trace.request ∷ decimal k.trace.day ∷ decimal l ∷ more)) latency)
 
 module _ (b : KeptState) (t : NamedTrace) (order : List ℕ) (g : Graph) (graphs : GraphIsShown) (names : NamesAreShown) (fits : IsKept b.known) (form : IsGraph g)
-    (graph : IsTraceGraph by_number (traces_in b) t order g) (numbered : IsNumbered (record { names = b.known.names; trace = t; order = order; weights = g.weights })) where
+    (graph : IsTraceGraph by_number (ExcludesIn by_number (traces_in b)) t order g) (numbered : IsNumbered (record { names = b.known.names; trace = t; order = order; weights = g.weights })) where
   -- a path
   path_same : (k : Kept) (long : ℕ) (chain : List ℕ) → IsShown b.known t k → IsChain g chain → long ≡ chain_length g chain → path_rows (record { names = b.known.names; trace = t; order = order; weights = g.weights }) long chain ≡ path_text k order g chain
   path_same k long chain shown is len =
@@ -66,7 +66,7 @@ module _ (b : KeptState) (t : NamedTrace) (order : List ℕ) (g : Graph) (graphs
       (λ v lt. ap (λ name. name_row (codes "step" ∷ []) name (decimal (weight_of g v) ∷ [])) (names b.known k (record { names = b.known.names; trace = t; order = order; weights = g.weights }) v refl numbered shown lt))))
 
   pub path_shown : (n : NumberedTrace) (long : ℕ) (chain : List ℕ) → n ≡ record { names = b.known.names; trace = t; order = order; weights = g.weights } → IsChain g chain → NoneIsLonger g (chain_length g chain) → NoLongestIsBefore g chain → long ≡ chain_length g chain
-      → (kept : List Kept) (k : Kept) → AreShown b.known (traces_in b) kept → IsShown b.known t k → IsPathText kept k (path_rows n long chain)
+      → (kept : List Kept) (k : Kept) → AreShown b.known (traces_in b) kept → IsShown b.known t k → IsPathText (SurvivesIn kept) k (path_rows n long chain)
   path_shown n long chain is chained longest first len kept k all shown = record {
     order = order;
     graph = g;
@@ -86,7 +86,7 @@ module _ (b : KeptState) (t : NamedTrace) (order : List ℕ) (g : Graph) (graphs
       (λ v lt. ap (λ name. name_row (codes "segment" ∷ []) name (decimal (weight_of g v) ∷ decimal (slice_index slacks v) ∷ [])) (names b.known k (record { names = b.known.names; trace = t; order = order; weights = g.weights }) v refl numbered shown (subst (λ m. v < m) numbered.weighted lt))))
 
   pub slack_shown : (n : NumberedTrace) (longest : ℕ) (slacks : List ℕ) → n ≡ record { names = b.known.names; trace = t; order = order; weights = g.weights } → IsLongestLength g longest → EachIndex g.weights (λ v. IsSlack g v (slice_index slacks v))
-      → (kept : List Kept) (k : Kept) → AreShown b.known (traces_in b) kept → IsShown b.known t k → IsSlackText kept k (slack_rows n longest slacks)
+      → (kept : List Kept) (k : Kept) → AreShown b.known (traces_in b) kept → IsShown b.known t k → IsSlackText (SurvivesIn kept) k (slack_rows n longest slacks)
   slack_shown n longest slacks is long each kept k all shown = record {
     order = order;
     graph = g;
@@ -111,7 +111,7 @@ module _ (b : KeptState) (t : NamedTrace) (order : List ℕ) (g : Graph) (graphs
       ∙ ap (λ rs. trace_row (codes "trace") k (decimal (order_of h) ∷ decimal (length (edges_of h)) ∷ []) ++ (flat_map (λ v. name_row (codes "vertex" ∷ decimal v ∷ []) (name_of_vertex k order v) (decimal (weight_of h v) ∷ [])) (range_with_len 0 (order_of h)) ++ rs)) (edge_rows_are (λ (e : ℕ × ℕ). edge_row e.0 e.1) h))
 
   pub graph_shown : (n : NumberedTrace) (h : Graph) → n ≡ record { names = b.known.names; trace = t; order = order; weights = h.weights } → IsGraph h → h.weights ≡ g.weights → ((v w : ℕ) → IsEdge h v w ↔ IsKeptEdge g v w)
-      → (kept : List Kept) (k : Kept) → AreShown b.known (traces_in b) kept → IsShown b.known t k → IsGraphText kept k (graph_rows n h)
+      → (kept : List Kept) (k : Kept) → AreShown b.known (traces_in b) kept → IsShown b.known t k → IsGraphText (SurvivesIn kept) k (graph_rows n h)
   graph_shown n h is keeps same edges kept k all shown = record {
     order = order;
     graph = g;

@@ -3,6 +3,7 @@ use kept_books::KeptBook;
 use model_meet::Exclusions;
 use segment_names::Catalogue;
 use std::alloc::{AllocError, Global};
+use trace_graph::laws::bits_tell_graphs;
 use trace_graph::{OrderedGraph, graph_by};
 use trace_types::NamedTrace;
 
@@ -30,7 +31,7 @@ impl<'a> PreparedBook<'a> {
     ghost use Rattle.kept_books.specs.KeptBooks.{traces_in};
     ghost use Rattle.refute_tests.specs.Clearing.{HaveNamesBelow};
     ghost use Rattle.segment_names.specs.Limits.{IsKept};
-    ghost use Rattle.trace_rules.specs.TraceGraphs.{IsTraceGraph};
+    ghost use Rattle.trace_rules.specs.TraceGraphs.{ExcludesIn, IsTraceGraph};
     ghost use Rattle.trace_rows.specs.inner.NumberedTraces.{IsNumbered};
     ghost use Rattle.trace_types.specs.Parts.{by_number};
     ghost use Rattle.weighted_dag.specs.Graphs.{IsGraph};
@@ -60,8 +61,8 @@ impl<'a> PreparedBook<'a> {
         trace: &NamedTrace,
     ) -> Result<OrderedGraph, AllocError>
         requires { HaveNamesBelow (length self.now.known.names) trace.now }
-        ensures graph { IfOk result (λ g.
-            IsTraceGraph by_number (traces_in self.now) trace.now g.order g.dag) }
+        ensures graph { IfOk result (λ g. IsTraceGraph by_number
+            (ExcludesIn by_number (traces_in self.now)) trace.now g.order g.dag) }
         ensures numbered { IfOk result (λ g. IsNumbered (record {
           names = self.now.known.names;
           trace = trace.now;
@@ -70,6 +71,8 @@ impl<'a> PreparedBook<'a> {
         })) }
         ensures form { IfOk result (λ g. IsGraph g.dag) }
     {
+        bits_tell_graphs();
+        self.exclusions.rows().tells_exclusions();
         let made = graph_by(alloc, trace, &self.exclusions)?;
         let _weights = made.dag.weights();
         Ok(made)

@@ -3,7 +3,7 @@
 use Rattle.std.specs.Prelude.{◌≡◌, ℕ, List, Some, slice_get}
 use Rattle.std.specs.List.{AllZip}
 use Rattle.trace_types.specs.Parts.{Parts}
-use Rattle.trace_rules.specs.TraceGraphs.{ExcludesIn, IsGraphBy}
+use Rattle.trace_rules.specs.TraceGraphs.{IsTraceGraph}
 use Rattle.weighted_dag.specs.Chains.{IsLongest, NoLongestIsBefore}
 use Rattle.weighted_dag.specs.Graphs.{Graph, IsGraph}
 
@@ -13,22 +13,18 @@ StandsFor segments order v s =
     (i : ℕ) × (slice_get order v ≡ Some i) × (slice_get segments i ≡ Some s)
 
 module _ {A S N T E : Type 0} (p : Parts A S N T E) where
-  -- the critical path of a trace whose names exclude one another as Excludes has it: the segments
-  -- on the first longest chain of its graph, in order
-  pub record IsPathBy (Excludes : N → N → Type 0) (trace : A) (path : List S) : Type 0 where
+  -- the critical path of a trace where these mutual exclusions survive: the segments on the first
+  -- longest chain of its graph, in order
+  pub record IsCriticalPath (Excludes : N → N → Type 0) (trace : A) (path : List S) : Type 0 where
     pub order : List ℕ
     pub graph : Graph
     pub chain : List ℕ
     pub form : IsGraph graph
-    pub dependencies : IsGraphBy p Excludes trace order graph
+    pub dependencies : IsTraceGraph p Excludes trace order graph
     pub longest : IsLongest graph chain
     pub first : NoLongestIsBefore graph chain
     pub segments : AllZip (StandsFor (p.segments trace) order) chain path
 
-  -- the critical path of a trace under what a list of traces leaves
-  abbrev pub IsCriticalPath : List A → A → List S → Type 0
-  IsCriticalPath traces = IsPathBy (ExcludesIn p traces)
-
   -- the critical path of each trace of a list, in their order
-  abbrev pub AreCriticalPaths : List A → List (List S) → Type 0
-  AreCriticalPaths traces paths = AllZip (IsCriticalPath traces) traces paths
+  abbrev pub AreCriticalPaths : (N → N → Type 0) → List A → List (List S) → Type 0
+  AreCriticalPaths Excludes traces paths = AllZip (IsCriticalPath Excludes) traces paths

@@ -9,8 +9,8 @@ use Rattle.weighted_dag.specs.Graphs.{Graph, IsEdge, IsGraph, weight_of}
 
 module _ {A S N T E : Type 0} (p : Parts A S N T E) where
   -- an edge leads from the segment at i to the segment at j of the trace: the first comes before
-  -- the second, and their names are mutually exclusive as Excludes has it
-  pub record IsDependencyBy (Excludes : N → N → Type 0) (trace : A) (i j : ℕ) : Type 0 where
+  -- the second, and the mutual exclusion of their names survives, which Excludes tells
+  pub record IsDependency (Excludes : N → N → Type 0) (trace : A) (i j : ℕ) : Type 0 where
     pub s : S
     pub t : S
     pub first : slice_get (p.segments trace) i ≡ Some s
@@ -28,23 +28,15 @@ module _ {A S N T E : Type 0} (p : Parts A S N T E) where
         → slice_get (p.segments trace) i ≡ Some s
         → (p.start s +ℤ pos (weight_of g v)) ≡ p.end s
 
-  -- the graph of a trace whose names exclude one another as Excludes has it: its vertices are the
-  -- segments in their order, and its edges the dependencies
-  pub record IsGraphBy (Excludes : N → N → Type 0) (trace : A) (order : List ℕ) (g : Graph)
+  -- the graph of a trace where these mutual exclusions survive: its vertices are the segments in
+  -- their order, and its edges the dependencies
+  pub record IsTraceGraph (Excludes : N → N → Type 0) (trace : A) (order : List ℕ) (g : Graph)
       : Type 0 where
     pub has : HasVertices trace order g
     pub edges : (v w i j : ℕ) → slice_get order v ≡ Some i → slice_get order w ≡ Some j
-        → IsEdge g v w ↔ IsDependencyBy Excludes trace i j
+        → IsEdge g v w ↔ IsDependency Excludes trace i j
 
-  -- no trace of the list refutes that the two names are mutually exclusive
+  -- the mutual exclusions that survive in a list of traces: no trace of the list refutes that the
+  -- two names are mutually exclusive
   abbrev pub ExcludesIn : List A → N → N → Type 0
   ExcludesIn traces a b = Survives (RefutesExclusive p a b) traces
-
-  -- an edge leads from the segment at i to the segment at j: the first comes before the second, and
-  -- no trace of the list refutes that their names are mutually exclusive
-  abbrev pub IsDependency : List A → A → ℕ → ℕ → Type 0
-  IsDependency traces = IsDependencyBy (ExcludesIn traces)
-
-  -- the graph of a trace under what a list of traces leaves
-  abbrev pub IsTraceGraph : List A → A → List ℕ → Graph → Type 0
-  IsTraceGraph traces = IsGraphBy (ExcludesIn traces)

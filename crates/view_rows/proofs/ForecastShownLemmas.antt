@@ -9,10 +9,10 @@ use Rattle.book_laws.specs.Shown.{AreShown, IsShown}
 use Rattle.segment_names.specs.Known.{Known, name_number}
 use Rattle.segment_names.specs.Limits.{IsKept}
 use Rattle.session_rules.specs.ForecastTexts.{IsForecastOf, time_under}
-use Rattle.session_rules.specs.KeptTraces.{Kept, by_kept}
+use Rattle.session_rules.specs.KeptTraces.{Kept, SurvivesIn, by_kept}
 use Rattle.session_rules.specs.TraceTexts.{name_of_vertex}
 use Rattle.session_rules.specs.declared.named_change.NamedChange.{NamedChange}
-use Rattle.trace_rules.specs.TraceGraphs.{IsTraceGraph}
+use Rattle.trace_rules.specs.TraceGraphs.{ExcludesIn, IsTraceGraph}
 use Rattle.trace_types.specs.Parts.{by_number}
 use Rattle.trace_types.specs.Renaming.{IsSegmentRenamed}
 use Rattle.trace_types.specs.Segments.{SegmentName, name_of}
@@ -36,9 +36,9 @@ time_by known change number name time None fits found here =
 time_by known change number name time (Some n) fits found here =
     ap (λ (b : Bool). if b then time * change.num / change.den else time) (number_tells known.names fits.names_differ change.name name n number found here)
 
-vertex_time : (known : Known) (change : NamedChange) (traces : List NamedTrace) (t : NamedTrace) (k : Kept) (order : List ℕ) (g : Graph) (weights : List ℕ) → IsKept known → AreNumbered known → IsShown known t k → IsTraceGraph by_number traces t order g
+vertex_time : (known : Known) (change : NamedChange) (Excludes : ℕ → ℕ → Type 0) (t : NamedTrace) (k : Kept) (order : List ℕ) (g : Graph) (weights : List ℕ) → IsKept known → AreNumbered known → IsShown known t k → IsTraceGraph by_number Excludes t order g
     → AreChanged t.segments order (changes_of known change) g.weights weights → (v : ℕ) → v < order_of g → slice_index weights v ≡ time_under change (name_of_vertex k order v) (weight_of g v)
-vertex_time known change traces t k order g weights fits numbered shown graph changed v lt =
+vertex_time known change Excludes t k order g weights fits numbered shown graph changed v lt =
     let within : v < length order = subst (λ n. v < n) graph.has.count lt in
     let index = slice_get-get_or order v 0 within in
     let placed : slice_index order v < length t.segments = (graph.has.vertices.all (get_or order v 0)).0 (v, within, get_or_from_slice_get order v (get_or order v 0) (get_or order v 0) index) in
@@ -50,14 +50,14 @@ vertex_time known change traces t k order g weights fits numbered shown graph ch
     ∙ ap (λ n. time_under change n (weight_of g v)) (sym called))
 
 pub shown_forecast : (known : Known) (traces : List NamedTrace) (kept : List Kept) (t : NamedTrace) (k : Kept) (change : NamedChange) (f : Forecast) → GraphIsShown → AreNumbered known → IsKept known → AreShown known traces kept
-    → IsShown known t k → IsForecastIn traces (changes_of known change) t f → IsForecastOf change kept k f
+    → IsShown known t k → IsForecastIn (ExcludesIn by_number traces) (changes_of known change) t f → IsForecastOf change (SurvivesIn kept) k f
 shown_forecast known traces kept t k change f graphs numbered fits all shown h = record {
   order = h.order;
   graph = h.graph;
   weights = h.told.weights;
   is = graphs known traces kept t k h.order h.graph fits all shown h.form h.of_trace;
   count = h.told.changed.count;
-  changed = vertex_time known change traces t k h.order h.graph h.told.weights fits numbered shown h.of_trace h.told.changed;
+  changed = vertex_time known change (ExcludesIn by_number traces) t k h.order h.graph h.told.weights fits numbered shown h.of_trace h.told.changed;
   before = h.told.before;
   after = h.told.after;
 }

@@ -10,7 +10,7 @@ use Rattle.latency_report.specs.declared.full_report.FullReport.{FullReport}
 use Rattle.latency_report.specs.declared.segment_row.SegmentRow.{SegmentRow}
 use Rattle.segment_names.specs.Known.{Known}
 use Rattle.segment_names.specs.Limits.{IsKept}
-use Rattle.session_rules.specs.KeptTraces.{Kept, by_kept, latencies_of}
+use Rattle.session_rules.specs.KeptTraces.{Kept, SurvivesIn, by_kept, latencies_of}
 use Rattle.session_rules.specs.ReportTexts.{IsSegmentText}
 use Rattle.session_rules.specs.TailTexts.{IsTailText}
 use Rattle.slow_tail.specs.SlowReports.{IsSlowReport}
@@ -20,6 +20,7 @@ use Rattle.trace_rules.specs.SlowTraces.{IsFloor, rest_of, slow_count, slow_mark
 use Rattle.slow_tail.specs.declared.slow_report.SlowReport.{SlowReport}
 use Rattle.slow_tail.specs.declared.tail_row.TailRow.{TailRow}
 use Rattle.trace_rules.specs.CriticalPaths.{AreCriticalPaths}
+use Rattle.trace_rules.specs.TraceGraphs.{ExcludesIn}
 use Rattle.trace_paths.specs.NameOrders.{name_with_number}
 use Rattle.trace_types.specs.declared.named_trace.NamedTrace.{NamedTrace}
 use Rattle.trace_types.specs.declared.segment.Segment.{Segment}
@@ -48,8 +49,8 @@ module _ (known : Known) (traces : List NamedTrace) (kept : List Kept) (fits : I
   segments = all_segments_shown known matched traces kept shown
 
   -- the report
-  module _ (report : FullReport) (is : IsReport known.names traces report) (texts : List (List Segment)) (are : AreCriticalPaths by_kept kept texts) (alike : ArePathsShown known is.paths texts) where
-    segment_shown : (r : SegmentRow) → r.name < length known.names → AreFiguresOf by_number eqb traces is.paths r.name r.figures r.on_path r.on_path_sum → IsSegmentText kept (name_with_number known.names r.name) (segment_row known.names r)
+  module _ (report : FullReport) (is : IsReport known.names (ExcludesIn by_number traces) traces report) (texts : List (List Segment)) (are : AreCriticalPaths by_kept (SurvivesIn kept) kept texts) (alike : ArePathsShown known is.paths texts) where
+    segment_shown : (r : SegmentRow) → r.name < length known.names → AreFiguresOf by_number eqb traces is.paths r.name r.figures r.on_path r.on_path_sum → IsSegmentText (SurvivesIn kept) kept (name_with_number known.names r.name) (segment_row known.names r)
     segment_shown r lt told = record {
       paths = texts;
       critical_paths = are;
@@ -82,11 +83,11 @@ module _ (known : Known) (traces : List NamedTrace) (kept : List Kept) (fits : I
           rows = λ k d lt. segment_shown (get_or report.rows k d) (within k d lt) (is.rows k d lt);
         }
 
-  pub report_shown : (report : FullReport) → IsReport known.names traces report → AreReportTexts known kept report
+  pub report_shown : (report : FullReport) → IsReport known.names (ExcludesIn by_number traces) traces report → AreReportTexts known kept report
   report_shown report is = let p = paths_law known traces kept is.paths fits shown is.critical_paths in texts_shown report is p.0 p.1 p.2
 
   -- the report on the slowest
-  module _ (report : SlowReport) (is : IsSlowReport known.names traces report) (texts : List (List Segment)) (are : AreCriticalPaths by_kept kept texts) (alike : ArePathsShown known is.paths texts) where
+  module _ (report : SlowReport) (is : IsSlowReport known.names (ExcludesIn by_number traces) traces report) (texts : List (List Segment)) (are : AreCriticalPaths by_kept (SurvivesIn kept) kept texts) (alike : ArePathsShown known is.paths texts) where
     slow_alike : ArePathsShown known (slow_of (by_trace.trace_latencies traces) is.paths) (slow_of (latencies_of kept) texts)
     slow_alike = subst (λ (ls : List ℕ). ArePathsShown known (slow_of (by_trace.trace_latencies traces) is.paths) (slow_of ls texts)) latencies_shown
         (zip_marked (λ path text. AreSegmentsShown known path text) (slow_marks (by_trace.trace_latencies traces)) is.paths texts alike)
@@ -96,7 +97,7 @@ module _ (known : Known) (traces : List NamedTrace) (kept : List Kept) (fits : I
         (zip_unmarked (λ path text. AreSegmentsShown known path text) (slow_marks (by_trace.trace_latencies traces)) is.paths texts alike)
 
     tail_row_shown : (r : TailRow) → r.name < length known.names → AreSlowAndRest by_number eqb (slow_of (by_trace.trace_latencies traces) is.paths) (rest_of (by_trace.trace_latencies traces) is.paths) r.name r.slow_on r.slow_sum r.rest_on r.rest_sum
-        → IsTailText kept (name_with_number known.names r.name) (tail_row known.names r)
+        → IsTailText (SurvivesIn kept) kept (name_with_number known.names r.name) (tail_row known.names r)
     tail_row_shown r lt told = record {
       paths = texts;
       critical_paths = are;
@@ -126,5 +127,5 @@ module _ (known : Known) (traces : List NamedTrace) (kept : List Kept) (fits : I
           rows = λ k d lt. tail_row_shown (get_or report.rows k d) (within k d lt) (is.rows k d lt);
         }
 
-  pub tail_shown : (report : SlowReport) → IsSlowReport known.names traces report → AreTailTexts known kept report
+  pub tail_shown : (report : SlowReport) → IsSlowReport known.names (ExcludesIn by_number traces) traces report → AreTailTexts known kept report
   tail_shown report is = let p = paths_law known traces kept is.paths fits shown is.critical_paths in tail_texts_shown report is p.0 p.1 p.2

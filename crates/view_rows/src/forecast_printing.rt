@@ -24,6 +24,7 @@ use std::alloc::Global;
 use std::thread::Threads;
 use text_rows::laws::{calls_follow, parts_follow, texts_follow};
 use text_rows::{Field, PrintFault, RowBuffer, print_row};
+use trace_graph::laws::bits_tell_graphs;
 use trace_paths::kept_traces;
 use trace_rules::Forecast;
 use trace_types::NamedTrace;
@@ -151,10 +152,12 @@ pub fn print_forecasts<R: Threads + Sync, S: Sink>(
         (forecast_parts change.now kept) buffer.old buffer.new }
     ensures counted { S.faults sink.new ≡ print_faults result (S.faults sink.old) }
 {
+    bits_tell_graphs();
     forecast_is_shown();
     parts_follow::<SessionPart>();
     let catalogue = book.catalogue();
     let model = Model::new(book.words(), book.names());
+    model.tells_exclusions();
     let traces = kept_traces(alloc, book.day_book())?;
     let forecasts = forecast_change(workers, alloc, &traces, &model, catalogue, change)?;
     print_all(sink, buffer, &traces, &forecasts)

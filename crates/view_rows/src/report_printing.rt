@@ -2,7 +2,7 @@ ghost use Rattle.std.specs.Prelude.{◌≡◌, [], ◌∷◌, List};
 ghost use Rattle.book_laws.specs.Shown.{AreShown};
 ghost use Rattle.kept_books.specs.KeptBooks.{traces_in};
 ghost use Rattle.view_rows.specs.inner.NumberedTexts.{latency_row, report_head};
-ghost use Rattle.session_rules.specs.KeptTraces.{Kept};
+ghost use Rattle.session_rules.specs.KeptTraces.{Kept, SurvivesIn};
 ghost use Rattle.session_rules.specs.Parts.{IsPart, LatenciesOf, ReportHead};
 ghost use Rattle.session_rules.specs.ReportTexts.{AreKeptNames, IsLatencyText, IsReportHead};
 ghost use Rattle.session_rules.specs.Sessions.{report_parts};
@@ -29,7 +29,8 @@ pub(crate) fn print_first_rows<S: Sink>(
     buffer: &mut RowBuffer,
     report: &FullReport,
 ) -> Result<(), PrintFault>
-    ensures printed { (kept : List Kept) → IsReportHead kept (report_head report.now)
+    ensures printed { (kept : List Kept) → IsReportHead (SurvivesIn kept) kept
+        (report_head report.now)
         → IsLatencyText kept (latency_row report.now.latency)
         → PrintsTexts S.written S.faults result sink.old sink.new IsPart
         (ReportHead kept ∷ LatenciesOf kept ∷ []) buffer.old buffer.new }

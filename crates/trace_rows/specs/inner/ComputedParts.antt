@@ -1,7 +1,7 @@
 -- What is computed of a trace of a book before its part is printed.
 use Rattle.std.specs.Prelude.{◌≡◌, ℕ, ◌↔◌, List, length, slice_index}
 use Rattle.std.specs.List.{EachIndex}
-use Rattle.trace_rules.specs.TraceGraphs.{IsTraceGraph}
+use Rattle.trace_rules.specs.TraceGraphs.{ExcludesIn, IsTraceGraph}
 use Rattle.trace_rows.specs.inner.NumberedTraces.{IsNumbered}
 use Rattle.kept_books.specs.KeptBooks.{KeptState, traces_in}
 use Rattle.trace_types.specs.Parts.{by_number}
@@ -12,12 +12,12 @@ use Rattle.weighted_dag.specs.Graphs.{Graph, IsEdge, IsGraph, order_of}
 use Rattle.weighted_dag.specs.Reductions.{IsKeptEdge}
 use Rattle.weighted_dag.specs.Slacks.{IsSlack}
 
--- the graph of a trace under what the traces of a book leave; entry v of the order is the index of
--- vertex v's segment
+-- the graph of a trace by what survives in the traces of a book; entry v of the order is the index
+-- of vertex v's segment
 pub record IsGraphUnderBook (b : KeptState) (t : NamedTrace) (order : List ℕ) (g : Graph)
     : Type 0 where
   pub form : IsGraph g
-  pub graph : IsTraceGraph by_number (traces_in b) t order g
+  pub graph : IsTraceGraph by_number (ExcludesIn by_number (traces_in b)) t order g
   pub numbered : IsNumbered (record {
     names = b.known.names;
     trace = t;

@@ -1,6 +1,6 @@
 -- Forecasts of traces whose names are numbers of a catalogue. Times are in nanoseconds.
 use Rattle.std.specs.Prelude.{ℕ, ◌^◌, ◌<◌, List, [], ◌∷◌, Option, Some, None}
-use Rattle.refute_tests.specs.Survivors.{AreSurvivors}
+use Rattle.model_meet.specs.RelationBits.{KeepsExclusion}
 use Rattle.segment_names.specs.Known.{Known, name_number}
 use Rattle.session_rules.specs.declared.named_change.NamedChange.{NamedChange}
 use Rattle.trace_rules.specs.TraceGraphs.{IsTraceGraph}
@@ -25,18 +25,17 @@ changes_of known change = changes_by change (name_number known change.name)
 abbrev pub IsShort : Forecast → Type 0
 IsShort f = (f.before < 2 ^ 96) × (f.after < 2 ^ 96)
 
--- the forecast of a trace by its graph under what a list of traces leaves
-pub record IsForecastIn (traces : List NamedTrace) (changes : List Change) (trace : NamedTrace)
+-- the forecast of a trace by its graph where these mutual exclusions survive
+pub record IsForecastIn (Excludes : ℕ → ℕ → Type 0) (changes : List Change) (trace : NamedTrace)
     (f : Forecast) : Type 0 where
   pub order : List ℕ
   pub graph : Graph
   pub form : IsGraph graph
-  pub of_trace : IsTraceGraph by_number traces trace order graph
+  pub of_trace : IsTraceGraph by_number Excludes trace order graph
   pub told : IsForecast trace.segments order graph changes f
 
--- the forecast of a trace under any traces of which these words are the survivors
+-- the forecast of a trace by the bits of words
 pub record IsForecastUnder (words : List ℕ) (changes : List Change) (trace : NamedTrace)
     (f : Forecast) : Type 0 where
   pub short : IsShort f
-  pub told : (traces : List NamedTrace) → AreSurvivors traces words
-      → IsForecastIn traces changes trace f
+  pub told : IsForecastIn (KeepsExclusion words) changes trace f

@@ -5,8 +5,9 @@ use Rattle.std.specs.List.{AllZip}
 use Rattle.book_laws.specs.Shown.{AreShown}
 use Rattle.segment_names.specs.Known.{Known}
 use Rattle.segment_names.specs.Limits.{IsKept}
-use Rattle.session_rules.specs.KeptTraces.{Kept, by_kept}
+use Rattle.session_rules.specs.KeptTraces.{Kept, SurvivesIn, by_kept}
 use Rattle.trace_rules.specs.CriticalPaths.{AreCriticalPaths}
+use Rattle.trace_rules.specs.TraceGraphs.{ExcludesIn}
 use Rattle.trace_types.specs.declared.named_segment.NamedSegment.{NamedSegment}
 use Rattle.trace_types.specs.declared.named_trace.NamedTrace.{NamedTrace}
 use Rattle.trace_types.specs.declared.segment.Segment.{Segment}
@@ -32,6 +33,6 @@ ArePathsShown known paths texts = AllZip (λ path text. AreSegmentsShown known p
 abbrev pub PathsAreShown : Type 0
 PathsAreShown = (known : Known) (traces : List NamedTrace) (kept : List Kept)
     (paths : List (List NamedSegment)) → IsKept known → AreShown known traces kept
-    → AreCriticalPaths by_number traces paths
-    → (texts : List (List Segment)) × AreCriticalPaths by_kept kept texts
+    → AreCriticalPaths by_number (ExcludesIn by_number traces) traces paths
+    → (texts : List (List Segment)) × AreCriticalPaths by_kept (SurvivesIn kept) kept texts
     × ArePathsShown known paths texts

@@ -15,6 +15,7 @@ use Rattle.trace_types.specs.Listing.{ListsExactly}
 use Rattle.trace_types.specs.NamedSegments.{number_of_name}
 use Rattle.trace_types.specs.Parts.{by_number, segments_of}
 use Rattle.trace_rules.specs.CriticalPaths.{IsCriticalPath}
+use Rattle.trace_rules.specs.TraceGraphs.{ExcludesIn}
 use Rattle.trace_paths.specs.NumberedPaths.{IsNamedPath, IsPathUnder}
 use Rattle.trace_rules.specs.Durations.{path_length}
 use Rattle.trace_paths.specs.NameOrders.{AreNamesOf, number_cmp}
@@ -85,16 +86,19 @@ returns-clause-reported g c =
     let segments = segments_at c.deref-2.result.now in
     let same : segments ≡ segments_of by_number traces = segments_shown c.deref-2.result.now ∙ ap (λ (l : List (Bor NamedTrace)). segments_of by_number (traces_at l)) c.deref-2.ensures.value ∙ ap (segments_of by_number) are in
     let count : c.names-names.result ≡ c.day_book.result.now.names = c.names-names.ensures.count ∙ (sym c.names-names.ensures.kept.names ∙ ap (λ (b : BookState). b.names) (sym c.day_book.ensures.book)) in
+    let named_below : All (λ (t : Bor NamedTrace). HaveNamesBelow c.names-names.result t.now) ts =
+    subst (λ (k : ℕ). All (λ (t : Bor NamedTrace). HaveNamesBelow k t.now) ts) (sym count) c.in_ok-traces.ensures.below in
     let below : All (λ (t : Bor NamedTrace). HaveNamesBelow c.names-names.result t.now) c.deref-2.result.now =
-    subst (All (λ (t : Bor NamedTrace). HaveNamesBelow c.names-names.result t.now)) (sym c.deref-2.ensures.value)
-    (subst (λ (k : ℕ). All (λ (t : Bor NamedTrace). HaveNamesBelow k t.now) ts) (sym count) c.in_ok-traces.ensures.below) in
+    subst (All (λ (t : Bor NamedTrace). HaveNamesBelow c.names-names.result t.now)) (sym c.deref-2.ensures.value) named_below in
+    let model_below : All (λ (t : Bor NamedTrace). HaveNamesBelow model.names t.now) ts =
+    subst (λ (k : ℕ). All (λ (t : Bor NamedTrace). HaveNamesBelow k t.now) ts) (sym (ap (λ (m : ModelState). m.names) c.new-model.ensures)) named_below in
     let steps = c.in_ok-on_paths.ensures in
     let rows = c.in_ok-rows.ensures in
     let listed : ListsExactly (number_cmp known) (λ n. 0 < length (list_at c.in_ok-durations.durations n)) (map (λ (r : SegmentRow). r.name) c.in_ok-rows.rows.items) =
     subst (λ (k : Known). ListsExactly (number_cmp k.names) (λ n. 0 < length (list_at c.in_ok-durations.durations n)) (map (λ (r : SegmentRow). r.name) c.in_ok-rows.rows.items)) c.catalogue.ensures.catalogue rows.names in
     record {
       paths = paths;
-      critical_paths = subst (λ (l : List NamedTrace). AllZip (IsCriticalPath by_number traces) l paths) are (paths_are model traces tells ts paths zipped);
+      critical_paths = subst (λ (l : List NamedTrace). AllZip (IsCriticalPath by_number (ExcludesIn by_number traces)) l paths) are (paths_are c.bits_tell_paths.ensures model traces c.tells_exclusions.ensures tells ts paths model_below zipped);
       count = omega (arith, c.len.ensures, c.in_ok-traces.traces.ok.0, ap length are, length-map ts (λ (t : Bor NamedTrace). t.now));
       critical = c.add_lengths.ensures ∙ ap (sum_by (path_length by_number)) c.deref-5.ensures.value;
       latency = subst (λ (l : List ℕ). AreFigures l c.in_ok-latency.latency)

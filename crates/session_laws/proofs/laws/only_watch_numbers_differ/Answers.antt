@@ -17,8 +17,8 @@ returns c =
       task_count = c.a_list_is_told_in_one_way-3.ensures.counted;
       name_order = c.names_are_totally_ordered.ensures.pairs name_cmp c.names_are_totally_ordered.ensures.names;
       task_order = c.names_are_totally_ordered-2.ensures.pairs (slice_cmp nat_cmp) nat_list_cmp_total;
-      graphs = c.a_trace_has_one_graph.ensures by_kept;
-      paths = c.paths_are_one.ensures by_kept;
+      graphs = λ kept. c.a_trace_has_one_graph.ensures by_kept kept;
+      paths = λ kept. c.paths_are_one.ensures by_kept kept;
     } in
     record {
       part = part_one told;

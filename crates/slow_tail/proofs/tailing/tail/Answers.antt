@@ -14,6 +14,7 @@ use Rattle.trace_types.specs.Listing.{ListsExactly}
 use Rattle.trace_types.specs.NamedSegments.{number_of_name}
 use Rattle.trace_types.specs.Parts.{by_number, segments_of}
 use Rattle.trace_rules.specs.CriticalPaths.{IsCriticalPath}
+use Rattle.trace_rules.specs.TraceGraphs.{ExcludesIn}
 use Rattle.trace_paths.specs.NumberedPaths.{IsNamedPath, IsPathUnder}
 use Rattle.trace_paths.specs.NameOrders.{AreNamesOf, number_cmp}
 use Rattle.trace_paths.specs.Tables.{IsTableOf}
@@ -100,6 +101,9 @@ returns g c =
     let tells : AreSurvivors traces model.words = subst (AreSurvivors traces) (sym (ap (λ (m : ModelState). m.words) c.new-model.ensures)) c.words.ensures.survivors in
     let zipped : AllZip (λ (t : Bor NamedTrace) (path : List NamedSegment). IsPathUnder model t.now path) ts paths =
     subst (λ (l : List (Bor NamedTrace)). AllZip (λ (t : Bor NamedTrace) (path : List NamedSegment). IsPathUnder model t.now path) l paths) c.deref.ensures.value c.in_ok-paths.ensures in
+    let count : names ≡ c.day_book.result.now.names = c.names-names.ensures.count ∙ (sym c.names-names.ensures.kept.names ∙ ap (λ (b : BookState). b.names) (sym c.day_book.ensures.book)) in
+    let model_below : All (λ (t : Bor NamedTrace). HaveNamesBelow model.names t.now) ts =
+    subst (λ (k : ℕ). All (λ (t : Bor NamedTrace). HaveNamesBelow k t.now) ts) (sym (ap (λ (m : ModelState). m.names) c.new-model.ensures ∙ count)) c.in_ok-traces.ensures.below in
     let latencies : List ℕ = trace_latencies traces in
     let told : c.deref-3.result.now ≡ latencies =
     c.deref-3.ensures.value ∙ (c.in_ok-latencies.ensures ∙ (ap (map (λ (t : Bor NamedTrace). t.now.latency)) c.deref-2.ensures.value ∙ (latencies_shown ts ∙ ap (map (λ (t : NamedTrace). t.latency)) are))) in
@@ -120,7 +124,7 @@ returns g c =
     subst (λ (k : Known). ListsExactly (number_cmp k.names) (λ n. slice_get c.deref-7.result.now n ≡ Some true) (map (λ (r : TailRow). r.name) c.in_ok-rows.rows.items)) c.catalogue.ensures.catalogue rows.names in
     record {
       paths = paths;
-      critical_paths = subst (λ (l : List NamedTrace). AllZip (IsCriticalPath by_number traces) l paths) are (paths_are model traces tells ts paths zipped);
+      critical_paths = subst (λ (l : List NamedTrace). AllZip (IsCriticalPath by_number (ExcludesIn by_number traces)) l paths) are (paths_are c.bits_tell_paths.ensures model traces c.tells_exclusions.ensures tells ts paths model_below zipped);
       count = omega (arith, c.len.ensures, c.in_ok-traces.traces.ok.0, ap length are, length-map ts (λ (t : Bor NamedTrace). t.now));
       slow = c.in_ok-slow.ensures.count ∙ ap slow_count many;
       exact = ap (λ (l : List ℕ). count_by (λ (m : Bool). m) (slow_marks l)) (sym told) ∙ c.in_ok-slow.ensures.exact;

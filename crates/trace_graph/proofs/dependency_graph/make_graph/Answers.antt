@@ -4,12 +4,11 @@ use Rattle.trace_types.specs.declared.named_segment.NamedSegment.{NamedSegment}
 use Rattle.trace_types.specs.Parts.{by_number}
 use Rattle.weighted_dag.specs.Graphs.{Graph, IsGraph}
 use Rattle.model_meet.specs.RelationBits.{KeepsExclusion}
-use Rattle.trace_rules.specs.TraceGraphs.{HasVertices, IsGraphBy}
+use Rattle.trace_rules.specs.TraceGraphs.{HasVertices, IsTraceGraph}
 use Rattle.trace_types.proofs.FewSegmentLemmas.{few_names}
 use Rattle.trace_graph.specs.inner.Keys.{AreKeys, Key, duration_of, index_in, name_in}
 use Rattle.trace_graph.specs.inner.Successors.{AreKnown, AreLists}
 use Rattle.trace_graph.proofs.GraphLemmas.{few_keys, form_made, graph_made, names_known, vertices_made}
-use Rattle.trace_graph.proofs.ToldLemmas.{told_graph}
 use Rattle.trace_graph.proofs.dependency_graph.make_graph.Goals as goal
 
 pub sort_keys-requires : goal.sort_keys-requires
@@ -52,8 +51,8 @@ returns-clause-vertices g c =
     subst (λ (ns : List ℕ). HasVertices by_number c.args.trace.now ns c.of-2.result) (sym order)
     (subst (λ (g : Graph). HasVertices by_number c.args.trace.now (map index_in c.in_ok-keys.keys.items) g) (sym graph) made)
 
-pub returns-clause-exact : goal.returns-clause-exact
-returns-clause-exact g c =
+pub returns-clause-graph : goal.returns-clause-graph
+returns-clause-graph g c =
     let a : AreKeys c.args.trace.now.segments c.in_ok-keys.keys.items = subst (λ (s : List NamedSegment). AreKeys s c.in_ok-keys.keys.items) c.items-segments.ensures c.in_ok-keys.ensures in
     let names : c.as_slice-3.result.now ≡ map (name_in c.args.trace.now.segments) c.in_ok-keys.keys.items = c.as_slice-3.ensures.value ∙ (c.in_ok-names.ensures ∙ (ap (λ (ks : List Key). map (name_in c.items-segments.result.now) ks) c.as_slice.ensures.value ∙ ap (λ (s : List NamedSegment). map (name_in s) c.in_ok-keys.keys.items) c.items-segments.ensures)) in
     let lists = subst (λ (ns : List ℕ). AreLists (g.P.PairTest.model c.args.pairs) ns (length ns) c.in_ok-successors.successors.items) names c.in_ok-successors.ensures in
@@ -62,9 +61,5 @@ returns-clause-exact g c =
     let made = graph_made c.args.trace.now (g.P.PairTest.model c.args.pairs) c.in_ok-keys.keys.items a c.in_ok-successors.successors.items lists form in
     let order : c.of.result ≡ map index_in c.in_ok-keys.keys.items = c.of.ensures ∙ (c.in_ok-order.ensures ∙ ap (map index_in) c.as_slice-4.ensures.value) in
     let graph : c.of-2.result ≡ record { weights = map duration_of c.in_ok-keys.keys.items; successors = c.in_ok-successors.successors.items } = c.of-2.ensures ∙ ap (λ (ws : List ℕ). record { weights = ws; successors = c.in_ok-successors.successors.items }) weights in
-    subst (λ (ns : List ℕ). IsGraphBy by_number (KeepsExclusion (g.P.PairTest.model c.args.pairs).words) c.args.trace.now ns c.of-2.result) (sym order)
-    (subst (λ (d : Graph). IsGraphBy by_number (KeepsExclusion (g.P.PairTest.model c.args.pairs).words) c.args.trace.now (map index_in c.in_ok-keys.keys.items) d) (sym graph) made)
-
-pub returns-clause-graph : goal.returns-clause-graph
-returns-clause-graph g c = λ traces left.
-    told_graph (g.P.PairTest.model c.args.pairs) c.args.trace.now c.tells_exclusions.ensures c.requires traces left c.of.result c.of-2.result (returns-clause-exact g c)
+    subst (λ (ns : List ℕ). IsTraceGraph by_number (KeepsExclusion (g.P.PairTest.model c.args.pairs).words) c.args.trace.now ns c.of-2.result) (sym order)
+    (subst (λ (d : Graph). IsTraceGraph by_number (KeepsExclusion (g.P.PairTest.model c.args.pairs).words) c.args.trace.now (map index_in c.in_ok-keys.keys.items) d) (sym graph) made)

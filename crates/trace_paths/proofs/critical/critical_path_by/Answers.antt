@@ -3,4 +3,4 @@ use Rattle.trace_paths.proofs.critical.critical_path_by.Goals as goal
 
 pub returns : goal.returns
 returns c =
-    path_under c.args.exclusions.now c.args.trace.now c.in_ok-graph.graph.order c.in_ok-graph.graph.dag c.requires c.in_ok-graph.ensures.exact c.in_ok-graph.ensures.graph c.path_in.result c.path_in.ensures.path c.path_in.ensures.named
+    path_under c.args.exclusions.now c.args.trace.now c.in_ok-graph.graph.order c.in_ok-graph.graph.dag c.requires c.in_ok-graph.ensures.graph c.path_in.result c.path_in.ensures.path c.path_in.ensures.named

@@ -5,6 +5,7 @@ use Rattle.day_partitions.specs.Books.{BookState, all_traces}
 use Rattle.book_laws.specs.Shown.{AreShown}
 use Rattle.model_meet.specs.ModelStates.{ModelState}
 use Rattle.kept_books.specs.KeptBooks.{traces_in}
+use Rattle.refute_tests.specs.Clearing.{HaveNamesBelow}
 use Rattle.refute_tests.specs.Survivors.{AreSurvivors}
 use Rattle.segment_names.specs.Known.{Known}
 use Rattle.segment_names.specs.Limits.{IsKept}
@@ -53,7 +54,10 @@ returns-clause-printed g c = λ kept given.
     let fits : IsKept known = subst IsKept (sym c.catalogue-catalogue.ensures.catalogue) c.catalogue-catalogue.ensures.kept.known in
     let tells : AreSurvivors (traces_of lent) words = subst (λ (m : ModelState). AreSurvivors (traces_of lent) m.words) (sym c.new-model.ensures) (subst (λ (ts : List NamedTrace). AreSurvivors ts c.words.result.now) (sym listed) c.words.ensures.survivors) in
     let all : AreShown known (traces_of lent) kept = subst (λ (k : Known). AreShown k (traces_of lent) kept) (sym c.catalogue-catalogue.ensures.catalogue) (subst (λ (ts : List NamedTrace). AreShown c.args.book.now.known ts kept) (sym listed) given) in
-    let told = text_told known change words (traces_of lent) kept c.forecast_is_shown.ensures fits tells all fs (told_of words (changes_of known change) lent fs (each g (goal.at.returns-clause-printed g c).After-deref-3)) in
+    let count : c.new-model.result.names ≡ c.day_book.result.now.names = ap (λ (m : ModelState). m.names) c.new-model.ensures ∙ (c.names.ensures.count ∙ (sym c.names.ensures.kept.names ∙ ap (λ (b : BookState). b.names) (sym c.day_book.ensures.book))) in
+    let below : All (λ (t : Bor NamedTrace). HaveNamesBelow c.new-model.result.names t.now) lent = subst (λ (n : ℕ). All (λ (t : Bor NamedTrace). HaveNamesBelow n t.now) lent) (sym count) c.in_ok-traces.ensures.below in
+    let by_traces = told_of c.bits_tell_graphs.ensures c.new-model.result (traces_of lent) c.tells_exclusions.ensures tells (changes_of known change) lent fs below (each g (goal.at.returns-clause-printed g c).After-deref-3) in
+    let told = text_told known change (traces_of lent) kept c.forecast_is_shown.ensures fits all fs by_traces in
     let same : forecast_text (traces_of c.deref-2.result.now) c.deref-3.result.now ≡ forecast_text (traces_of lent) fs = ap (λ ts. forecast_text (traces_of ts) c.deref-3.result.now) c.deref-2.ensures.value ∙ ap (λ l. forecast_text (traces_of lent) l) c.deref-3.ensures.value in
     parts_printed g.S.Sink.written g.S.Sink.faults c.print_all.result c.args.sink.now c.print_all.new.sink (forecast_parts change kept) (forecast_text (traces_of lent) fs) c.args.buffer.now c.print_all.new.buffer told
     (subst (λ (text : List ℕ). PrintsText g.S.Sink.written g.S.Sink.faults c.print_all.result c.args.sink.now c.print_all.new.sink c.args.buffer.now c.print_all.new.buffer text) same c.print_all.ensures)

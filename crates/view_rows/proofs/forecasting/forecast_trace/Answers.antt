@@ -18,5 +18,5 @@ returns c =
     let words : HasWords g = words_of g c.weights.result.now c.weights.ensures.weights c.weights_have_words.ensures in
     if_ok c.predict.result (IsForecast t.segments order g changes) (IsForecastUnder c.args.exclusions.now.words changes t) (λ f h. record {
       short = short g h.weights f has.form words c.loses_no_more.ensures (c.changes_raise_no_weight.ensures t.segments order changes g h.weights segments c.requires.less h.changed) h.before h.after;
-      told = λ traces tells. record { order = order; graph = g; form = has.form; of_trace = c.in_ok-ordered.ensures.graph traces tells; told = h };
+      told = record { order = order; graph = g; form = has.form; of_trace = c.in_ok-ordered.ensures.graph; told = h };
     }) c.predict.ensures
