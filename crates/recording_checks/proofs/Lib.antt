@@ -1,1 +1,3 @@
+pub mod DrawnLemmas
+pub mod HoldingLemmas
 pub mod SharedLemmas
