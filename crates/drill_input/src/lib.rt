@@ -11,6 +11,3 @@ mod trace_line;
 mod trace_lines;
 
 pub use generation::generate;
-
-#[cfg(test)]
-mod tests;

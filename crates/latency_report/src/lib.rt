@@ -9,8 +9,6 @@ mod rows;
 mod segment_row;
 mod segment_row_list;
 mod tables;
-#[cfg(test)]
-mod tests;
 
 pub use full_report::FullReport;
 pub use reporting::report;

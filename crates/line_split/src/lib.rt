@@ -23,6 +23,3 @@ mod split_fault;
 pub use program::run;
 pub use reason::Reason;
 pub use split_fault::SplitFault;
-
-#[cfg(test)]
-mod tests;

@@ -41,6 +41,3 @@ pub use sure_files::SureFiles;
 pub use sure_sink::SureSink;
 pub use taken::Taken;
 pub use writing::{send_text, write_text};
-
-#[cfg(test)]
-mod tests;

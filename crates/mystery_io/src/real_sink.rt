@@ -65,26 +65,3 @@ impl<W: Write + Drop> Sink for RealSink<W> {
         }
     }
 }
-
-#[cfg(test)]
-mod tests {
-    use super::*;
-    use std::alloc::Global;
-
-    /// Writes to a list, and tells what it answered, whether the list has the bytes, and the count
-    /// of faults.
-    fn write_hello(alloc: Global) -> (Result<usize, Failed>, bool, u64) {
-        let mut sink = RealSink::new(Vec::new(alloc));
-        let answer = sink.write(b"hello");
-        (
-            answer,
-            sink.writer.as_slice() == b"hello".as_slice(),
-            sink.faults,
-        )
-    }
-
-    #[test]
-    fn a_writer_gets_the_bytes(rt: HostRuntime) {
-        assert_eq!(rt; write_hello(rt.alloc()), (Ok(5), true, 0));
-    }
-}

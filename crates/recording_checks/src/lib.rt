@@ -6,9 +6,17 @@
 #[cfg(test)]
 mod blocks;
 #[cfg(test)]
+mod drawn_rows;
+#[cfg(test)]
+mod drawn_traces;
+#[cfg(test)]
 mod gates;
 #[cfg(test)]
+mod name_rows;
+#[cfg(test)]
 mod places;
+#[cfg(test)]
+mod pools;
 #[cfg(test)]
 mod questions;
 #[cfg(test)]

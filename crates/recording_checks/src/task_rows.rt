@@ -25,7 +25,7 @@ fn empty_day(alloc: Global) -> Result<DaySheet, AllocError> {
 }
 
 /// Gives the only entry of a row.
-fn only(rt: &impl Abort, row: &Row) -> (u32, u64) {
+pub(crate) fn only(rt: &impl Abort, row: &Row) -> (u32, u64) {
     assert!(rt; row.entries().len() == 1);
     let entry = row.entries()[0];
     (entry.word, entry.mask)

@@ -67,6 +67,13 @@ pub(crate) fn swapped(alloc: Global, number: u32) -> Result<NamedTrace, AllocErr
     pair(alloc, number, segment(1, 0, 5), segment(0, 5, 9))
 }
 
+/// Makes a trace in which the segment 0 ends a nanosecond after the segment 1 starts.
+pub(crate) fn overlapping(alloc: Global, number: u32) -> Result<NamedTrace, AllocError>
+    ensures { IfOk result (HaveNamesBelow 2) }
+{
+    pair(alloc, number, segment(0, 0, 10), segment(1, 9, 20))
+}
+
 /// Makes a touching trace, or a swapped one.
 fn one_of(alloc: Global, number: u32, touch: bool) -> Result<NamedTrace, AllocError>
     ensures { IfOk result (HaveNamesBelow 2) }

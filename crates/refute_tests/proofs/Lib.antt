@@ -10,4 +10,3 @@ pub mod ClearedLemmas
 pub mod TableLemmas
 pub mod OrderLemmas
 pub mod EarlyLemmas
-pub mod TestLemmas

@@ -10,10 +10,6 @@ mod pairs;
 mod segments;
 mod sorting;
 mod tables;
-#[cfg(test)]
-mod tests;
-#[cfg(test)]
-mod way_tests;
 mod words;
 
 pub use clearing::{clear_if, starts_early};

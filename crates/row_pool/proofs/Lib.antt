@@ -1,5 +1,4 @@
 pub mod CallerLemmas
-pub mod HoldingLemmas
 pub mod LiveLemmas
 pub mod MapLemmas
 pub mod MeetLemmas

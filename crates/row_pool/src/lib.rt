@@ -7,8 +7,6 @@ mod pool;
 mod row_id;
 mod steps;
 mod storage;
-#[cfg(test)]
-mod tests;
 mod words;
 
 pub use pool::RowPool;

@@ -12,8 +12,6 @@ mod slow_traces;
 mod tail_row;
 mod tail_row_list;
 mod tailing;
-#[cfg(test)]
-mod tests;
 
 pub use slow_report::SlowReport;
 pub use tail_row::TailRow;

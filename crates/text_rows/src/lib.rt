@@ -23,6 +23,3 @@ pub use row_list::{Rows, print_rows};
 pub use row_printing::{flush, print_row};
 pub use text_printing::print_texts;
 pub use text_sink::TextSink;
-
-#[cfg(test)]
-mod tests;

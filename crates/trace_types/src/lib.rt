@@ -15,8 +15,6 @@ mod named_trace_list;
 mod segment;
 mod segment_list;
 mod short_text;
-#[cfg(test)]
-mod tests;
 mod text;
 mod timely;
 mod trace;

@@ -2,7 +2,5 @@
 #![tactic(auto)]
 
 mod limit;
-#[cfg(test)]
-mod tests;
 
 pub use limit::WorkerLimit;

@@ -1,1 +1,0 @@
--- Facts on the two segments of a test's trace.
