@@ -42,8 +42,10 @@ fn name_new(
     ensures cause { IfErr result (HasCause (PassesLimit catalogue.old (trace.now.trace ∷ []))) }
 {
     let trace = trace.copy(alloc)?;
+    // For the proof alone.
     let _before = catalogue.names();
     catalogue.add(alloc, &trace)?;
+    // For the proof alone.
     let _after = catalogue.names();
     match catalogue.name(alloc, trace) {
         Ok(named) => Ok(named.with_grace(grace)),
@@ -95,6 +97,7 @@ fn complete_all(
         → AllZip (IsNamedOrNew catalogue.old grace) traces list.entry.items
         → HasCause (PassesLimit catalogue.old traces) fault) }
 {
+    // For the proof alone.
     grown_shows();
     let _names = catalogue.names();
     for one in list {
@@ -149,6 +152,7 @@ fn name_windows<R: Threads + Sync>(
     if traces.len() <= LEAST_WINDOW {
         return name_window(rt, alloc, catalogue, texts, traces, grace, workers, named);
     }
+    // For the proof alone.
     grown_shows();
     let last = traces.split_off(traces.len() / 4)?;
     name_windows(rt, alloc, catalogue, texts, traces, grace, workers, named)?;

@@ -53,6 +53,7 @@ fn record_day<R: Threads + Sync, G: Gate + Sync>(
     ensures sheet { IfOk result (λ r. IsSheetOfDay names split r.sheet) }
     ensures watched { IfOk result (λ r. AreLinesOfDay every workers split r.watched) }
 {
+    // For the proof alone.
     numbers_are_within();
     shares_are_whole();
     let DayTraces { day, traces } = split;

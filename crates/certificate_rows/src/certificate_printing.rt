@@ -64,6 +64,7 @@ fn print_all<S: Sink>(
         (certificate_text source.now.book.now.known source.now.book.now.book.days
         source.now.refuters.now names.now tasks.now) }
 {
+    // For the proof alone.
     calls_follow::<S>();
     let before = count_refuted(source, Kind::Before, names);
     let exclusive = count_refuted(source, Kind::Exclusive, names);
@@ -94,6 +95,7 @@ pub fn print_certificate<S: Sink>(
         (why_parts kept refuted) buffer.old buffer.new }
     ensures counted { S.faults sink.new ≡ print_faults result (S.faults sink.old) }
 {
+    // For the proof alone.
     parts_follow::<SessionPart>();
     certificate_is_shown();
     let catalogue = book.catalogue();

@@ -28,6 +28,7 @@ fn print_pair<S: Sink>(
         (row_of_pair source.now.book.now.known source.now.book.now.book.days
         source.now.refuters.now kind (one, other)) }
 {
+    // For the proof alone.
     texts_follow();
     let Some(finding) = source.refuter(kind, one, other) else {
         return Ok(());
@@ -56,6 +57,7 @@ fn print_from<S: Sink>(
         (flat_map (row_of_pair source.now.book.now.known source.now.book.now.book.days
         source.now.refuters.now kind) (pairs_with one others.now)) }
 {
+    // For the proof alone.
     texts_follow();
     calls_follow::<S>();
     'others: for other in others {
@@ -79,6 +81,7 @@ pub(crate) fn print_kind<S: Sink>(
         (kind_rows source.now.book.now.known source.now.book.now.book.days
         source.now.refuters.now kind numbers.now) }
 {
+    // For the proof alone.
     texts_follow();
     calls_follow::<S>();
     'firsts: for at in 0..numbers.len() {

@@ -76,6 +76,7 @@ pub fn print_verdicts<S: Sink>(
         (verify_parts claims.now verdicts) buffer.old buffer.new }
     ensures counted { S.faults sink.new ≡ print_faults result (S.faults sink.old) }
 {
+    // For the proof alone.
     parts_follow::<SessionPart>();
     part_calls_follow::<S, SessionPart>();
     claims_are_shown();

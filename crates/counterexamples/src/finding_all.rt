@@ -36,6 +36,7 @@ fn note_trace(
     requires before { AreFirstBefore book.now words.old finding.place finding.index }
     ensures { OnOk result (AreFirstBefore book.now words.new finding.place (finding.index + 1)) }
 {
+    // For the proof alone.
     places_differ();
     places_fit();
     let row = whole_row(alloc, &book.traces(finding.place)[finding.index as usize])?;
@@ -68,6 +69,7 @@ fn note_day(
 pub fn find_all(alloc: Global, book: &DayBook) -> Result<FirstRefuters, AllocError>
     ensures { IfOk result (AreFirstRefuters book.now.names book.now.days) }
 {
+    // For the proof alone.
     places_fit();
     let width = width(book.names());
     let mut words = Vec::from_elem(alloc, WordRefuters::new(), width as usize)?;

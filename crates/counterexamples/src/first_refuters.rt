@@ -31,6 +31,7 @@ impl FirstRefuters {
         requires { IsRelation relation }
         ensures { result ≡ refuter_of self.now relation }
     {
+        // For the proof alone.
         places_fit();
         let at = place(relation);
         noted_at(&self.words, at.word, at.bit)

@@ -275,6 +275,7 @@ impl DayBook {
         ensures err { OnErr result (self.new ≡ self.old) }
         ensures sure { width_of names ≡ width_of self.old.names → IsOk result }
     {
+        // For the proof alone.
         pairs_follow();
         widened_lacks();
         self.tree.widen(width(names))?;

@@ -34,6 +34,7 @@ fn extend<L: Ledger>(
     ensures capacity { vec_capacity days.new ≡ vec_capacity days.old }
     ensures steps { steps.new ≡ steps.old + 7 }
 {
+    // For the proof alone.
     common_lacks();
     let day = &mut days[place];
     tree.meet(day.slot, sheet.words().words(), steps);

@@ -86,6 +86,7 @@ impl TextTable {
             → slice_get self.now j ≡ Some y → (i ≡ j) ↔ (x ≡ y) }
         ensures differ { AreDifferent self.now }
     {
+        // For the proof alone.
         let _texts = &self.texts;
     }
 

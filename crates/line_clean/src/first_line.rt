@@ -16,6 +16,7 @@ impl FirstLine {
     pub(crate) fn of(bytes: &[u8]) -> FirstLine
         ensures { IsFirstLine bytes.now result }
     {
+        // For the proof alone.
         pieces_say_what_the_whole_says();
         match first_line_feed(bytes) {
             Some(at) => FirstLine {

@@ -25,6 +25,7 @@ pub(crate) fn end_line<R: Threads + Sync>(
         (Passes text.old.items carry.old (10 ∷ []) text.new.items carry.new) }
     ensures ends { OnOk result (text.new.items ≡ text.old.items ++ text_with carry.old []) }
 {
+    // For the proof alone.
     pieces_say_what_the_whole_says();
     if carry.is_long {
         carry.clear();
@@ -52,6 +53,7 @@ fn take_lines<R: Threads + Sync>(
     ensures passes { OnOk result
         (Passes text.old.items carry.old bytes.now text.new.items carry.new) }
 {
+    // For the proof alone.
     pieces_say_what_the_whole_says();
     let Some(last) = last_line_feed(bytes) else {
         return carry.keep(alloc, bytes);

@@ -58,6 +58,7 @@ fn split_ended<R: Threads + Sync, P: OutputFiles>(
         → FileStops (call_of_line call.entry) file (bytes ++ piece.now) false P.written start
         outputs.new before fault) }
 {
+    // For the proof alone.
     pieces_say_what_the_whole_says();
     carry.rest.extend_from_slice(&piece[..at])?;
     carry.number = split_chunk(

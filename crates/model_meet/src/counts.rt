@@ -35,6 +35,7 @@ fn count_beside(model: &Model<'_>, name: u32) -> NameLines
     ensures orders { AreOrdersBeside model.now.words name name result.hb }
     ensures exclusions { AreExclusionsBeside model.now.words model.now.names name name result.mx }
 {
+    // For the proof alone.
     relations_are_symmetric::<NamedTrace, NamedSegment, u32, u32, u32>();
     let mut hb = 0;
     let mut mx = 0;

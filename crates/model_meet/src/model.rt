@@ -101,6 +101,7 @@ impl<'a> Model<'a> {
         ensures told { (traces : List NamedTrace) → AreSurvivors traces self.now.words
             → TellsOf self.now.words traces relation }
     {
+        // For the proof alone.
         words_tell();
         places_fit();
         let words = self.words;
@@ -116,6 +117,7 @@ impl<'a> Model<'a> {
         ensures told { (traces : List NamedTrace) → AreSurvivors traces self.now.words
             → TellsOf self.now.words traces (Exclusive low high) }
     {
+        // For the proof alone.
         words_tell();
         places_fit();
         let words = self.words;
@@ -159,6 +161,7 @@ impl<'a> Model<'a> {
         ensures told { (traces : List NamedTrace) → AreSurvivors traces self.now.words
             → IsTrue result ↔ Survives (RefutesExclusive by_number a b) traces }
     {
+        // For the proof alone.
         relations_are_symmetric::<NamedTrace, NamedSegment, u32, u32, u32>();
         let (low, high) = rising(a, b);
         self.exclusion_bit(low, high) == 1
@@ -169,6 +172,7 @@ impl<'a> Model<'a> {
     pub fn tells_exclusions(&self)
         ensures { TellsExclusions self.now }
     {
+        // For the proof alone.
         let _names = self.names;
         words_tell();
         relations_are_symmetric::<NamedTrace, NamedSegment, u32, u32, u32>();
@@ -183,6 +187,7 @@ impl<'a> Model<'a> {
         ensures told { (traces : List NamedTrace) → AreSurvivors traces self.now.words
             → IsTrue result ↔ IsRefuted (RefutesApart by_number a b) traces }
     {
+        // For the proof alone.
         relations_are_symmetric::<NamedTrace, NamedSegment, u32, u32, u32>();
         let (low, high) = rising(a, b);
         self.bit(Relation::Apart { low, high }) == 0
@@ -211,6 +216,7 @@ impl<'a> Model<'a> {
         ensures told { (traces : List NamedTrace) → AreSurvivors traces self.now.words
             → IsTrue result ↔ IsRefuted (RefutesUnshared by_number a b) traces }
     {
+        // For the proof alone.
         relations_are_symmetric::<NamedTrace, NamedSegment, u32, u32, u32>();
         let (low, high) = rising(a, b);
         self.bit(Relation::Unshared { low, high }) == 0

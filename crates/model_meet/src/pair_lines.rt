@@ -45,6 +45,7 @@ pub(crate) fn lines_between(model: &Model<'_>, a: u32, b: u32) -> PairLines
         → AreSurvivors traces model.now.words → cmp a b ≡ Less
         → IsTrue result.exclusive ↔ ExcludesUnordered by_number cmp traces a b }
 {
+    // For the proof alone.
     relations_are_symmetric::<NamedTrace, NamedSegment, u32, u32, u32>();
     if !model.together(a, b) {
         return NO_LINES;

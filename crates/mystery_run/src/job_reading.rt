@@ -72,6 +72,7 @@ pub(crate) fn read_jobs<R: Threads + Sync>(
     ensures ready { IfOk result (λ jobs. AreReady jobs.items) }
     ensures bad { IfErr result (IsLineError (lines_said_by input)) }
 {
+    // For the proof alone.
     jobs_are_ready();
     lines_of_an_input_are_good();
     let lines = into_lines(rt, alloc, workers, input)?;

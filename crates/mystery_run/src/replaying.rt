@@ -243,6 +243,7 @@ fn print_step<S: Sink>(
     ensures stepped { OnOk result (machine.new ≡ (step machine.old event.now).0) }
     ensures seats { length machine.new.views ≤ length machine.old.views + 1 }
 {
+    // For the proof alone.
     texts_follow();
     match machine.step(event) {
         Ok(reply) => print_reply(alloc, out, buffer, event, &reply),
@@ -262,6 +263,7 @@ fn print_steps<S: Sink>(
     ensures { PrintsText S.written S.faults result out.old out.new buffer.old buffer.new
         (steps_text machine.old events.now) }
 {
+    // For the proof alone.
     texts_follow();
     for event in events {
         print_step(alloc, out, buffer, machine, event)?;
@@ -282,6 +284,7 @@ fn print_run<S: Sink>(
     ensures { PrintsText S.written S.faults result out.old out.new buffer.old buffer.new
         (concat (replay_rows (Some start) events.now)) }
 {
+    // For the proof alone.
     calls_follow::<S>();
     let mut machine = Machine::new(alloc, start.width, start.shares)?;
     let (width, shares) = (u64::from(start.width), u64::from(start.shares));
@@ -322,6 +325,7 @@ pub(crate) fn print_replay<S: Sink>(
         (AppendsPrefix (S.written out.old) (S.written out.new) (replay_text file.now)) }
     ensures counted { S.faults out.new ≡ print_faults result (S.faults out.old) }
 {
+    // For the proof alone.
     flush_ends_a_text();
     let mut buffer = RowBuffer::new(alloc);
     print_rows(alloc, out, &mut buffer, file)?;

@@ -15,6 +15,7 @@ fn bounded(words: Sheet) -> Sheet
     ensures same { result ≡ words }
     ensures bound { AreWords words }
 {
+    // For the proof alone.
     let _lent = words.words();
     words
 }

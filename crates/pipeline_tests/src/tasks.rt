@@ -33,6 +33,7 @@ fn clear_below(
         (IsTrue (below (task_start (high.now.task + 1) + 1) maker.new)) }
     ensures fits { OnOk result (IsTrue (below 126 maker.old) → IsTrue (below 126 maker.new)) }
 {
+    // For the proof alone.
     below_wider();
     pairs_follow();
     for low in before {
@@ -54,6 +55,7 @@ fn clear_groups(
         (λ r. IsAmong groups.now r × RefutesTasks r trace.now) maker.new) }
     ensures fits { OnOk result (IsTrue (below 126 maker.new)) }
 {
+    // For the proof alone.
     below_wider();
     pairs_follow();
     for (index, high) in groups.iter().enumerate() {

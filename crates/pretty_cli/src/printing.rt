@@ -67,6 +67,7 @@ fn print_rows<S: Sink>(
         (S.written sink.old) (S.written sink.new) []) }
     ensures counted { S.faults sink.new ≡ print_faults result (S.faults sink.old) }
 {
+    // For the proof alone.
     flush_ends_a_text();
     let mut buffer = RowBuffer::new(alloc);
     let kind = Rows {

@@ -39,6 +39,7 @@ pub(crate) fn row_slot(greater: u32) -> u32
     ensures first { result ≡ 2016 + pairs_below greater }
     ensures room { result + greater ≤ 132832 }
 {
+    // For the proof alone.
     pairs_follow();
     let place = place(Relation::Before {
         first: 0,
@@ -62,6 +63,7 @@ pub(crate) fn turn_to(
         → clears_with maker.new next rest i b ≡ clears_with maker.old word mask i b) }
     ensures no_later { OnOk result (IsTrue (below (next + 1) maker.new)) }
 {
+    // For the proof alone.
     below_wider();
     if next == word {
         return Ok(mask);

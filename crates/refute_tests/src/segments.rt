@@ -35,6 +35,7 @@ fn clear_below(
     ensures fits { OnOk result ((n : ℕ) → segment.now.name < n
         → IsTrue (below (width_of n) maker.old) → IsTrue (below (width_of n) maker.new)) }
 {
+    // For the proof alone.
     below_wider();
     pairs_follow();
     let Some(first) = before.first() else {
@@ -69,6 +70,7 @@ pub(crate) fn clear_by_pairs(
     ensures fits { OnOk result ((n : ℕ) → All (λ (s : NamedSegment). s.name < n) segments.now
         → IsTrue (below (width_of n) maker.new)) }
 {
+    // For the proof alone.
     below_wider();
     pairs_follow();
     for (index, segment) in segments.iter().enumerate() {

@@ -123,6 +123,7 @@ pub(crate) fn clear_tables(
         ≡ (clears maker.old i b || table_clears forward.now backward.now i b)) }
     ensures fits { OnOk result (IsTrue (below (126 + length forward.now) maker.new)) }
 {
+    // For the proof alone.
     below_wider();
     for index in 0..forward.len() {
         let kinds = kinds_of_word(forward[index], backward[index]);

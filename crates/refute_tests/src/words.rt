@@ -29,6 +29,7 @@ pub(crate) fn clear_by_words(
     ensures fits { OnOk result ((n : ℕ) → All (λ (s : NamedSegment). s.name < n) segments.now
         → IsTrue (below (width_of n) maker.new)) }
 {
+    // For the proof alone.
     below_wider();
     pairs_follow();
     let Some(last) = segments.last() else {

@@ -70,6 +70,7 @@ fn cut_by<'a>(
         Ok(keys) => keys,
         Err(line) => return Err(TraceFault::ClockRange { line }),
     };
+    // For the proof alone.
     let _count = raw.len();
     let latency = span(&keys);
     let segments = list_segments(alloc, raw, tasks, keys)?;

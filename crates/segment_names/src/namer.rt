@@ -164,6 +164,7 @@ fn name_segments(
     ensures unknown { IfOk result (λ named. IfNone named (HasUnknown catalogue.now
         (segments_under texts.now segments.now))) }
 {
+    // For the proof alone.
     let _names = catalogue.names();
     let mut elements = IndexSet::new(alloc);
     let mut named = Vec::with_capacity(alloc, segments.len())?;
@@ -217,6 +218,7 @@ impl<'a> Namer<'a> {
         ensures unknown { IfOk result
             (λ r. IfNone r (HasUnknown self.new.known trace.now.trace.segments)) }
     {
+        // For the proof alone.
         numbering_is_one_to_one::<NameText>();
         numbering_is_one_to_one::<Text>();
         let named = name_segments(

@@ -130,6 +130,7 @@ impl Catalogue {
         ensures named { IfOk result (λ named. IsNamed self.now named trace) }
         ensures refused { IfErr result (IsRefused self.now trace) }
     {
+        // For the proof alone.
         numbering_is_one_to_one::<NameText>();
         numbering_is_one_to_one::<Text>();
         match name_segments(self, alloc, trace.segments.items()) {

@@ -166,6 +166,7 @@ impl Tables {
             ≡ Some task.now) }
         ensures filed { AreFiled self.now }
     {
+        // For the proof alone.
         let _names = &self.names;
         match self.look_up_by_hint(task, start, end) {
             Some(found) => Some(found),

@@ -102,6 +102,7 @@ pub(crate) fn print_added<S: Sink>(
     ensures { PrintsText S.written S.faults result sink.old sink.new buffer.old buffer.new
         (added_text refused.now watched.now) }
 {
+    // For the proof alone.
     calls_follow::<S>();
     print_rows(sink, buffer, &RefusedRows, refused)?;
     print_rows(sink, buffer, &DayRows, watched)

@@ -90,6 +90,7 @@ fn name_and_widen<R: Threads + Sync>(
         (λ b. All (HaveNamesBelow (length b.book.known.names)) b.named.items) }
     ensures cause { IfErr result (HasNamesCause book.known (map cut_trace traces.entry.items)) }
 {
+    // For the proof alone.
     names_grow();
     let (mut catalogue, days) = book.into_parts();
     let named = name_batch(rt, alloc, &mut catalogue, texts, traces, grace, workers)?;
@@ -160,6 +161,7 @@ impl Session {
         ensures cause { IfErr result (λ fault. (valid : List Trace) → AreShown self.old.known
             named.items (graced_by self.old.grace valid) → HasDaysCause self.old valid fault) }
     {
+        // For the proof alone.
         no_more_are_sheeted();
         let days = list_days_within(self.alloc, &self.book, &named)?;
         let recorded = record_batch(
@@ -199,6 +201,7 @@ impl Session {
             → gathered.now.traces ≡ traces_of events → (s : State) → Shows self s
             → HasAddCause events s fault) }
     {
+        // For the proof alone.
         no_more_are_valid();
         add_leads_on();
         add_passes_days();
@@ -232,6 +235,7 @@ impl Session {
         ensures cause { IfErr result (λ fault. (s : State) → Shows self s
             → HasAddCause events s fault) }
     {
+        // For the proof alone.
         traces_keep_facts();
         let gathered = gather(rt, self.alloc, events.into_parts(), self.workers)?;
         self.add_gathered(rt, &gathered, gate)

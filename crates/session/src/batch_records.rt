@@ -66,6 +66,7 @@ pub(crate) fn record_batch<R: Threads + Sync, G: Gate + Sync>(
     ensures { IfOk result (λ r. (kept : List Kept) → AreShown book.now.known named.items kept
         → AreSheets book.now.known workers watch kept r.sheets.items r.watched.items) }
 {
+    // For the proof alone.
     watch_lines_are_told_by_text();
     let split = split_by_day(alloc, named, days)?;
     record_days(rt, alloc, book.names(), workers, watch, split, gate)

@@ -36,6 +36,7 @@ impl Session {
         ensures counted { S.faults out.new ≡ command_faults result (S.faults out.old) }
         ensures untouched { IfErr result (λ fault. IsLimitFault fault → out.new ≡ out.old) }
     {
+        // For the proof alone.
         flush_ends_parts::<SessionPart>();
         let mut session = self;
         let mut buffer = RowBuffer::new(session.alloc);
@@ -67,6 +68,7 @@ impl Session {
         ensures counted { S.faults out.new ≡ command_faults result (S.faults out.old) }
         ensures untouched { IfErr result (λ fault. IsLimitFault fault → out.new ≡ out.old) }
     {
+        // For the proof alone.
         flush_ends_a_text();
         let mut buffer = RowBuffer::new(self.alloc);
         let added = self.add_batch(rt, events, gate)?;

@@ -89,6 +89,7 @@ impl Session {
         ensures kept { kept_count self.new ≤ kept_count self.old }
         ensures counted { S.faults sink.new ≡ print_faults result (S.faults sink.old) }
     {
+        // For the proof alone.
         drop_shows();
         part_calls_follow::<S, SessionPart>();
         let count = self.drop_from_book(day);
@@ -108,6 +109,7 @@ impl Session {
         ensures kept { kept_count self.new ≤ kept_count self.old }
         ensures counted { S.faults sink.new ≡ print_faults result (S.faults sink.old) }
     {
+        // For the proof alone.
         newest_show();
         part_calls_follow::<S, SessionPart>();
         let count = self.keep_in_book(days);

@@ -46,6 +46,7 @@ impl Session {
         ensures kept { kept_count self.new ≤ kept_count self.old }
         ensures counted { S.faults sink.new ≡ print_faults result (S.faults sink.old) }
     {
+        // For the proof alone.
         parts_follow::<SessionPart>();
         names_are_listed();
         match command {
@@ -84,6 +85,7 @@ impl Session {
         ensures kept { kept_count self.new ≤ kept_count self.old }
         ensures counted { S.faults sink.new ≡ print_faults result (S.faults sink.old) }
     {
+        // For the proof alone.
         names_are_listed();
         refutations_are_listed();
         claims_have_verdicts();

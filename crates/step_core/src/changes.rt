@@ -13,6 +13,7 @@ use word_rows::{Reply, Row, Sheet, StepEvent};
 fn cleared_word(word: u64, mask: u64) -> u64
     ensures { result ≡ without word mask }
 {
+    // For the proof alone.
     complement_clears();
     word & !mask
 }
@@ -27,6 +28,7 @@ impl Tables {
         ensures follows { OnOk result (Follows self.old (StepEvent.Clear seat row.now) self.new) }
         ensures err { OnErr result (self.new ≡ self.old) }
     {
+        // For the proof alone.
         same_row_is_one();
         let place = seat as usize;
         let entries = row.entries();

@@ -11,6 +11,7 @@ pub(crate) fn copy_event(alloc: Global, event: &StepEvent) -> Result<StepEvent, 
 {
     match event {
         StepEvent::Clear { seat, row } => {
+            // For the proof alone.
             let _entries = row.entries();
             let row = row.copy(alloc)?;
             Ok(StepEvent::Clear { seat: *seat, row })

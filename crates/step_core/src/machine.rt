@@ -41,6 +41,7 @@ impl Machine {
         requires shares { 0 < shares }
         ensures { IfOk result (λ m. m ≡ opening_state width shares) }
     {
+        // For the proof alone.
         opening_is_sound();
         Ok(Machine {
             alloc,
@@ -62,6 +63,7 @@ impl Machine {
         ensures seats { length self.new.views ≤ length self.old.views + 1 }
         ensures sound { IsSoundState self.new }
     {
+        // For the proof alone.
         step_keeps_sound();
         if let Some(fault) = self.tables.fault(event) {
             return Err(fault);

@@ -104,10 +104,12 @@ impl Recorder {
             traces,
             names: _,
         } = recording;
+        // For the proof alone.
         met_rows_survive();
         rows_clear_refuted();
         match table.close(alloc, pass) {
             Ok(closed) => {
+                // For the proof alone.
                 let _bound = closed.words.words();
                 Ok(DaySheet::of_words(traces, closed.words))
             }

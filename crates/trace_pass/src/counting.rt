@@ -43,6 +43,7 @@ pub(crate) fn read_number(recorder: &Recorder, part: &mut Part<'_>, into: &mut [
     ensures bound { AreWords into.new }
     ensures least { IsAtLeastRefuted by_number (recording_of part.old).traces result }
 {
+    // For the proof alone.
     places_differ();
     places_fit();
     pairs_follow();

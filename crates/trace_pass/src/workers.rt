@@ -61,6 +61,7 @@ fn watch(
         → IsWatching every recorder.now.table.width worker (offered + 1) share base
         part.new.pass.view.readings lines.new.items) }
 {
+    // For the proof alone.
     block_lacks();
     lacks_append();
     let done = offered + 1;

@@ -64,6 +64,7 @@ fn print_whole<R: Threads + Sync, S: Sink, K: TraceTexts>(
         (K.part texts.now) buffer.old buffer.new }
     ensures counted { S.faults sink.new ≡ print_faults result (S.faults sink.old) }
 {
+    // For the proof alone.
     part_calls_follow::<S, SessionPart>();
     print_header(sink, buffer, word, book)?;
     print_days(workers, alloc, book, texts, sink, buffer)

@@ -160,6 +160,7 @@ fn print_parts_of_graph<S: Sink>(
         (flat_map (vertex_row numbered.now) (range_with_len 0 (order_of graph.now))
         ++ flat_map (edge_rows graph.now) (range_with_len 0 (order_of graph.now))) }
 {
+    // For the proof alone.
     calls_follow::<S>();
     let count = numbered.count();
     print_first(sink, buffer, &NumberRows { trace: numbered }, count)?;
@@ -177,6 +178,7 @@ fn print_graph<S: Sink>(
     ensures { PrintsText S.written S.faults result sink.old sink.new buffer.old buffer.new
         (graph_rows numbered.now graph.now) }
 {
+    // For the proof alone.
     calls_follow::<S>();
     print_counts_row(sink, buffer, numbered, graph)?;
     print_parts_of_graph(sink, buffer, numbered, graph)
@@ -211,6 +213,7 @@ impl TraceTexts for GraphTexts {
         sink: &mut S,
         buffer: &mut RowBuffer,
     ) -> Result<(), PrintFault> {
+        // For the proof alone.
         graph_is_shown();
         names_are_shown();
         part_calls_follow::<S, SessionPart>();

@@ -100,6 +100,7 @@ fn print_path<S: Sink>(
     ensures { PrintsText S.written S.faults result sink.old sink.new buffer.old buffer.new
         (path_rows numbered.now chain.now.length chain.now.vertices) }
 {
+    // For the proof alone.
     calls_follow::<S>();
     print_path_row(sink, buffer, numbered, chain)?;
     print_chain(
@@ -137,6 +138,7 @@ impl TraceTexts for PathTexts {
         sink: &mut S,
         buffer: &mut RowBuffer,
     ) -> Result<(), PrintFault> {
+        // For the proof alone.
         graph_is_shown();
         names_are_shown();
         part_calls_follow::<S, SessionPart>();

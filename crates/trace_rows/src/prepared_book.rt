@@ -71,9 +71,11 @@ impl<'a> PreparedBook<'a> {
         })) }
         ensures form { IfOk result (λ g. IsGraph g.dag) }
     {
+        // For the proof alone.
         bits_tell_graphs();
         self.exclusions.rows().tells_exclusions();
         let made = graph_by(alloc, trace, &self.exclusions)?;
+        // For the proof alone.
         let _weights = made.dag.weights();
         Ok(made)
     }

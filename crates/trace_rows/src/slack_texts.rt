@@ -99,6 +99,7 @@ fn print_table<S: Sink>(
     ensures { PrintsText S.written S.faults result sink.old sink.new buffer.old buffer.new
         (slack_rows numbered.now table.now.longest table.now.slacks.items) }
 {
+    // For the proof alone.
     calls_follow::<S>();
     print_length_row(sink, buffer, numbered, table.longest)?;
     let slacks = table.slacks.as_slice();
@@ -136,6 +137,7 @@ impl TraceTexts for SlackTexts {
         sink: &mut S,
         buffer: &mut RowBuffer,
     ) -> Result<(), PrintFault> {
+        // For the proof alone.
         graph_is_shown();
         names_are_shown();
         part_calls_follow::<S, SessionPart>();

@@ -79,6 +79,7 @@ fn print_in_turn<S: Sink, K: TraceTexts>(
         buffer.old buffer.new }
     ensures counted { S.faults sink.new ≡ print_faults result (S.faults sink.old) }
 {
+    // For the proof alone.
     parts_follow::<SessionPart>();
     part_calls_follow::<S, SessionPart>();
     for place in 0..traces.len() {
@@ -102,6 +103,7 @@ fn make_text<K: TraceTexts>(
     ensures { IfOk result (λ text. IsShownText book.now (K.part texts.now)
         (map (λ (t : Bor NamedTrace). t.now) traces.now) text.items) }
 {
+    // For the proof alone.
     flush_ends_parts::<SessionPart>();
     let mut sink = TextSink::new(alloc);
     let mut buffer = RowBuffer::new(alloc);
@@ -129,6 +131,7 @@ fn make_texts<R: Threads + Sync, K: TraceTexts>(
         (map (λ (t : Bor NamedTrace). t.now) (traces_of_pieces pieces.now))
         (all_bytes made.items)) }
 {
+    // For the proof alone.
     parts_follow::<SessionPart>();
     let made: Result<Vec<Vec<u8>>, AllocError> = pieces
         .par_iter()
@@ -165,6 +168,7 @@ fn print_chunk<R: Threads + Sync, S: Sink, K: TraceTexts>(
         buffer.old buffer.new }
     ensures counted { S.faults sink.new ≡ print_faults result (S.faults sink.old) }
 {
+    // For the proof alone.
     parts_follow::<SessionPart>();
     let pieces = cut_pieces(alloc, traces)?;
     if pieces.len() < 2 || workers.most < 2 {
@@ -192,6 +196,7 @@ pub(crate) fn print_each<R: Threads + Sync, S: Sink, K: TraceTexts>(
         buffer.old buffer.new }
     ensures counted { S.faults sink.new ≡ print_faults result (S.faults sink.old) }
 {
+    // For the proof alone.
     parts_follow::<SessionPart>();
     part_calls_follow::<S, SessionPart>();
     let mut at = 0;
@@ -216,6 +221,7 @@ pub(crate) fn print_days<R: Threads + Sync, S: Sink, K: TraceTexts>(
         (K.part texts.now) (traces_in book.now) buffer.old buffer.new }
     ensures counted { S.faults sink.new ≡ print_faults result (S.faults sink.old) }
 {
+    // For the proof alone.
     parts_follow::<SessionPart>();
     let traces = list_traces(alloc, book)?;
     let prepared = PreparedBook::of(alloc, book)?;

@@ -37,6 +37,7 @@ pub(crate) fn print_chain<S: Sink, K: VertexRows>(
     ensures { PrintsText S.written S.faults result sink.old sink.new buffer.old buffer.new
         (flat_map (K.text rows.now) vertices.now) }
 {
+    // For the proof alone.
     texts_follow();
     calls_follow::<S>();
     for vertex in vertices {
@@ -56,6 +57,7 @@ pub(crate) fn print_first<S: Sink, K: VertexRows>(
     ensures { PrintsText S.written S.faults result sink.old sink.new buffer.old buffer.new
         (flat_map (K.text rows.now) (range_with_len 0 count)) }
 {
+    // For the proof alone.
     texts_follow();
     calls_follow::<S>();
     for vertex in 0..count {

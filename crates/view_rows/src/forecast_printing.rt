@@ -104,6 +104,7 @@ fn print_each<S: Sink>(
     ensures { PrintsText S.written S.faults result sink.old sink.new buffer.old buffer.new
         (forecast_rows (map (λ (t : Bor NamedTrace). t.now) traces.now) forecasts.now) }
 {
+    // For the proof alone.
     texts_follow();
     calls_follow::<S>();
     for place in 0..traces.len() {
@@ -125,6 +126,7 @@ fn print_all<S: Sink>(
     ensures { PrintsText S.written S.faults result sink.old sink.new buffer.old buffer.new
         (forecast_text (map (λ (t : Bor NamedTrace). t.now) traces.now) forecasts.now) }
 {
+    // For the proof alone.
     calls_follow::<S>();
     print_head(sink, buffer, forecasts)?;
     print_each(sink, buffer, traces, forecasts)
@@ -152,8 +154,10 @@ pub fn print_forecasts<R: Threads + Sync, S: Sink>(
         (forecast_parts change.now kept) buffer.old buffer.new }
     ensures counted { S.faults sink.new ≡ print_faults result (S.faults sink.old) }
 {
+    // For the proof alone.
     bits_tell_graphs();
     forecast_is_shown();
+    // For the proof alone.
     parts_follow::<SessionPart>();
     let catalogue = book.catalogue();
     let model = Model::new(book.words(), book.names());

@@ -38,6 +38,7 @@ fn forecast_trace(
     requires less { All IsNoGreater changes.now }
     ensures { IfOk result (IsForecastUnder exclusions.now.words changes.now trace.now) }
 {
+    // For the proof alone.
     graph_has_segments();
     changes_raise_no_weight();
     loses_no_more();

@@ -169,6 +169,7 @@ fn print_found<S: Sink>(
     ensures { PrintsText S.written S.faults result sink.old sink.new buffer.old buffer.new
         (model_text model.now.traces (figures_in model.now)) }
 {
+    // For the proof alone.
     calls_follow::<S>();
     print_header(sink, buffer, model)?;
     print_orders(sink, buffer, model)?;

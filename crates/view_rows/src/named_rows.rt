@@ -46,6 +46,7 @@ pub(crate) fn print_each<S: Sink, K: NamedRows>(
         buffer.old buffer.new }
     ensures counted { S.faults sink.new ≡ print_faults result (S.faults sink.old) }
 {
+    // For the proof alone.
     parts_follow::<SessionPart>();
     part_calls_follow::<S, SessionPart>();
     for item in items {

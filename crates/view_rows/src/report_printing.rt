@@ -36,6 +36,7 @@ pub(crate) fn print_first_rows<S: Sink>(
         (ReportHead kept ∷ LatenciesOf kept ∷ []) buffer.old buffer.new }
     ensures counted { S.faults sink.new ≡ print_faults result (S.faults sink.old) }
 {
+    // For the proof alone.
     part_calls_follow::<S, SessionPart>();
     print_report_head(sink, buffer, report)?;
     print_latency(sink, buffer, &report.latency)
@@ -60,6 +61,7 @@ pub fn print_report<R: Threads + Sync, S: Sink>(
         (report_parts kept names) buffer.old buffer.new }
     ensures counted { S.faults sink.new ≡ print_faults result (S.faults sink.old) }
 {
+    // For the proof alone.
     parts_follow::<SessionPart>();
     part_calls_follow::<S, SessionPart>();
     names_are_below();

@@ -16,6 +16,7 @@ use trace_types::{NameText, NamedSegment, NamedTrace, Segment, Text};
 pub(crate) fn found_is_shown()
     ensures { FoundIsShown }
 {
+    // For the proof alone.
     numbering_is_one_to_one::<NameText>();
     numbering_is_one_to_one::<Text>();
     renamed_traces_leave_alike::<
@@ -36,6 +37,7 @@ pub(crate) fn found_is_shown()
 pub(crate) fn paths_are_shown()
     ensures { PathsAreShown }
 {
+    // For the proof alone.
     graph_is_shown();
     numbering_is_one_to_one::<NameText>();
 }
@@ -45,6 +47,7 @@ pub(crate) fn report_is_shown()
     ensures { ReportIsShown }
 {
     paths_are_shown();
+    // For the proof alone.
     numbering_is_one_to_one::<NameText>();
     names_are_totally_ordered::<NameText>();
     a_list_is_told_in_one_way::<NameText>();
@@ -55,6 +58,7 @@ pub(crate) fn tail_is_shown()
     ensures { TailIsShown }
 {
     paths_are_shown();
+    // For the proof alone.
     numbering_is_one_to_one::<NameText>();
     names_are_totally_ordered::<NameText>();
     a_list_is_told_in_one_way::<NameText>();
@@ -69,6 +73,7 @@ pub(crate) fn names_are_below()
 pub(crate) fn forecast_is_shown()
     ensures { ForecastIsShown }
 {
+    // For the proof alone.
     graph_is_shown();
     numbering_is_one_to_one::<NameText>();
 }

@@ -34,6 +34,7 @@ pub fn print_summary<R: Threads + Sync, S: Sink>(
         (summary_parts kept) buffer.old buffer.new }
     ensures counted { S.faults sink.new ≡ print_faults result (S.faults sink.old) }
 {
+    // For the proof alone.
     parts_follow::<SessionPart>();
     part_calls_follow::<S, SessionPart>();
     report_is_shown();

@@ -37,6 +37,7 @@ pub fn print_tail<R: Threads + Sync, S: Sink>(
         (tail_parts kept names) buffer.old buffer.new }
     ensures counted { S.faults sink.new ≡ print_faults result (S.faults sink.old) }
 {
+    // For the proof alone.
     parts_follow::<SessionPart>();
     part_calls_follow::<S, SessionPart>();
     names_are_below();

@@ -69,6 +69,7 @@ fn end(
     ensures ends { EndsWith table.shared.key.width table.shared.key.all seat.me.0.pasts
         seat.me.0.view (slots_items result.words) }
 {
+    // For the proof alone.
     events_keep_sound();
     whole_share_knows_all();
     table.close_with(seat)

@@ -29,6 +29,7 @@ impl MeetTable {
         ensures more { KnowsMore pass.old.pasts pass.new.pasts }
         ensures one { IsOnePast pass.new.pasts }
     {
+        // For the proof alone.
         row_is_same();
         let entries = row.entries();
         for at in 0..entries.len() {

@@ -69,6 +69,7 @@ impl MeetTable {
             → (history : List StepEvent) → ArePrefixes pass.new.pasts history
             → WasCleared self.now.width self.now.all history i (slice_index into.new i) b }
     {
+        // For the proof alone.
         events_keep_sound();
         load_words(&self.table.shared, &mut pass.seat, into);
     }

@@ -41,6 +41,7 @@ fn clear_entry<L: Offered>(
     ensures table { seat.new.table_id ≡ seat.old.table_id }
     ensures seat { Clears shared.now.key row.now seat.old.me seat.new.me }
 {
+    // For the proof alone.
     events_keep_sound();
     complement_clears();
     let Entry { word, mask } = row[at];
@@ -68,6 +69,7 @@ fn skip_entry<L: Offered>(
     ensures seat { MatchBool result (Clears shared.now.key row.now seat.old.me seat.new.me)
         (seat.new.me ≡ seat.old.me) }
 {
+    // For the proof alone.
     events_keep_sound();
     let Entry { word, mask } = row[at];
     shared.load::<Skip<L>>(seat, word as usize) & mask == 0
@@ -111,6 +113,7 @@ pub(crate) fn load_word<P: Planned>(
     ensures table { seat.new.table_id ≡ seat.old.table_id }
     ensures seat { Loads shared.now.key word result seat.old.me seat.new.me }
 {
+    // For the proof alone.
     events_keep_sound();
     shared.load::<Load<P>>(seat, word)
 }
@@ -129,6 +132,7 @@ pub(crate) fn split_shares<N: Counted>(
     ensures new { (result.table_id ≡ seat.old.table_id)
         × (result.me ≡ (new_knowledge count seat.old.me.0, [])) }
 {
+    // For the proof alone.
     events_keep_sound();
     shared.split_seat::<SplitOff<N>>(seat)
 }
@@ -148,6 +152,7 @@ pub(crate) fn join_seats(
     ensures table { seat.new.table_id ≡ seat.old.table_id }
     ensures seat { seat.new.me ≡ (joined_knowledge seat.old.me.0 other.me.0, seat.old.me.1) }
 {
+    // For the proof alone.
     events_keep_sound();
     shared.join_seat::<JoinUp>(seat, other);
 }
@@ -164,6 +169,7 @@ pub(crate) fn tell_seat<P: Planned>(
     ensures table { seat.new.table_id ≡ seat.old.table_id }
     ensures seat { TellsOneHistory shared.now.key seat.old.me seat.new.me }
 {
+    // For the proof alone.
     events_keep_sound();
     shared.load::<Tell<P>>(seat, 0);
 }

@@ -45,6 +45,7 @@ pub fn offer_and_read_beside<R: Threads + Sync>(
     ensures { IfSome result
         (λ r. OfferedInOneHistory width 2 row.now other_row.now r.0.items r.1.items r.2) }
 {
+    // For the proof alone.
     not_both_miss();
     block_lacks();
     lacks_append();
