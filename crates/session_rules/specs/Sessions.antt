@@ -50,14 +50,14 @@ first_state =
 
 -- the state with other kept traces
 abbrev pub with_kept : State → List Kept → State
-with_kept s kept = record { kept = kept; known = s.known; watch = s.watch; grace = s.grace }
+with_kept s kept = record s { kept = kept }
 
 -- the state with this watch number, or this grace
 abbrev pub with_watch : State → ℕ → State
-with_watch s every = record { kept = s.kept; known = s.known; watch = every; grace = s.grace }
+with_watch s every = record s { watch = every }
 
 abbrev pub with_grace : State → ℕ → State
-with_grace s micros = record { kept = s.kept; known = s.known; watch = s.watch; grace = micros }
+with_grace s micros = record s { grace = micros }
 
 -- valid traces with the grace that holds
 abbrev pub graced : State → List Trace → List Kept
@@ -69,11 +69,9 @@ kept_after s valid = with_taken s.kept (graced s valid)
 
 -- the state after an add of these valid traces
 abbrev pub state_after : State → List Trace → State
-state_after s valid = record {
+state_after s valid = record s {
   kept = kept_after s valid;
   known = with_traces s.known valid;
-  watch = s.watch;
-  grace = s.grace;
 }
 
 -- the most days of kept traces
@@ -175,16 +173,11 @@ Does workers Why s parts next = (next ≡ s) × ((refuted : Refutations)
 Does workers (Verify claims) s parts next = (next ≡ s) × ((verdicts : List Bool)
     × AllZip (IsVerdict s.kept) claims verdicts × (parts ≡ verify_parts claims verdicts))
 
--- a job passes this limit: it prints nothing
+-- a job passes this limit: it prints nothing. None but an add passes one
 abbrev pub Passes : Job → State → Limit → Type 0
 Passes (Add events) s limit = (valid : List Trace) × (refused : List Refused)
     × AreJudged (traces_of events) valid refused × PassesLimitOf s valid limit
-Passes (Control command) s limit = ⊥
-Passes Summary s limit = ⊥
-Passes (WhatIf change) s limit = ⊥
-Passes Tail s limit = ⊥
-Passes Why s limit = ⊥
-Passes (Verify claims) s limit = ⊥
+Passes job s limit = ⊥
 
 -- jobs, one after another, print these parts and leave this state
 abbrev pub Leads : ℕ → List Job → State → List Part → State → Type 0
