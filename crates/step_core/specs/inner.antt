@@ -1,3 +1,5 @@
 -- What private contracts alone cite.
 pub mod Briefs
 pub mod Naming
+pub mod PlainDigits
+pub mod StepNumbers
