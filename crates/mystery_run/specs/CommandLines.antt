@@ -41,9 +41,8 @@ some_files (file ∷ files) = if list_all is_filled (file ∷ files) then Some (
 
 -- exactly one file
 abbrev pub one_file : List (List ℕ) → Option (List ℕ)
-one_file [] = None
 one_file (file ∷ []) = if is_filled file then Some file else None
-one_file (file ∷ other ∷ files) = None
+one_file files = None
 
 -- the view with this name
 abbrev pub named_view : List ℕ → Option View
@@ -146,14 +145,8 @@ files_of_action (replay file) = file ∷ []
 -- the file of the certificate that is checked, which is no part of the input; none where there is
 -- no check
 abbrev pub certificate_of_action : Action → List (List ℕ)
-certificate_of_action (session files) = []
-certificate_of_action (view v files) = []
-certificate_of_action (what_if change files) = []
-certificate_of_action (tail files) = []
-certificate_of_action (why files) = []
 certificate_of_action (verify file files) = file ∷ []
-certificate_of_action (drill number traces) = []
-certificate_of_action (replay file) = []
+certificate_of_action action = []
 
 -- the files of the input, none where the arguments are outside the grammar or ask for a drill
 abbrev pub files_of : List (List ℕ) → List (List ℕ)

@@ -17,11 +17,10 @@ pub data Hypothesis (N T : Type 0) : Type 0 where
 
 -- the hypothesis with its two sides exchanged, where their order does not matter
 abbrev pub exchanged_hypothesis : {N T : Type 0} → Hypothesis N T → Hypothesis N T
-exchanged_hypothesis (Before a b) = Before a b
 exchanged_hypothesis (Exclusive a b) = Exclusive b a
 exchanged_hypothesis (Apart a b) = Apart b a
-exchanged_hypothesis (Pipe t u) = Pipe t u
 exchanged_hypothesis (Unshared t u) = Unshared u t
+exchanged_hypothesis hypothesis = hypothesis
 
 -- two hypotheses are one: equal, or equal once the sides of one are exchanged
 abbrev pub IsSame : {N T : Type 0} → Hypothesis N T → Hypothesis N T → Type 0
