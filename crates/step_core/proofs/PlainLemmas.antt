@@ -11,7 +11,7 @@ use Rattle.std.proofs.lemmas.Str.Parse.{IsNumeralModel, IsDigitsTest, numerals_b
 use Rattle.std.specs.Str.{bytes_eq}
 use Rattle.std.proofs.lemmas.Slice.Eq.{bytes_eq-Decides}
 use Rattle.step_core.specs.Numbers.{plain_number}
-use Rattle.step_core.specs.inner.PlainDigits.{has_leading_zero, is_plain}
+use Rattle.step_core.specs.PlainDigits.{has_leading_zero, is_plain}
 
 tells : IsDigitsTest (λ ds. list_all is_ascii_digit ds ≡ true)
 tells = search rules
@@ -113,3 +113,11 @@ plain_value word r h k = by (nat_lt (digits_value 10 word) (2 ^ 32)) refl
         let s : bytes_eq (decimal (digits_value 10 word)) word ≡ true = same_word (digits_value 10 word) word (printed word h (ltb-true (digits_value 10 word) (2 ^ 32) e)) in
         k ∙ rw (e, s) refl
     by false e = k ∙ rw e refl
+
+-- the number of a word, by its digits
+pub by_digits : (word : List ℕ) → plain_number word ≡ (if is_plain word && nat_lt (digits_value 10 word) (2 ^ 32) then Some (digits_value 10 word) else None)
+by_digits word = by (is_plain word) refl
+  where
+    by : (a : Bool) → is_plain word ≡ a → plain_number word ≡ (if a && nat_lt (digits_value 10 word) (2 ^ 32) then Some (digits_value 10 word) else None)
+    by true e = sym (plain_value word _ e refl)
+    by false e = sym (not_plain word e)

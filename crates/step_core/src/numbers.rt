@@ -4,7 +4,7 @@ ghost use Rattle.std.specs.List.{list_all};
 ghost use Rattle.std.specs.Char.{is_ascii_digit, digit_value as digit_value_of};
 ghost use Rattle.std.specs.Str.Parse.{digits_value};
 ghost use Rattle.step_core.specs.Numbers.{is_mask_digit, mask_number, plain_number};
-ghost use Rattle.step_core.specs.inner.PlainDigits.{has_leading_zero, is_plain};
+ghost use Rattle.step_core.specs.PlainDigits.{has_leading_zero, is_plain};
 
 /// The greatest number of digits of a mask.
 const MASK_DIGITS: usize = 16;
