@@ -7,7 +7,7 @@ use Rattle.trace_types.specs.Segments.{SegmentName}
 use Rattle.std.proofs.lemmas.Slice.Eq.{bytes_eq-Decides}
 use Rattle.step_core.specs.Numbers.{plain_number}
 use Rattle.certificates.specs.Claims.{claim_of_fields}
-use Rattle.certificates.specs.Texts.{name_of_texts, text_of}
+use Rattle.certificates.specs.Claims.{name_of_texts, text_of}
 use Rattle.certificates.specs.inner.ClaimParts.{claim_of_kind, names_then_place, parted_claim, place_said, placed_claim, tasks_then_place}
 use Rattle.certificates.specs.declared.claim.Claim.{Claim}
 use Rattle.certificates.specs.declared.matter.Matter.{Matter}

@@ -1,12 +1,12 @@
 -- What one line of a certificate says: a claim, or the header.
 use Rattle.std.specs.Prelude.{ℕ, ◌==◌, ◌&&◌, List, [], ◌∷◌, codes, Bool, false, nat_eq}
-use Rattle.std.specs.Prelude.{if◌then◌else◌, Option, None, option_map, is_some, length, drop}
+use Rattle.std.specs.Prelude.{if◌then◌else◌, Option, Some, None, option_map, is_some, length, drop, not}
 use Rattle.std.specs.Option.{option_zip}
 use Rattle.std.specs.List.{slice_split, starts_with}
-use Rattle.std.specs.Str.{bytes_eq}
+use Rattle.std.specs.Str.{bytes_eq, is_utf8}
 use Rattle.step_core.specs.Numbers.{plain_number}
 use Rattle.trace_types.specs.Segments.{SegmentName}
-use Rattle.certificates.specs.Texts.{name_of_texts, text_of}
+use Rattle.event_lines.specs.EventFaults.{is_bad_text}
 use Rattle.certificates.specs.declared.claim.Claim.{Claim}
 use Rattle.certificates.specs.declared.matter.Matter.{Matter}
 use Rattle.certificates.specs.declared.matter.Matter.TheVariants.{Before, Exclusive, Pipe}
@@ -30,6 +30,16 @@ are_header_fields fields = false
 -- the line has the fields of the header
 abbrev pub is_header : List ℕ → Bool
 is_header line = are_header_fields (line_fields line)
+
+-- the text that a field is: 1 to 64 bytes of UTF-8 without ASCII control characters
+abbrev pub text_of : List ℕ → Option (List ℕ)
+text_of field = if is_utf8 field && not (is_bad_text field) then Some field else None
+
+-- the name of these three texts: its task, its start event and its end event
+abbrev pub name_of_texts : List ℕ → List ℕ → List ℕ → Option SegmentName
+name_of_texts task start end =
+    option_map (λ t. (t.0, t.1.0, t.1.1))
+    (option_zip (text_of task) (option_zip (text_of start) (text_of end)))
 
 -- the relation of this kind of two names
 abbrev pub matter_of_names : List ℕ → Option (SegmentName × SegmentName) → Option Matter

@@ -5,7 +5,7 @@ use Rattle.std.specs.Int.{is_in_range}
 use Rattle.std.specs.Str.{bytes_eq}
 use Rattle.std.proofs.lemmas.Bool.{and_parts, leb-true}
 use Rattle.mystery_run.specs.CommandLines.{Action, Call, action_of_words, action_over, call_of, call_of_words, call_with, change_of_words, drill, drill_of_words, is_filled, named_action, named_view, one_file, replay, session, some_files, tail, verify, verify_of_words, view, view_of_words, what_if, what_if_of_words, why}
-use Rattle.mystery_run.specs.Numbers.{number_between}
+use Rattle.mystery_run.specs.CommandLines.{number_between}
 use Rattle.step_core.specs.Numbers.{plain_number}
 
 -- a drill has few traces

@@ -5,12 +5,13 @@ use Rattle.std.specs.Prelude.{ℕ, ◌^◌, ◌==◌, List, [], ◌∷◌, ◌++
 use Rattle.std.specs.Prelude.{if◌then◌else◌, Option, Some, None, is_some, option_map}
 use Rattle.std.specs.Prelude.{option_and_then}
 use Rattle.std.specs.Option.{option_map_or}
+use Rattle.std.specs.Int.{is_in_range}
 use Rattle.std.specs.List.{list_all}
 use Rattle.std.specs.Str.{bytes_eq}
 use Rattle.mystery_run.specs.declared.view.View.{View}
 use Rattle.mystery_run.specs.declared.view.View.TheVariants.{Model, Paths, Slack, Report, Graph}
-use Rattle.mystery_run.specs.Numbers.{number_between}
 use Rattle.session_rules.specs.declared.named_change.NamedChange.{NamedChange}
+use Rattle.step_core.specs.Numbers.{plain_number}
 
 -- what is asked for: the control lines of these files; these and then a view, a forecast, the
 -- report on the slowest traces, a certificate, or the check of the certificate in another file; a
@@ -29,6 +30,12 @@ pub data Action : Type 0 where
 pub record Call : Type 0 where
   pub workers : ℕ
   pub action : Action
+
+-- the number from low to high, both included, that the text is in plain digits, without a sign or a
+-- leading zero
+abbrev pub number_between : ℕ → ℕ → List ℕ → Option ℕ
+number_between low high word =
+    option_and_then (λ n. if is_in_range low high n then Some n else None) (plain_number word)
 
 -- a file is any argument that is not empty, and so is a text of a name
 abbrev pub is_filled : List ℕ → Bool

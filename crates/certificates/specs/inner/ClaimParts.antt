@@ -6,7 +6,7 @@ use Rattle.std.specs.Str.{bytes_eq}
 use Rattle.step_core.specs.Numbers.{plain_number}
 use Rattle.trace_types.specs.Segments.{SegmentName}
 use Rattle.certificates.specs.Claims.{is_count}
-use Rattle.certificates.specs.Texts.{name_of_texts, text_of}
+use Rattle.certificates.specs.Claims.{name_of_texts, text_of}
 use Rattle.certificates.specs.declared.claim.Claim.{Claim}
 use Rattle.certificates.specs.declared.matter.Matter.{Matter}
 use Rattle.certificates.specs.declared.matter.Matter.TheVariants.{Before, Exclusive, Pipe}
