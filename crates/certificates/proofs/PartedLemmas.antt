@@ -16,9 +16,9 @@ use Rattle.certificates.specs.declared.trace_place.TracePlace.{TracePlace}
 
 -- ---- choices
 
-zip_none : {A B : Type 0} (o : Option A) (none : Option B) → none ≡ None → option_zip o none ≡ None
-zip_none None none e = refl
-zip_none (Some x) none e = ap (option_zip (Some x)) e
+zip_none : {A B : Type 0} (o : Option A) (other : Option B) → other ≡ None → option_zip o other ≡ None
+zip_none None other e = refl
+zip_none (Some x) other e = ap (option_zip (Some x)) e
 
 map_none : {A B : Type 0} (f : A → B) (o : Option A) → o ≡ None → option_map f o ≡ None
 map_none f o e = ap (option_map f) e
@@ -66,14 +66,14 @@ placed n f None place = refl
 placed n f (Some x) None = refl
 placed n f (Some x) (Some place) = refl
 
-names_claim : (n : ℕ) (b c d : Bool) (names : Option (SegmentName × SegmentName)) (place : Place) (none : Option Claim) → none ≡ None
+names_claim : (n : ℕ) (b c d : Bool) (names : Option (SegmentName × SegmentName)) (place : Place) (last : Option Claim) → last ≡ None
     → (if b then option_map (λ p. placed_claim n (Before p.0.0 p.0.1) p.1) (option_zip names (place_from place)) else (
-    if c then option_map (λ p. placed_claim n (Exclusive p.0.0 p.0.1) p.1) (option_zip names (place_from place)) else (if d then none else None)))
+    if c then option_map (λ p. placed_claim n (Exclusive p.0.0 p.0.1) p.1) (option_zip names (place_from place)) else (if d then last else None)))
     ≡ claim_from n (if b then option_map (λ p. Before p.0 p.1) names else (if c then option_map (λ p. Exclusive p.0 p.1) names else None)) place
-names_claim n true c d names place none e = placed n (λ q. Before q.0 q.1) names place
-names_claim n false true d names place none e = placed n (λ q. Exclusive q.0 q.1) names place
-names_claim n false false true names place none e = e
-names_claim n false false false names place none e = refl
+names_claim n true c d names place last e = placed n (λ q. Before q.0 q.1) names place
+names_claim n false true d names place last e = placed n (λ q. Exclusive q.0 q.1) names place
+names_claim n false false true names place last e = e
+names_claim n false false false names place last e = refl
 
 tasks_claim : (n : ℕ) (b c d : Bool) → (b ≡ true → d ≡ false) → (c ≡ true → d ≡ false) → (tasks : Option (List ℕ × List ℕ)) (place : Place)
     → (if b then None else (if c then None else (if d then option_map (λ p. placed_claim n (Pipe p.0.0 p.0.1) p.1) (option_zip tasks (place_from place)) else None)))
