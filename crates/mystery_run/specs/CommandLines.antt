@@ -60,10 +60,6 @@ named_view name =
     if bytes_eq name (codes "report") then Some Report else (
     if bytes_eq name (codes "graph") then Some Graph else None))))
 
--- a view of the files that these arguments name
-abbrev pub view_of_words : List (List ℕ) → View → Option Action
-view_of_words words v = option_map (view v) (some_files words)
-
 -- the segments of a name take `num / den` of their time: the name's three texts, and the numbers,
 -- of which `den` is from 1 to 1,000,000 and `num` from 0 to `den`
 abbrev pub change_of_words : List ℕ → List ℕ → List ℕ → List ℕ → List ℕ → Option NamedChange
@@ -102,7 +98,7 @@ action_over name words =
     if bytes_eq name (codes "tail") then option_map tail (some_files words) else (
     if bytes_eq name (codes "why") then option_map why (some_files words) else (
     if bytes_eq name (codes "replay") then option_map replay (one_file words) else
-    option_and_then (view_of_words words) (named_view name))))
+    option_and_then (λ v. option_map (view v) (some_files words)) (named_view name))))
 
 -- what the command with this name and these arguments after it asks for
 abbrev pub named_action : List ℕ → List (List ℕ) → Option Action

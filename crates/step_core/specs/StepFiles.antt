@@ -5,7 +5,6 @@ use Rattle.std.specs.Result.{result_map_both}
 use Rattle.event_lines.specs.Cut.{input_lines}
 use Rattle.event_lines.specs.InputLines.{numbered_lines, all_or_first_error}
 use Rattle.word_rows.specs.declared.events.StepEvent.{StepEvent}
-use Rattle.step_core.specs.declared.start.Start.{Start}
 use Rattle.step_core.specs.declared.step_file.StepFile.{StepFile}
 use Rattle.step_core.specs.declared.step_line_error.StepLineError.{StepLineError}
 use Rattle.step_core.specs.declared.step_line_error.StepLineError.TheVariants.{Memory, Bad}
