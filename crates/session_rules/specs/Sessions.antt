@@ -48,17 +48,6 @@ abbrev pub first_state : State
 first_state =
     record { kept = []; known = record { names = []; tasks = [] }; watch = 0; grace = 0 }
 
--- the state with other kept traces
-abbrev pub with_kept : State → List Kept → State
-with_kept s kept = record s { kept = kept }
-
--- the state with this watch number, or this grace
-abbrev pub with_watch : State → ℕ → State
-with_watch s every = record s { watch = every }
-
-abbrev pub with_grace : State → ℕ → State
-with_grace s micros = record s { grace = micros }
-
 -- valid traces with the grace that holds
 abbrev pub graced : State → List Trace → List Kept
 graced s valid = map (kept_with (1000 * s.grace)) valid
@@ -143,13 +132,13 @@ verify_parts claims verdicts =
 abbrev pub Commands : Command → State → List Part → State → Type 0
 Commands commands.Add s parts next = ⊥
 Commands (commands.Drop day) s parts next =
-    (next ≡ with_kept s (without_day day s.kept))
+    (next ≡ record s { kept = without_day day s.kept })
     × (parts ≡ Dropped day (length (traces_on day s.kept)) ∷ [])
-Commands (commands.Keep days) s parts next = (next ≡ with_kept s (newest days s.kept))
+Commands (commands.Keep days) s parts next = (next ≡ record s { kept = newest days s.kept })
     × ((count : ℕ) × (length (newest days s.kept) + count ≡ length s.kept)
     × (parts ≡ KeptNewest days count ∷ []))
-Commands (commands.Watch every) s parts next = (next ≡ with_watch s every) × (parts ≡ [])
-Commands (commands.Grace micros) s parts next = (next ≡ with_grace s micros) × (parts ≡ [])
+Commands (commands.Watch every) s parts next = (next ≡ record s { watch = every }) × (parts ≡ [])
+Commands (commands.Grace micros) s parts next = (next ≡ record s { grace = micros }) × (parts ≡ [])
 Commands commands.Model s parts next = (next ≡ s) × (parts ≡ ModelOf s.kept ∷ [])
 Commands commands.Paths s parts next = (next ≡ s)
     × (parts ≡ Header (codes "paths") (length s.kept) ∷ map (PathOf s.kept) s.kept)
