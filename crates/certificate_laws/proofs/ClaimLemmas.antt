@@ -7,7 +7,7 @@ use Rattle.std.specs.Str.{is_utf8}
 use Rattle.std.proofs.lemmas.Bool.{or_parts}
 use Rattle.std.proofs.lemmas.List.Elements.{All-contains}
 use Rattle.certificates.specs.Claims.{are_header_fields, claim_of_fields, claim_said, is_header}
-use Rattle.certificates.specs.Texts.{name_of_texts}
+use Rattle.certificates.specs.Claims.{name_of_texts}
 use Rattle.certificates.specs.declared.claim.Claim.{Claim}
 use Rattle.certificates.specs.declared.matter.Matter.{Matter}
 use Rattle.certificates.specs.declared.matter.Matter.TheVariants.{Before, Exclusive, Pipe}

@@ -13,7 +13,7 @@ use Rattle.segment_names.specs.Limits.{Fits, PassesLimit}
 use Rattle.segment_names.specs.declared.name_fault.NameLimit.TheVariants.{Names, Tasks}
 use Rattle.session_rules.specs.KeptTraces.{Kept, day_of, greater_days, is_of_day, kept_with}
 use Rattle.session_rules.specs.Parts.{Part}
-use Rattle.session_rules.specs.Sessions.{Adds, Commands, Does, Leads, State, first_state, graced, with_kept}
+use Rattle.session_rules.specs.Sessions.{Adds, Commands, Does, Leads, State, first_state, graced}
 use Rattle.session_rules.specs.declared.job.Job.{Job}
 use Rattle.session_rules.specs.declared.job.Job.TheVariants as jobs
 use Rattle.session_rules.specs.declared.limit.Limit.TheVariants.{Names, Tasks}
@@ -110,7 +110,7 @@ pub record IsKnowing (s : State) : Type 0 where
 stays : (s next : State) → IsKnowing s → next ≡ s → IsKnowing next
 stays s next h e = subst IsKnowing (sym e) h
 
-fewer : (p : Kept → Bool) (s next : State) → IsKnowing s → next ≡ with_kept s (filter p s.kept) → IsKnowing next
+fewer : (p : Kept → Bool) (s next : State) → IsKnowing s → next ≡ record s { kept = filter p s.kept } → IsKnowing next
 fewer p s next h e = subst IsKnowing (sym e) (record { fits = h.fits; each = All-filter p (IsKnownTrace s.known) s.kept h.each })
 
 added : (workers : ℕ) (events : List Event) (s next : State) (parts : List Part) → IsKnowing s → Adds workers events s parts next → IsKnowing next

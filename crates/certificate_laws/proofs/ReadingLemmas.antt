@@ -1,13 +1,13 @@
 -- A printed certificate is read as its claims.
 use Rattle.std.proofs.Common.{◌≡◌, ℕ, ◌+◌, ◌^◌, ◌<◌, not, List, [], ◌∷◌, ◌++◌, Bool, true, false, Option, Some, Ok, Err, length, map, refl, sym, ap, ◌∙◌, subst, arith, length-append}
-use Rattle.std.specs.Prelude.{All, slice_get, if◌then◌else◌}
+use Rattle.std.specs.Prelude.{All, Result, slice_get, if◌then◌else◌}
 use Rattle.std.specs.List.{AllZip, enumerate_from, join_with_byte}
 use Rattle.std.specs.Option.{option_map_or}
 use Rattle.std.specs.Result.{result_map_both}
 use Rattle.std.proofs.lemmas.Bool.{cond-true, eq-eqb}
 use Rattle.std.proofs.lemmas.List.Filters.{length-filter_both}
 use Rattle.std.proofs.lemmas.List.Elements.{All-cons, All-nil, filter-append}
-use Rattle.certificates.specs.Certificates.{certificate_of_lines, certificate_said, claims_of_lines, numbered_claim}
+use Rattle.certificates.specs.Certificates.{certificate_of_lines, certificate_said, claims_of_lines}
 use Rattle.certificates.specs.Claims.{claim_said, is_header}
 use Rattle.certificates.specs.declared.claim.Claim.{Claim}
 use Rattle.certificates.specs.declared.matter.Matter.{Matter}
@@ -23,6 +23,10 @@ use Rattle.certificate_laws.specs.Printable.{IsPrintable}
 use Rattle.certificate_laws.specs.ReadingLaws.{AreClaimsOf, IsCertificate, IsClaimOf}
 use Rattle.certificate_laws.proofs.ClaimLemmas.{ArePrintable, claim_for, header_clean, header_fields, header_not_blank, header_read, matter_printable, row_clean, row_fields, row_not_blank, row_said}
 use Rattle.certificate_laws.proofs.RowLemmas.{row_cut}
+
+-- the claim of a numbered line, or the number of the line
+abbrev numbered_claim : ℕ × List ℕ → Result Claim ℕ
+numbered_claim line = option_map_or Ok (claim_said line.0 line.1) (Err line.0)
 
 -- ---- the trace of a claim
 

@@ -1,11 +1,11 @@
 -- Printed rows are cut into lines and fields again.
 use Rattle.std.proofs.Common.{◌≡◌, ℕ, ◌<◌, ◌≤◌, ◌==◌, List, [], ◌∷◌, ◌++◌, false, refl, ap, ◌∙◌, arith, append_assoc, codes}
-use Rattle.std.specs.Prelude.{All, nat_lt}
+use Rattle.std.specs.Prelude.{All, Bool, nat_lt}
 use Rattle.std.specs.List.{join_with_byte, list_any}
 use Rattle.std.proofs.lemmas.Bool.{or_parts, ltb-false, ne_eqb}
 use Rattle.std.proofs.lemmas.List.Elements.{All-append, All-cons, All-nil}
 use Rattle.std.proofs.lemmas.List.Splits.{slice_split_at, slice_split_none}
-use Rattle.certificates.specs.Claims.{line_fields, is_tab}
+use Rattle.certificates.specs.Claims.{line_fields}
 use Rattle.event_lines.specs.Cut.{input_lines, is_line_feed}
 use Rattle.event_lines.specs.EventFaults.{is_control_character}
 use Rattle.text_rows.specs.Rows.{row_of}
@@ -30,6 +30,10 @@ lacks c low [] h = All-nil (λ b. (b == c) ≡ false)
 lacks c low (b ∷ bytes) h =
     let p = or_parts (is_control_character b) (list_any is_control_character bytes) h in
     All-cons (λ b. (b == c) ≡ false) b bytes (other b c p.0 low) (lacks c low bytes p.1)
+
+-- a tab
+abbrev is_tab : ℕ → Bool
+is_tab byte = byte == 9
 
 -- fields that are joined by tabs are cut at them
 pub fields_back : (field : List ℕ) (fields : List (List ℕ)) → AreClean (field ∷ fields) → line_fields (join_with_byte 9 (field ∷ fields)) ≡ field ∷ fields

@@ -1,6 +1,6 @@
 -- Kept traces whose certificate can be read again.
 use Rattle.std.specs.Prelude.{◌≡◌, ℕ, ◌<◌, ◌^◌, List, All, Some}
-use Rattle.certificates.specs.Texts.{text_of}
+use Rattle.certificates.specs.Claims.{text_of}
 use Rattle.session_rules.specs.KeptTraces.{Kept, day_of}
 use Rattle.trace_types.specs.declared.segment.Segment.{Segment}
 

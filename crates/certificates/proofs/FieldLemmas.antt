@@ -1,7 +1,8 @@
 -- Fields of a line: too few or too many, and the first 12.
 use Rattle.std.proofs.Common.{◌≡◌, ℕ, suc, ◌<◌, ◌≤◌, List, [], ◌∷◌, length, map, take, false, None, arith, refl}
 use Rattle.std.specs.Borrow.{Bor}
-use Rattle.certificates.specs.Claims.{are_header_fields, claim_of_fields, names_then_place, place_said, tasks_then_place}
+use Rattle.certificates.specs.Claims.{are_header_fields}
+use Rattle.certificates.specs.inner.ClaimParts.{names_then_place, parted_claim, place_said, tasks_then_place}
 
 -- ---- how many there are
 
@@ -27,7 +28,7 @@ names_below (a ∷ b ∷ c ∷ d ∷ []) h = refl
 names_below (a ∷ b ∷ c ∷ d ∷ e ∷ []) h = refl
 names_below (a ∷ b ∷ c ∷ d ∷ e ∷ f ∷ fs) h = absurd (omega arith)
 
-pub claim_below : (n : ℕ) (fs : List (Bor (List ℕ))) → length fs < 2 → None ≡ claim_of_fields n (map (λ f. f.now) fs)
+pub claim_below : (n : ℕ) (fs : List (Bor (List ℕ))) → length fs < 2 → None ≡ parted_claim n (map (λ f. f.now) fs)
 claim_below n [] h = refl
 claim_below n (a ∷ []) h = refl
 claim_below n (a ∷ b ∷ fs) h = absurd (omega arith)
@@ -62,7 +63,7 @@ tasks_first [] = refl
 tasks_first (a ∷ []) = refl
 tasks_first (a ∷ b ∷ fs) = rw (place_first 4 fs) refl
 
-pub claim_first : (n : ℕ) (fs : List (List ℕ)) → claim_of_fields n (take 12 fs) ≡ claim_of_fields n fs
+pub claim_first : (n : ℕ) (fs : List (List ℕ)) → parted_claim n (take 12 fs) ≡ parted_claim n fs
 claim_first n [] = refl
 claim_first n (a ∷ []) = refl
 claim_first n (a ∷ b ∷ fs) = rw (names_first fs, tasks_first fs) refl

@@ -1,3 +1,4 @@
 pub mod ClaimLemmas
 pub mod FieldLemmas
+pub mod PartedLemmas
 pub mod TextLemmas

@@ -3,7 +3,7 @@ use Rattle.std.proofs.Common.{◌≡◌, ℕ, List, Bool, true, false, Some, Non
 use Rattle.std.specs.Str.{IsUtf8, is_utf8}
 use Rattle.std.proofs.lemmas.Str.{IsUtf8-from_is_utf8, is_utf8-from_IsUtf8}
 use Rattle.event_lines.specs.EventFaults.{is_bad_text}
-use Rattle.certificates.specs.Texts.{text_of}
+use Rattle.certificates.specs.Claims.{text_of}
 
 -- bytes that are not UTF-8 are none
 pub not_utf8 : (field : List ℕ) → (IsUtf8 field → ⊥) → None ≡ text_of field

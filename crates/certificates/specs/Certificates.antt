@@ -8,13 +8,10 @@ use Rattle.certificates.specs.declared.claim.Claim.{Claim}
 use Rattle.certificates.specs.declared.cert_fault.CertFault.{CertFault}
 use Rattle.certificates.specs.declared.cert_fault.CertFault.TheVariants.{Memory, Bad}
 
--- the claim of a numbered line, or the number of the line
-abbrev pub numbered_claim : ℕ × List ℕ → Result Claim ℕ
-numbered_claim line = option_map_or Ok (claim_said line.0 line.1) (Err line.0)
-
 -- the claims of numbered lines, or the number of the first line that makes none
 abbrev pub claims_of_lines : List (ℕ × List ℕ) → Result (List Claim) ℕ
-claims_of_lines lines = all_or_first_error (map numbered_claim lines)
+claims_of_lines lines =
+    all_or_first_error (map (λ line. option_map_or Ok (claim_said line.0 line.1) (Err line.0)) lines)
 
 -- the claims of a certificate with these numbered lines: the first is the header, and each other
 -- one makes a claim; or the number of the first that does not

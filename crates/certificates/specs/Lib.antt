@@ -1,3 +1,3 @@
 pub mod Certificates
 pub mod Claims
-pub mod Texts
+pub mod inner

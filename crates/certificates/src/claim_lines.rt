@@ -1,7 +1,8 @@
 ghost use Rattle.std.specs.Prelude.{◌≡◌, IfOk, map};
-ghost use Rattle.certificates.specs.Claims.{claim_of_fields, claim_of_kind, claim_said};
-ghost use Rattle.certificates.specs.Claims.{claim_at, names_then_place, place_said, place_of_parts};
-ghost use Rattle.certificates.specs.Claims.{tasks_then_place};
+ghost use Rattle.certificates.specs.Claims.{claim_said};
+ghost use Rattle.certificates.specs.inner.ClaimParts.{claim_of_kind, names_then_place, parted_claim};
+ghost use Rattle.certificates.specs.inner.ClaimParts.{place_of_parts, place_said, placed_claim};
+ghost use Rattle.certificates.specs.inner.ClaimParts.{tasks_then_place};
 
 use crate::fields::first_fields;
 use crate::texts::{read_name, read_text};
@@ -90,7 +91,7 @@ fn read_tasks_then_place(
 
 /// Makes the claim that the trace at this place refutes this relation.
 fn claim_at(line: u32, matter: Matter, place: TracePlace) -> Claim
-    ensures { result ≡ claim_at line matter place }
+    ensures { result ≡ placed_claim line matter place }
 {
     Claim {
         line,
@@ -134,7 +135,7 @@ fn read_kind(
 /// Reads the claim of the fields of a line. The only error is out of memory.
 fn read_fields(alloc: Global, number: u32, fields: &[&[u8]]) -> Result<Option<Claim>, AllocError>
     ensures { IfOk result (λ claim.
-        claim ≡ claim_of_fields number (map (λ f. f.now) fields.now)) }
+        claim ≡ parted_claim number (map (λ f. f.now) fields.now)) }
 {
     let [word, kind, fields @ ..] = fields else {
         return Ok(None);

@@ -1,6 +1,6 @@
 ghost use Rattle.std.specs.Prelude.{◌≡◌, IfOk, map};
-ghost use Rattle.certificates.specs.Claims.{are_header_fields, are_header_parts};
-ghost use Rattle.certificates.specs.Claims.{is_count, is_header};
+ghost use Rattle.certificates.specs.Claims.{are_header_fields, is_count, is_header};
+ghost use Rattle.certificates.specs.inner.ClaimParts.{are_header_parts};
 
 use crate::fields::first_fields;
 use std::alloc::{AllocError, Global};

@@ -1,5 +1,5 @@
 ghost use Rattle.std.specs.Prelude.{◌≡◌, IfOk, option_map};
-ghost use Rattle.certificates.specs.Texts.{name_of_texts, text_of};
+ghost use Rattle.certificates.specs.Claims.{name_of_texts, text_of};
 
 use event_lines::is_bad_text;
 use std::alloc::{AllocError, Global};

@@ -25,13 +25,8 @@ pub record Line : Type 0 where
 
 -- an event with no message
 abbrev pub plain_event : List ℕ → List ℕ → List ℕ → ℕ → Line
-plain_event machine task event time = record {
-  machine = machine;
-  task = task;
-  event = event;
-  time = time;
-  message = [];
-}
+plain_event machine task event time =
+    record { machine = machine; task = task; event = event; time = time; message = [] }
 
 -- an event that sends a message, and one that receives it
 abbrev pub sending : List ℕ → List ℕ → List ℕ → ℕ → List ℕ → Line
@@ -73,11 +68,8 @@ line_of k line = codes "{" ++ join_with_byte 44 (
 -- the lines of the trace with this index, from 0, by draws from a number: five for each trace
 abbrev pub lines_of_trace : ℕ → ℕ → List ℕ
 lines_of_trace number k = flat_map (line_of k) (lines_of (trace_start k)
-    (draw number (5 * k))
-    (draw number (5 * k + 1))
-    (draw number (5 * k + 2))
-    (draw number (5 * k + 3))
-    (draw number (5 * k + 4)))
+    (draw number (5 * k)) (draw number (5 * k + 1)) (draw number (5 * k + 2))
+    (draw number (5 * k + 3)) (draw number (5 * k + 4)))
 
 -- the input of this many traces by draws from a number
 abbrev pub drill_input : ℕ → ℕ → List ℕ

@@ -4,8 +4,8 @@ use Rattle.std.specs.Prelude.{IfSome, if◌then◌else◌, nat_lt, nat_le, optio
 use Rattle.std.specs.Int.{is_in_range}
 use Rattle.std.specs.Str.{bytes_eq}
 use Rattle.std.proofs.lemmas.Bool.{and_parts, leb-true}
-use Rattle.mystery_run.specs.CommandLines.{Action, Call, action_of_words, action_over, call_of, call_of_words, call_with, change_of_words, drill, drill_of_words, is_filled, named_action, named_view, one_file, replay, session, some_files, tail, verify, verify_of_words, view, view_of_words, what_if, what_if_of_words, why}
-use Rattle.mystery_run.specs.Numbers.{number_between}
+use Rattle.mystery_run.specs.CommandLines.{Action, Call, action_of_words, action_over, call_of, call_of_words, call_with, change_of_words, drill, drill_of_words, is_filled, named_action, named_view, one_file, replay, session, some_files, tail, verify, verify_of_words, view, what_if, what_if_of_words, why}
+use Rattle.mystery_run.specs.CommandLines.{number_between}
 use Rattle.step_core.specs.Numbers.{plain_number}
 
 -- a drill has few traces
@@ -66,7 +66,7 @@ over_few name words =
     few_if (bytes_eq name (codes "tail")) _ _ (few_map tail (λ x. tt) (some_files words)) (
     few_if (bytes_eq name (codes "why")) _ _ (few_map why (λ x. tt) (some_files words)) (
     few_if (bytes_eq name (codes "replay")) _ _ (few_map replay (λ x. tt) (one_file words))
-    (few_then (view_of_words words) (λ v. few_map (view v) (λ x. tt) (some_files words)) (named_view name)))))
+    (few_then (λ v. option_map (view v) (some_files words)) (λ v. few_map (view v) (λ x. tt) (some_files words)) (named_view name)))))
 
 named_few : (name : List ℕ) (words : List (List ℕ)) → Few (named_action name words)
 named_few name words =

@@ -5,12 +5,13 @@ use Rattle.std.specs.Prelude.{ℕ, ◌^◌, ◌==◌, List, [], ◌∷◌, ◌++
 use Rattle.std.specs.Prelude.{if◌then◌else◌, Option, Some, None, is_some, option_map}
 use Rattle.std.specs.Prelude.{option_and_then}
 use Rattle.std.specs.Option.{option_map_or}
+use Rattle.std.specs.Int.{is_in_range}
 use Rattle.std.specs.List.{list_all}
 use Rattle.std.specs.Str.{bytes_eq}
 use Rattle.mystery_run.specs.declared.view.View.{View}
 use Rattle.mystery_run.specs.declared.view.View.TheVariants.{Model, Paths, Slack, Report, Graph}
-use Rattle.mystery_run.specs.Numbers.{number_between}
 use Rattle.session_rules.specs.declared.named_change.NamedChange.{NamedChange}
+use Rattle.step_core.specs.Numbers.{plain_number}
 
 -- what is asked for: the control lines of these files; these and then a view, a forecast, the
 -- report on the slowest traces, a certificate, or the check of the certificate in another file; a
@@ -30,6 +31,12 @@ pub record Call : Type 0 where
   pub workers : ℕ
   pub action : Action
 
+-- the number from low to high, both included, that the text is in plain digits, without a sign or a
+-- leading zero
+abbrev pub number_between : ℕ → ℕ → List ℕ → Option ℕ
+number_between low high word =
+    option_and_then (λ n. if is_in_range low high n then Some n else None) (plain_number word)
+
 -- a file is any argument that is not empty, and so is a text of a name
 abbrev pub is_filled : List ℕ → Bool
 is_filled word = not (length word == 0)
@@ -41,9 +48,8 @@ some_files (file ∷ files) = if list_all is_filled (file ∷ files) then Some (
 
 -- exactly one file
 abbrev pub one_file : List (List ℕ) → Option (List ℕ)
-one_file [] = None
 one_file (file ∷ []) = if is_filled file then Some file else None
-one_file (file ∷ other ∷ files) = None
+one_file files = None
 
 -- the view with this name
 abbrev pub named_view : List ℕ → Option View
@@ -53,10 +59,6 @@ named_view name =
     if bytes_eq name (codes "slack") then Some Slack else (
     if bytes_eq name (codes "report") then Some Report else (
     if bytes_eq name (codes "graph") then Some Graph else None))))
-
--- a view of the files that these arguments name
-abbrev pub view_of_words : List (List ℕ) → View → Option Action
-view_of_words words v = option_map (view v) (some_files words)
 
 -- the segments of a name take `num / den` of their time: the name's three texts, and the numbers,
 -- of which `den` is from 1 to 1,000,000 and `num` from 0 to `den`
@@ -96,7 +98,7 @@ action_over name words =
     if bytes_eq name (codes "tail") then option_map tail (some_files words) else (
     if bytes_eq name (codes "why") then option_map why (some_files words) else (
     if bytes_eq name (codes "replay") then option_map replay (one_file words) else
-    option_and_then (view_of_words words) (named_view name))))
+    option_and_then (λ v. option_map (view v) (some_files words)) (named_view name))))
 
 -- what the command with this name and these arguments after it asks for
 abbrev pub named_action : List ℕ → List (List ℕ) → Option Action
@@ -146,14 +148,8 @@ files_of_action (replay file) = file ∷ []
 -- the file of the certificate that is checked, which is no part of the input; none where there is
 -- no check
 abbrev pub certificate_of_action : Action → List (List ℕ)
-certificate_of_action (session files) = []
-certificate_of_action (view v files) = []
-certificate_of_action (what_if change files) = []
-certificate_of_action (tail files) = []
-certificate_of_action (why files) = []
 certificate_of_action (verify file files) = file ∷ []
-certificate_of_action (drill number traces) = []
-certificate_of_action (replay file) = []
+certificate_of_action action = []
 
 -- the files of the input, none where the arguments are outside the grammar or ask for a drill
 abbrev pub files_of : List (List ℕ) → List (List ℕ)

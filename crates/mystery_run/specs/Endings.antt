@@ -3,8 +3,6 @@ use Rattle.std.specs.Prelude.{ℕ, ◌≡◌, ◌⊎◌, List, [], ⊤}
 use Rattle.std.specs.Prelude.{Option, Some, None, Ok, Err}
 use Rattle.std.specs.Io.KnownBytes.{append_known}
 use Rattle.mystery_io.specs.Prefixes.{AppendsPrefix}
-use Rattle.session.specs.declared.command_fault.CommandFault.{CommandFault}
-use Rattle.session.specs.declared.command_fault.CommandFault.TheVariants as faults
 use Rattle.mystery_run.specs.declared.outcome.Outcome.{Outcome}
 use Rattle.mystery_run.specs.declared.outcome.Outcome.TheVariants.{Done, Memory, Arguments, BadLine}
 use Rattle.mystery_run.specs.declared.outcome.Outcome.TheVariants.{File, Write, Size, Over}
@@ -70,9 +68,3 @@ IsDecided Size = ⊤
 IsDecided Memory = ⊥
 IsDecided (File index) = ⊥
 IsDecided Write = ⊥
-
--- the ending of a run whose jobs end with this fault
-abbrev pub outcome_of : CommandFault → Outcome
-outcome_of faults.Memory = Memory
-outcome_of faults.Write = Write
-outcome_of (faults.Over limit) = Over limit

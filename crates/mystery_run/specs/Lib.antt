@@ -1,7 +1,6 @@
 pub mod CommandLines
 pub mod Endings
 pub mod Messages
-pub mod Numbers
 pub mod Readings
 pub mod RealRuns
 pub mod ReplayTexts

@@ -21,12 +21,8 @@ pub record Seen : Type 0 where
 -- the same, by what the sink tells in its states before and now
 abbrev pub run_seen : {S : Type 0} → List (List ℕ) → FilesSeen → (S → Option (List ℕ)) → S → S
     → Seen
-run_seen words files written old new = record {
-  words = words;
-  files = files;
-  written_before = written old;
-  written_now = written new;
-}
+run_seen words files written old new =
+    record { words = words; files = files; written_before = written old; written_now = written new }
 
 -- P holds of the certificate and the input that were read: what the reads gave of the first files, as
 -- many as the arguments name for a certificate, and what they gave of the rest

@@ -19,8 +19,7 @@ use Rattle.mystery_run.specs.declared.reason.Reason.{Reason}
 use Rattle.mystery_run.specs.declared.reason.Reason.TheVariants as reasons
 use Rattle.mystery_run.specs.declared.view.View.{View}
 use Rattle.mystery_run.specs.declared.view.View.TheVariants.{Model, Paths, Slack, Report, Graph}
-use Rattle.mystery_run.specs.CommandLines.{Action, session, view, what_if, tail, why, verify}
-use Rattle.mystery_run.specs.CommandLines.{drill, replay}
+use Rattle.mystery_run.specs.CommandLines.{Action, view, what_if, tail, why, verify, drill, replay}
 
 -- jobs that a session carries out, or a file of steps that is replayed
 pub data Work : Type 0 where
@@ -31,16 +30,6 @@ pub data Work : Type 0 where
 pub record BadInput : Type 0 where
   pub line : ℕ
   pub why : Reason
-
--- the bad line of a log of events, of a file of steps, or of a certificate
-abbrev pub bad_line : LineFault → BadInput
-bad_line fault = record { line = fault.line; why = reasons.Line fault.why }
-
-abbrev pub bad_step : ℕ → BadInput
-bad_step line = record { line = line; why = reasons.Step }
-
-abbrev pub bad_claim : ℕ → BadInput
-bad_claim line = record { line = line; why = reasons.Certificate }
 
 -- the command that prints a view
 abbrev pub view_command : View → Command
@@ -53,14 +42,13 @@ view_command Graph = commands.Graph
 -- the last job that an action asks for, whose certificate makes these claims; none where the control
 -- lines of the files are all that is to be carried out, or where there are no lines
 abbrev pub last_job : Action → List Claim → Option Job
-last_job (session files) claims = None
 last_job (view v files) claims = Some (Control (view_command v))
 last_job (what_if change files) claims = Some (WhatIf change)
 last_job (tail files) claims = Some Tail
 last_job (why files) claims = Some Why
 last_job (verify file files) claims = Some (Verify claims)
 last_job (drill number traces) claims = Some Summary
-last_job (replay file) claims = None
+last_job action claims = None
 
 -- the jobs of lines; where there is a last job, the events since the last add are added and then it
 -- is carried out. That add has no line in the input
@@ -71,7 +59,9 @@ jobs_with (Some job) lines =
 
 -- the jobs of what lines say and the last job, or the first bad line
 abbrev pub work_from : Option Job → Result (List Line) LineFault → Result Work BadInput
-work_from last said = result_map_both (jobs_with last) bad_line said
+work_from last said =
+    result_map_both (jobs_with last)
+    (λ (fault : LineFault). record { line = fault.line; why = reasons.Line fault.why }) said
 
 -- the same of the lines of an input
 abbrev pub jobs_said : Option Job → List ℕ → Result Work BadInput
@@ -79,26 +69,21 @@ jobs_said last input = work_from last (lines_said input)
 
 -- the steps of an input, or the first line outside the form
 abbrev pub steps_said : List ℕ → Result Work BadInput
-steps_said input = result_map_both Steps bad_step (file_said input)
+steps_said input =
+    result_map_both Steps (λ line. record { line = line; why = reasons.Step }) (file_said input)
 
 -- what is to be done with an input and the claims of a certificate, or the first bad line of the
 -- input; a drill makes its input itself
 abbrev pub work_with : Action → List Claim → List ℕ → Result Work BadInput
-work_with (session files) claims input = jobs_said (last_job (session files) claims) input
-work_with (view v files) claims input = jobs_said (last_job (view v files) claims) input
-work_with (what_if change files) claims input =
-    jobs_said (last_job (what_if change files) claims) input
-work_with (tail files) claims input = jobs_said (last_job (tail files) claims) input
-work_with (why files) claims input = jobs_said (last_job (why files) claims) input
-work_with (verify file files) claims input = jobs_said (last_job (verify file files) claims) input
 work_with (drill number traces) claims input =
     jobs_said (last_job (drill number traces) claims) (drill_input number traces)
 work_with (replay file) claims input = steps_said input
+work_with action claims input = jobs_said (last_job action claims) input
 
 -- the same of what a certificate said: its first bad line comes before those of the input
 abbrev pub work_after : Action → Result (List Claim) ℕ → List ℕ → Result Work BadInput
 work_after action (Ok claims) input = work_with action claims input
-work_after action (Err line) input = Err (bad_claim line)
+work_after action (Err line) input = Err (record { line = line; why = reasons.Certificate })
 
 -- what is to be done with a certificate and an input, or the first bad line of the two. Where there
 -- is no certificate it is empty, and makes no claims

@@ -1,5 +1,6 @@
 -- What private contracts alone cite.
 pub mod Actions
+pub mod FaultEndings
 pub mod InputEnds
 pub mod Inputs
 pub mod LastJobs

@@ -1,5 +1,5 @@
 ghost use Rattle.std.specs.Prelude.{◌≡◌, ◌≤◌, IfSome};
-ghost use Rattle.mystery_run.specs.Numbers.{number_between};
+ghost use Rattle.mystery_run.specs.CommandLines.{number_between};
 
 use step_core::plain_number;
 

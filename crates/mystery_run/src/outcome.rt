@@ -1,5 +1,5 @@
 ghost use Rattle.std.specs.Prelude.{◌≡◌, ◌+◌, ◌≤◌, ◌<◌, ◌++◌, length, codes, decimal};
-ghost use Rattle.mystery_run.specs.Endings.{outcome_of};
+ghost use Rattle.mystery_run.specs.inner.FaultEndings.{outcome_of};
 ghost use Rattle.mystery_run.specs.Messages.{limit_count, limit_unit, message_of, status_of};
 
 use crate::Reason;

@@ -8,7 +8,7 @@ use Rattle.book_laws.specs.BookLaws.{DropShows, NewestShow}
 use Rattle.book_laws.specs.Shown.{AreShown, IsShown}
 use Rattle.session_rules.specs.KeptTraces.{Kept, newest, traces_on, without_day}
 use Rattle.session_rules.specs.Parts.{Dropped, IsPart, KeptNewest, Part, count_row}
-use Rattle.session_rules.specs.Sessions.{Does, State, with_grace, with_kept, with_watch}
+use Rattle.session_rules.specs.Sessions.{Does, State}
 use Rattle.session_rules.specs.declared.job.Job.{Job}
 use Rattle.session_rules.specs.declared.job.Job.TheVariants.{Control}
 use Rattle.text_rows.specs.PartsFollow.{CallPrintsOnePart, NoPartIsPrinted}
@@ -27,7 +27,7 @@ module _ {S : Type 0} (written : S → Option (List ℕ)) (faults : S → ℕ) w
       → PrintsSteps written faults result old new (Control (commands.Drop day)) before after held holds
   drop_step drop one before after day count result old new held holds is counted book printed s shown =
       let d = drop before.known before.book s.kept day book shown.traces in
-      let next : State = with_kept s (without_day day s.kept) in
+      let next : State = record s { kept = without_day day s.kept } in
       record {
         parts = Dropped day (length (traces_on day s.kept)) ∷ [];
         next = next;
@@ -41,7 +41,7 @@ module _ {S : Type 0} (written : S → Option (List ℕ)) (faults : S → ℕ) w
       → PrintsSteps written faults result old new (Control (commands.Keep days)) before after held holds
   keep_step newest_shows one before after days count result old new held holds is counted book printed s shown =
       let n = newest_shows before.known before.book s.kept days book shown.traces in
-      let next : State = with_kept s (newest days s.kept) in
+      let next : State = record s { kept = newest days s.kept } in
       let shows : Shows after next = subst (λ a. Shows a next) (sym is) (record { known = shown.known; watch = shown.watch; grace = shown.grace; traces = n }) in
       record {
         parts = KeptNewest days count ∷ [];
@@ -57,18 +57,18 @@ module _ {S : Type 0} (written : S → Option (List ℕ)) (faults : S → ℕ) w
   pub watch_step : (none : NoPartIsPrinted IsPart) (before after : SessionState) (every : ℕ) (old : S) (held : List ℕ) → after ≡ session_with_watch before every → PrintsSteps {T = Unit {0}} written faults (Ok tt) old old (Control (commands.Watch every)) before after held held
   watch_step none before after every old held is s shown = record {
     parts = [];
-    next = with_watch s every;
+    next = record s { watch = every };
     does = (refl, refl);
-    shows = subst (λ a. Shows a (with_watch s every)) (sym is) (record { known = shown.known; watch = refl; grace = shown.grace; traces = shown.traces });
+    shows = subst (λ a. Shows a (record s { watch = every })) (sym is) (record { known = shown.known; watch = refl; grace = shown.grace; traces = shown.traces });
     printed = record { all = none (written old) held; prefix = tt; counted = refl };
   }
 
   pub grace_step : (none : NoPartIsPrinted IsPart) (before after : SessionState) (micros : ℕ) (old : S) (held : List ℕ) → after ≡ session_with_grace before micros → PrintsSteps {T = Unit {0}} written faults (Ok tt) old old (Control (commands.Grace micros)) before after held held
   grace_step none before after micros old held is s shown = record {
     parts = [];
-    next = with_grace s micros;
+    next = record s { grace = micros };
     does = (refl, refl);
-    shows = subst (λ a. Shows a (with_grace s micros)) (sym is) (record { known = shown.known; watch = shown.watch; grace = refl; traces = shown.traces });
+    shows = subst (λ a. Shows a (record s { grace = micros })) (sym is) (record { known = shown.known; watch = shown.watch; grace = refl; traces = shown.traces });
     printed = record { all = none (written old) held; prefix = tt; counted = refl };
   }
 

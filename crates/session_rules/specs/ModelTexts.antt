@@ -39,21 +39,15 @@ pub record AreModelFigures (kept : List Kept) (figures : Figures) : Type 0 where
 -- there are
 abbrev pub header_row : ℕ → Figures → List ℕ
 header_row traces figures =
-    row_of (codes "model"
-    ∷ figure (codes "traces") traces
-    ∷ figure (codes "days") figures.days
-    ∷ figure (codes "segments") figures.names
-    ∷ figure (codes "tasks") figures.tasks
-    ∷ figure (codes "hb") (length figures.hb)
-    ∷ figure (codes "mx") (length figures.mx)
+    row_of (codes "model" ∷ figure (codes "traces") traces ∷ figure (codes "days") figures.days
+    ∷ figure (codes "segments") figures.names ∷ figure (codes "tasks") figures.tasks
+    ∷ figure (codes "hb") (length figures.hb) ∷ figure (codes "mx") (length figures.mx)
     ∷ figure (codes "pipe") (length figures.pipe) ∷ [])
 
 -- the name of a relation, and the task, the start event and the end event of both names
 abbrev pub pair_row : List ℕ → SegmentName × SegmentName → List ℕ
 pair_row word pair =
-    row_of (word
-    ∷ pair.0.0 ∷ pair.0.1 ∷ pair.0.2
-    ∷ pair.1.0 ∷ pair.1.1 ∷ pair.1.2 ∷ [])
+    row_of (word ∷ pair.0.0 ∷ pair.0.1 ∷ pair.0.2 ∷ pair.1.0 ∷ pair.1.1 ∷ pair.1.2 ∷ [])
 
 -- `pipe`, and both tasks
 abbrev pub pipe_row : List ℕ × List ℕ → List ℕ

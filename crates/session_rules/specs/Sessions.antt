@@ -47,17 +47,6 @@ abbrev pub first_state : State
 first_state =
     record { kept = []; known = record { names = []; tasks = [] }; watch = 0; grace = 0 }
 
--- the state with other kept traces
-abbrev pub with_kept : State → List Kept → State
-with_kept s kept = record { kept = kept; known = s.known; watch = s.watch; grace = s.grace }
-
--- the state with this watch number, or this grace
-abbrev pub with_watch : State → ℕ → State
-with_watch s every = record { kept = s.kept; known = s.known; watch = every; grace = s.grace }
-
-abbrev pub with_grace : State → ℕ → State
-with_grace s micros = record { kept = s.kept; known = s.known; watch = s.watch; grace = micros }
-
 -- valid traces with the grace that holds
 abbrev pub graced : State → List Trace → List Kept
 graced s valid = map (kept_with (1000 * s.grace)) valid
@@ -68,11 +57,9 @@ kept_after s valid = with_taken s.kept (graced s valid)
 
 -- the state after an add of these valid traces
 abbrev pub state_after : State → List Trace → State
-state_after s valid = record {
+state_after s valid = record s {
   kept = kept_after s valid;
   known = with_traces s.known valid;
-  watch = s.watch;
-  grace = s.grace;
 }
 
 -- the most days of kept traces
@@ -144,13 +131,13 @@ verify_parts claims verdicts =
 abbrev pub Commands : Command → State → List Part → State → Type 0
 Commands commands.Add s parts next = ⊥
 Commands (commands.Drop day) s parts next =
-    (next ≡ with_kept s (without_day day s.kept))
+    (next ≡ record s { kept = without_day day s.kept })
     × (parts ≡ Dropped day (length (traces_on day s.kept)) ∷ [])
-Commands (commands.Keep days) s parts next = (next ≡ with_kept s (newest days s.kept))
+Commands (commands.Keep days) s parts next = (next ≡ record s { kept = newest days s.kept })
     × ((count : ℕ) × (length (newest days s.kept) + count ≡ length s.kept)
     × (parts ≡ KeptNewest days count ∷ []))
-Commands (commands.Watch every) s parts next = (next ≡ with_watch s every) × (parts ≡ [])
-Commands (commands.Grace micros) s parts next = (next ≡ with_grace s micros) × (parts ≡ [])
+Commands (commands.Watch every) s parts next = (next ≡ record s { watch = every }) × (parts ≡ [])
+Commands (commands.Grace micros) s parts next = (next ≡ record s { grace = micros }) × (parts ≡ [])
 Commands commands.Model s parts next = (next ≡ s) × (parts ≡ ModelOf s.kept ∷ [])
 Commands commands.Paths s parts next = (next ≡ s)
     × (parts ≡ Header (codes "paths") (length s.kept) ∷ map (PathOf s.kept) s.kept)
@@ -174,16 +161,11 @@ Does workers Why s parts next = (next ≡ s) × ((refuted : Refutations)
 Does workers (Verify claims) s parts next = (next ≡ s) × ((verdicts : List Bool)
     × AllZip (IsVerdict s.kept) claims verdicts × (parts ≡ verify_parts claims verdicts))
 
--- a job passes this limit: it prints nothing
+-- a job passes this limit: it prints nothing. None but an add passes one
 abbrev pub Passes : Job → State → Limit → Type 0
 Passes (Add events) s limit = (valid : List Trace) × (refused : List Refused)
     × AreJudged (traces_of events) valid refused × PassesLimitOf s valid limit
-Passes (Control command) s limit = ⊥
-Passes Summary s limit = ⊥
-Passes (WhatIf change) s limit = ⊥
-Passes Tail s limit = ⊥
-Passes Why s limit = ⊥
-Passes (Verify claims) s limit = ⊥
+Passes job s limit = ⊥
 
 -- jobs, one after another, print these parts and leave this state
 abbrev pub Leads : ℕ → List Job → State → List Part → State → Type 0

@@ -11,8 +11,9 @@ use Rattle.word_rows.specs.declared.events.StepEvent.TheVariants.{Clear, Load, S
 use Rattle.word_rows.specs.Machine.{HasRow, HaveRows}
 use Rattle.word_rows.specs.Rows.{is_row}
 use Rattle.step_core.specs.Numbers.{plain_number}
-use Rattle.step_core.specs.StepLines.{all_values, clear_of, entry_of, named_step, one_number, row_of_words, step_of_numbers, step_of_words, step_said, two_numbers, line_words}
+use Rattle.step_core.specs.StepLines.{all_values, clear_of, entry_of, one_number, row_of_words, step_of_words, step_said, two_numbers, line_words}
 use Rattle.step_core.specs.StepFiles.{steps_of_lines}
+use Rattle.step_core.specs.inner.StepNumbers.{step_of_numbers}
 
 -- these steps, and then those of the lines after them, or the number of the first bad line
 abbrev pub after_steps : List StepEvent → Result (List StepEvent) ℕ → Result (List StepEvent) ℕ
@@ -68,7 +69,7 @@ clears_have_rows : (words : List (List ℕ)) → IfSome (clear_of words) HasRow
 clears_have_rows [] = tt
 clears_have_rows (seat ∷ words) = clear_has_row (plain_number seat) (row_of_words words) (row_fits words)
 
-named_has_row : (name : List ℕ) (words : List (List ℕ)) → IfSome (named_step name words) HasRow
+named_has_row : (name : List ℕ) (words : List (List ℕ)) → IfSome (step_of_words (name ∷ words)) HasRow
 named_has_row name words =
     one_of (bytes_eq name (codes "clear")) (clear_of words) (step_of_numbers name words) (clears_have_rows words) (
     one_of (bytes_eq name (codes "load")) _ _ (other_has_row (λ (p : ℕ × ℕ). Load p.0 p.1) (λ p. tt) (two_numbers words)) (

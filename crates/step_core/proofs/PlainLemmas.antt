@@ -1,15 +1,18 @@
 -- A number in plain digits is what is printed for it.
 use Rattle.std.proofs.Common.{◌≡◌, ◌↔◌, ℕ, ◌^◌, ◌<◌, List, length, get_or, Bool, true, false, not, ◌&&◌, Some, None, arith, refl, sym, ap, ◌∙◌, subst, inl, inr}
-use Rattle.std.specs.Prelude.{decimal, nat_lt, ◌==◌}
+use Rattle.std.specs.Prelude.{decimal, nat_lt, ◌==◌, if◌then◌else◌, Option}
 use Rattle.std.specs.List.{list_all}
 use Rattle.std.specs.Char.{is_ascii_digit}
 use Rattle.std.specs.Str.Parse.{digits_value}
 use Rattle.std.proofs.lemmas.Bool.{cases_lt, eqb-true, lt-ltb, ltb-true}
 use Rattle.std.proofs.lemmas.Bool.Decides.{nat_tests}
 use Rattle.std.proofs.lemmas.Fmt.{decimal-digits_value, digits_decimal, digits_value-decimal, decimal_nonempty, first_decimal, decimal_digit}
+use Rattle.std.specs.Str.{bytes_eq}
+use Rattle.std.proofs.lemmas.Slice.Eq.{bytes_eq-Decides}
 use Rattle.trace_types.proofs.TruthLemmas.{and_false}
 use Rattle.trace_types.proofs.DecimalLemmas.{decimal_numerals}
-use Rattle.step_core.specs.Numbers.{has_leading_zero, is_plain, plain_number}
+use Rattle.step_core.specs.Numbers.{plain_number}
+use Rattle.step_core.specs.PlainDigits.{has_leading_zero, is_plain}
 
 parts : (a b c : Bool) → (a && b && c) ≡ true → (a ≡ true) × (b ≡ true) × (c ≡ true)
 parts true true true h = (refl, refl, refl)
@@ -54,23 +57,58 @@ plain : (n : ℕ) → n < 2 ^ 32 → is_plain (decimal n) ≡ true
 plain n lt =
     joined _ _ _ (not_zero_byte (length (decimal n)) (decimal_nonempty n (omega (arith, lt)))) (starts_plain (length (decimal n)) (get_or (decimal n) 0 0) (first_plain n lt)) (digits_decimal decimal_numerals n (omega (arith, lt)))
 
-of_word : (n : ℕ) (word : List ℕ) (a b : Bool) → is_plain word ≡ a → nat_lt (digits_value 10 word) (2 ^ 32) ≡ b → plain_number word ≡ Some n → decimal n ≡ word
+-- a word that is printed for the value of its digits
+same_word : (n : ℕ) (word : List ℕ) → decimal n ≡ word → bytes_eq (decimal n) word ≡ true
+same_word n word e = (bytes_eq-Decides (decimal n) word).1 e
+
+of_word : (n : ℕ) (word : List ℕ) (a b : Bool) → nat_lt (digits_value 10 word) (2 ^ 32) ≡ a → bytes_eq (decimal (digits_value 10 word)) word ≡ b → plain_number word ≡ Some n → decimal n ≡ word
 of_word n word true true e f h =
     let k : Some (digits_value 10 word) ≡ Some n = rw (e, f) at h in
     let same : digits_value 10 word ≡ n = cc in
-    ap decimal (sym same) ∙ printed word e (ltb-true (digits_value 10 word) (2 ^ 32) f)
+    ap decimal (sym same) ∙ (bytes_eq-Decides (decimal (digits_value 10 word)) word).0 f
 of_word n word true false e f h = let k : None ≡ Some n = rw (e, f) at h in cc
 of_word n word false b e f h = let k : None ≡ Some n = rw e at h in cc
 
 pub of_number : (n : ℕ) → n < 2 ^ 32 → plain_number (decimal n) ≡ Some n
 of_number n lt =
     let v : digits_value 10 (decimal n) ≡ n = digits_value-decimal decimal_numerals n (omega (arith, lt)) in
-    let p : is_plain (decimal n) ≡ true = plain n lt in
-    let b : nat_lt (digits_value 10 (decimal n)) (2 ^ 32) ≡ true = lt-ltb (digits_value 10 (decimal n)) (2 ^ 32) (omega (arith, v, lt)) in
-    rw (p, b) (ap Some v)
+    let b : nat_lt n (2 ^ 32) ≡ true = lt-ltb n (2 ^ 32) lt in
+    let s : bytes_eq (decimal n) (decimal n) ≡ true = same_word n (decimal n) refl in
+    rw (v, b, s) refl
 
 pub as_printed : (n : ℕ) (word : List ℕ) → n < 2 ^ 32 → (plain_number word ≡ Some n) ↔ (decimal n ≡ word)
 as_printed n word lt = (
-  λ h. of_word n word (is_plain word) (nat_lt (digits_value 10 word) (2 ^ 32)) refl refl h,
+  λ h. of_word n word (nat_lt (digits_value 10 word) (2 ^ 32)) (bytes_eq (decimal (digits_value 10 word)) word) refl refl h,
   λ h. subst (λ (w : List ℕ). plain_number w ≡ Some n) h (of_number n lt),
 )
+
+-- a word that is not plain digits is no number
+pub not_plain : (word : List ℕ) → is_plain word ≡ false → None ≡ plain_number word
+not_plain word h = by (nat_lt (digits_value 10 word) (2 ^ 32)) (bytes_eq (decimal (digits_value 10 word)) word) refl refl
+  where
+    by : (a b : Bool) → nat_lt (digits_value 10 word) (2 ^ 32) ≡ a → bytes_eq (decimal (digits_value 10 word)) word ≡ b → None ≡ plain_number word
+    by true true e f =
+        let same : decimal (digits_value 10 word) ≡ word = (bytes_eq-Decides (decimal (digits_value 10 word)) word).0 f in
+        let p : is_plain word ≡ true = subst (λ (w : List ℕ). is_plain w ≡ true) same (plain (digits_value 10 word) (ltb-true (digits_value 10 word) (2 ^ 32) e)) in
+        let both : true ≡ false = sym p ∙ h in
+        cc
+    by true false e f = rw (e, f) refl
+    by false b e f = rw e refl
+
+-- plain digits are the number that they have as their value, where it fits 32 bits
+pub plain_value : (word : List ℕ) (r : Option ℕ) → is_plain word ≡ true → r ≡ (if nat_lt (digits_value 10 word) (2 ^ 32) then Some (digits_value 10 word) else None) → r ≡ plain_number word
+plain_value word r h k = by (nat_lt (digits_value 10 word) (2 ^ 32)) refl
+  where
+    by : (a : Bool) → nat_lt (digits_value 10 word) (2 ^ 32) ≡ a → r ≡ plain_number word
+    by true e =
+        let s : bytes_eq (decimal (digits_value 10 word)) word ≡ true = same_word (digits_value 10 word) word (printed word h (ltb-true (digits_value 10 word) (2 ^ 32) e)) in
+        k ∙ rw (e, s) refl
+    by false e = k ∙ rw e refl
+
+-- the number of a word, by its digits
+pub by_digits : (word : List ℕ) → plain_number word ≡ (if is_plain word && nat_lt (digits_value 10 word) (2 ^ 32) then Some (digits_value 10 word) else None)
+by_digits word = by (is_plain word) refl
+  where
+    by : (a : Bool) → is_plain word ≡ a → plain_number word ≡ (if a && nat_lt (digits_value 10 word) (2 ^ 32) then Some (digits_value 10 word) else None)
+    by true e = sym (plain_value word _ e refl)
+    by false e = sym (not_plain word e)

@@ -1,10 +1,17 @@
 -- Words of a line, one after another.
 use Rattle.std.proofs.Common.{◌≡◌, ℕ, List, [], ◌∷◌, Bool, true, false, Option, Some, None, refl}
 use Rattle.std.specs.Borrow.{Bor}
-use Rattle.std.specs.Prelude.{is_some, option_copied}
+use Rattle.std.specs.Prelude.{is_some, option_copied, ◌==◌}
 use Rattle.std.specs.List.{slice_split}
-use Rattle.step_core.specs.StepLines.{entry_of, is_colon, is_space, one_number, two_numbers, line_words}
+use Rattle.step_core.specs.StepLines.{entry_of, one_number, two_numbers, line_words}
 use Rattle.step_core.specs.LinesLeft.{parts_left}
+
+-- a space, and a colon
+abbrev pub is_space : ℕ → Bool
+is_space byte = byte == 32
+
+abbrev pub is_colon : ℕ → Bool
+is_colon byte = byte == 58
 
 -- bytes have a first part
 first_of : (separates : ℕ → Bool) (bytes : List ℕ) → (first : List ℕ) × (rest : List (List ℕ)) × (slice_split separates bytes ≡ first ∷ rest)

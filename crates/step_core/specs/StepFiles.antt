@@ -5,32 +5,23 @@ use Rattle.std.specs.Result.{result_map_both}
 use Rattle.event_lines.specs.Cut.{input_lines}
 use Rattle.event_lines.specs.InputLines.{numbered_lines, all_or_first_error}
 use Rattle.word_rows.specs.declared.events.StepEvent.{StepEvent}
-use Rattle.step_core.specs.declared.start.Start.{Start}
 use Rattle.step_core.specs.declared.step_file.StepFile.{StepFile}
 use Rattle.step_core.specs.declared.step_line_error.StepLineError.{StepLineError}
 use Rattle.step_core.specs.declared.step_line_error.StepLineError.TheVariants.{Memory, Bad}
 use Rattle.step_core.specs.StepLines.{start_said, step_said}
 
--- the step of a numbered line, or the number of the line
-abbrev pub numbered_step : ℕ × List ℕ → Result StepEvent ℕ
-numbered_step line = option_map_or Ok (step_said line.1) (Err line.0)
-
 -- the steps of numbered lines, or the number of the first line that says none
 abbrev pub steps_of_lines : List (ℕ × List ℕ) → Result (List StepEvent) ℕ
-steps_of_lines lines = all_or_first_error (map numbered_step lines)
-
--- the file with this start, or the number of the first bad line
-abbrev pub file_from : Start → Result (List StepEvent) ℕ → Result StepFile ℕ
-file_from start steps =
-    result_map_both (λ events. record { start = Some start; events = events }) (λ n. n) steps
+steps_of_lines lines =
+    all_or_first_error (map (λ line. option_map_or Ok (step_said line.1) (Err line.0)) lines)
 
 -- the file of numbered lines: the first says the start, and each other one a step; or the number of
 -- the first that does not
 abbrev pub file_of_lines : List (ℕ × List ℕ) → Result StepFile ℕ
 file_of_lines [] = Ok (record { start = None; events = [] })
 file_of_lines (first ∷ others) =
-    option_map_or (λ start. file_from start (steps_of_lines others)) (start_said first.1)
-    (Err first.0)
+    option_map_or (λ start. result_map_both (λ events. record { start = Some start; events = events })
+    (λ n. n) (steps_of_lines others)) (start_said first.1) (Err first.0)
 
 -- the file of steps that bytes say, or the number of the first line outside the form; lines that
 -- are blank are counted, and otherwise ignored

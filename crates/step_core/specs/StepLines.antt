@@ -12,17 +12,9 @@ use Rattle.word_rows.specs.Rows.{is_row}
 use Rattle.step_core.specs.declared.start.Start.{Start}
 use Rattle.step_core.specs.Numbers.{plain_number, mask_number}
 
--- a space
-abbrev pub is_space : ℕ → Bool
-is_space byte = byte == 32
-
--- a colon
-abbrev pub is_colon : ℕ → Bool
-is_colon byte = byte == 58
-
 -- the words of a line: its parts around the spaces
 abbrev pub line_words : List ℕ → List (List ℕ)
-line_words line = slice_split is_space line
+line_words line = slice_split (λ byte. byte == 32) line
 
 -- one word that is a number
 abbrev pub one_number : List (List ℕ) → Option ℕ
@@ -43,7 +35,7 @@ entry_of_parts parts = None
 
 -- the entry `WORD:MASK`
 abbrev pub entry_of : List ℕ → Option Entry
-entry_of word = entry_of_parts (slice_split is_colon word)
+entry_of word = entry_of_parts (slice_split (λ byte. byte == 58) word)
 
 -- all the values; none where one is missing
 abbrev pub all_values : {X : Type 0} → List (Option X) → Option (List X)
@@ -61,22 +53,14 @@ clear_of (seat ∷ entries) =
     option_map (λ c. Clear c.0 c.1) (option_zip (plain_number seat) (row_of_words entries))
 clear_of [] = None
 
--- the step with this name and these words after it, which are numbers
-abbrev pub step_of_numbers : List ℕ → List (List ℕ) → Option StepEvent
-step_of_numbers name words =
+-- the step that a line with these words says
+abbrev pub step_of_words : List (List ℕ) → Option StepEvent
+step_of_words (name ∷ words) =
+    if bytes_eq name (codes "clear") then clear_of words else (
     if bytes_eq name (codes "load") then option_map (λ p. Load p.0 p.1) (two_numbers words) else (
     if bytes_eq name (codes "split") then option_map (λ p. Split p.0 p.1) (two_numbers words) else (
     if bytes_eq name (codes "join") then option_map (λ p. Join p.0 p.1) (two_numbers words) else (
-    if bytes_eq name (codes "close") then option_map Close (one_number words) else None)))
-
--- the step with this name and these words after it
-abbrev pub named_step : List ℕ → List (List ℕ) → Option StepEvent
-named_step name words =
-    if bytes_eq name (codes "clear") then clear_of words else step_of_numbers name words
-
--- the step that a line with these words says
-abbrev pub step_of_words : List (List ℕ) → Option StepEvent
-step_of_words (name ∷ words) = named_step name words
+    if bytes_eq name (codes "close") then option_map Close (one_number words) else None))))
 step_of_words [] = None
 
 -- the step that a line says; none where it has another form
@@ -87,16 +71,13 @@ step_said line = step_of_words (line_words line)
 abbrev pub is_start : Start → Bool
 is_start start = is_in_range 1 8302 start.width && not (start.shares == 0)
 
--- the start with this width and number of shares, where they are in range
-abbrev pub start_in_range : ℕ × ℕ → Option Start
-start_in_range p =
-    let start : Start = record { width = p.0; shares = p.1 } in
-    if is_start start then Some start else None
-
--- the start of the words of a line: `open WIDTH SHARES`
+-- the start of the words of a line: `open WIDTH SHARES`, both in range
 abbrev pub start_of_words : List (List ℕ) → Option Start
 start_of_words (name ∷ words) =
-    if bytes_eq name (codes "open") then option_and_then start_in_range (two_numbers words) else None
+    if bytes_eq name (codes "open")
+    then option_and_then (λ p. let start : Start = record { width = p.0; shares = p.1 } in
+    if is_start start then Some start else None) (two_numbers words)
+    else None
 start_of_words [] = None
 
 -- the start that a line says; none where it has another form

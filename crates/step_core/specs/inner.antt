@@ -1,3 +1,4 @@
 -- What private contracts alone cite.
 pub mod Briefs
 pub mod Naming
+pub mod StepNumbers

@@ -3,8 +3,8 @@ ghost use Rattle.std.specs.Prelude.{None, IsTrue};
 ghost use Rattle.std.specs.List.{list_all};
 ghost use Rattle.std.specs.Char.{is_ascii_digit, digit_value as digit_value_of};
 ghost use Rattle.std.specs.Str.Parse.{digits_value};
-ghost use Rattle.step_core.specs.Numbers.{has_leading_zero, is_plain, is_mask_digit, plain_number};
-ghost use Rattle.step_core.specs.Numbers.{mask_number};
+ghost use Rattle.step_core.specs.Numbers.{is_mask_digit, mask_number, plain_number};
+ghost use Rattle.step_core.specs.PlainDigits.{has_leading_zero, is_plain};
 
 /// The greatest number of digits of a mask.
 const MASK_DIGITS: usize = 16;
@@ -48,6 +48,7 @@ fn value_of(digits: &[u8]) -> Option<u32>
 
 /// Reads a number in plain digits, without sign and without a leading 0 except in 0 itself; none
 /// where the word has another form or the number is over 4,294,967,295.
+#[tactic(auto, using(crate::proofs::PlainLemmas::not_plain, crate::proofs::PlainLemmas::plain_value))]
 pub fn plain_number(word: &[u8]) -> Option<u32>
     ensures { result ≡ plain_number word.now }
 {

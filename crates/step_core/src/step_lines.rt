@@ -1,6 +1,7 @@
 ghost use Rattle.std.specs.Prelude.{◌≡◌, IfOk};
-ghost use Rattle.step_core.specs.StepLines.{clear_of, one_number, start_said, step_of_numbers};
+ghost use Rattle.step_core.specs.StepLines.{clear_of, one_number, start_said};
 ghost use Rattle.step_core.specs.StepLines.{step_said, two_numbers, line_words};
+ghost use Rattle.step_core.specs.inner.StepNumbers.{step_of_numbers};
 
 use crate::Start;
 use crate::cutting::first_part;
