@@ -15,14 +15,14 @@ use Rattle.trace_types.specs.declared.named_trace.NamedTrace.{NamedTrace}
 abbrev ordered : (ℕ → ℕ → Relation) → ℕ → ℕ → Relation
 ordered C a b = cond (nat_lt a b) (C a b) (C b a)
 
-pub relation_of : Hypothesis ℕ ℕ → Relation
+abbrev pub relation_of : Hypothesis ℕ ℕ → Relation
 relation_of (Before a b) = BeforeNumbers a b
 relation_of (Exclusive a b) = ordered ExclusiveNumbers a b
 relation_of (Apart a b) = ordered ApartNumbers a b
 relation_of (Pipe t u) = PipeNumbers t u
 relation_of (Unshared t u) = ordered UnsharedNumbers t u
 
-pub hypothesis_of : Relation → Hypothesis ℕ ℕ
+abbrev pub hypothesis_of : Relation → Hypothesis ℕ ℕ
 hypothesis_of (BeforeNumbers a b) = Before a b
 hypothesis_of (ExclusiveNumbers a b) = Exclusive a b
 hypothesis_of (ApartNumbers a b) = Apart a b
@@ -35,7 +35,7 @@ ordered_by : (P : Relation → Type 0) (C : ℕ → ℕ → Relation) (a b : ℕ
 ordered_by P C a b other low high = elim (cases_order a b) [
   | inl e ↦ absurd (other e)
   | inr (inl less) ↦ subst (λ (c : Bool). P (cond c (C a b) (C b a))) (sym (lt-ltb a b less)) (low less)
-  | inr (inr more) ↦ subst (λ (c : Bool). P (cond c (C a b) (C b a))) (sym (le-ltb b a (omega (arith, more)))) (high more)
+  | inr (inr more) ↦ subst (λ (c : Bool). P (cond c (C a b) (C b a))) (sym (le-ltb a b (omega (arith, more)))) (high more)
 ]
 
 name_below : (a : ℕ) (s : NamedSegment) → s.name ≡ a → a < 512
@@ -116,10 +116,10 @@ of_relation (UnsharedNumbers t u) is = ap (λ (c : Bool). cond c (UnsharedNumber
 -- its hypothesis exchanged has the same relation
 of_exchanged : (r : Relation) → IsRelation r → relation_of (exchanged_hypothesis (hypothesis_of r)) ≡ r
 of_exchanged (BeforeNumbers a b) is = refl
-of_exchanged (ExclusiveNumbers a b) is = let less : a < b = is.0 in ap (λ (c : Bool). cond c (ExclusiveNumbers b a) (ExclusiveNumbers a b)) (le-ltb a b (omega arith))
-of_exchanged (ApartNumbers a b) is = let less : a < b = is.0 in ap (λ (c : Bool). cond c (ApartNumbers b a) (ApartNumbers a b)) (le-ltb a b (omega arith))
+of_exchanged (ExclusiveNumbers a b) is = let less : a < b = is.0 in ap (λ (c : Bool). cond c (ExclusiveNumbers b a) (ExclusiveNumbers a b)) (le-ltb b a (omega arith))
+of_exchanged (ApartNumbers a b) is = let less : a < b = is.0 in ap (λ (c : Bool). cond c (ApartNumbers b a) (ApartNumbers a b)) (le-ltb b a (omega arith))
 of_exchanged (PipeNumbers t u) is = refl
-of_exchanged (UnsharedNumbers t u) is = let less : t < u = is.0 in ap (λ (c : Bool). cond c (UnsharedNumbers u t) (UnsharedNumbers t u)) (le-ltb t u (omega arith))
+of_exchanged (UnsharedNumbers t u) is = let less : t < u = is.0 in ap (λ (c : Bool). cond c (UnsharedNumbers u t) (UnsharedNumbers t u)) (le-ltb u t (omega arith))
 
 -- so hypotheses of relations that are one are equal
 pub equal_hypotheses : (r s : Relation) → IsRelation r → IsRelation s → IsSame (hypothesis_of r) (hypothesis_of s) → hypothesis_of r ≡ hypothesis_of s
