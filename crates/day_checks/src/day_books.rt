@@ -127,6 +127,16 @@ pub(crate) fn list_days(alloc: Global, book: &DayBook) -> Result<Vec<(u32, u64)>
     Ok(days)
 }
 
+/// Tells whether the days of a book are these, each with so many traces.
+pub(crate) fn has_days(
+    alloc: Global,
+    book: &DayBook,
+    days: &[(u32, u64)],
+) -> Result<bool, AllocError> {
+    let found = list_days(alloc, book)?;
+    Ok(found.as_slice() == days)
+}
+
 /// Tells whether a book has the words of a busy trace on each of the days.
 pub(crate) fn has_plain_words(
     alloc: Global,

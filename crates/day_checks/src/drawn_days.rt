@@ -1,7 +1,7 @@
 //! Drawn commands, done to a book of days and to a plain list of counts.
 ghost use Rattle.std.specs.Prelude.{◌≡◌, ◌+◌, ◌≤◌, IfOk};
 
-use crate::day_books::{add_sheet, drop_one, has_plain_words, keep, list_days, widen};
+use crate::day_books::{add_sheet, drop_one, has_days, has_plain_words, keep, widen};
 use crate::traces::{busy, sheet_of};
 use day_partitions::DayBook;
 use std::alloc::{AllocError, Global};
@@ -46,6 +46,25 @@ fn count_drawn(counts: &mut [u64; 8], draw: u32) {
     }
 }
 
+/// Adds a sheet of a busy trace to its day.
+fn add_busy(
+    rt: &impl Abort,
+    alloc: Global,
+    book: &mut DayBook,
+    day: u32,
+    names: u32,
+) -> Result<(), AllocError>
+    requires names { book.old.names ≡ names }
+    requires least { 6 ≤ names }
+    requires most { names ≤ 512 }
+    ensures { book.new.names ≡ names }
+{
+    let trace = busy(alloc, day, names)?;
+    let sheet = sheet_of(alloc, trace, names)?;
+    add_sheet(rt, book, day, sheet);
+    Ok(())
+}
+
 /// Carries out a drawn command, a drop, a keep, a widening or an add, and tells how many names
 /// the book has.
 fn obey_drawn(
@@ -77,35 +96,39 @@ fn obey_drawn(
             Ok(names + 1)
         }
         _ => {
-            add_sheet(
-                rt,
-                book,
-                day,
-                sheet_of(alloc, busy(alloc, day, names)?, names)?,
-            );
+            add_busy(rt, alloc, book, day, names)?;
             Ok(names)
         }
     }
 }
 
+/// Tells whether a book has the days with a count above 0, and the words of a busy trace on each.
+fn has_counts(
+    alloc: Global,
+    book: &DayBook,
+    counts: &[u64; 8],
+    names: u32,
+) -> Result<bool, AllocError>
+    requires least { 6 ≤ names }
+    requires most { names ≤ 512 }
+{
+    let days = list_counts(alloc, counts)?;
+    Ok(has_days(alloc, book, &days)? && has_plain_words(alloc, book, &days, names)?)
+}
+
 #[test]
 fn drawn_commands_leave_the_days_of_a_plain_list(rt: HostRuntime) -> Result<(), Fail> {
-    let alloc = rt.alloc();
-    let mut book = DayBook::new(alloc, 6)?;
+    let mut book = DayBook::new(rt.alloc(), 6)?;
     let mut counts = [0u64; 8];
     let mut names = 6;
     let mut seed = 1u32;
     'steps: for step in 0..32u32 {
         seed = seed.wrapping_mul(1_664_525).wrapping_add(1_013_904_223);
         let draw = seed >> 16;
-        names = obey_drawn(&rt, alloc, &mut book, draw, names)?;
+        names = obey_drawn(&rt, rt.alloc(), &mut book, draw, names)?;
         count_drawn(&mut counts, draw);
-        let days = list_counts(alloc, &counts)?;
-        assert!(rt; list_days(alloc, &book)? == days, "days at {step}");
-        assert!(rt;
-            has_plain_words(alloc, &book, &days, names)?,
-            "words at {step}"
-        );
+        let same = has_counts(rt.alloc(), &book, &counts, names)?;
+        assert!(rt; same, "days and words at {step}");
     }
     Ok(())
 }

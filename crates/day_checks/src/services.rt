@@ -5,11 +5,13 @@ ghost use Rattle.std.specs.Prelude.{◌≡◌};
 ghost use Rattle.std.specs.Thread.{IsSync};
 ghost use Rattle.live_book.specs.Callers.{IsOfBook};
 
+use crate::answers::answers;
 use crate::callers::{ask, ask_full, drop_day, keep, read, roll};
 use crate::entries::row_of;
 use crate::traces::{FULL, TOUCHED};
 use live_book::{Caller, Entry, LiveBook};
 use std::alloc::Global;
+use std::process::Abort;
 use std::sync::Wait;
 use std::test::Fail;
 use std::thread::{self, Threads};
@@ -151,14 +153,9 @@ fn count_kind(entries: &[Entry], kind: char) -> usize {
         .count()
 }
 
-/// Reads the journal, and tells whether it has eight rolls and eight drops, whose days rise in each
-/// thread, and one keep.
-fn accounts<R: Wait>(rt: &R, book: &LiveBook, caller: &mut Caller) -> Option<bool>
-    requires of { IsOfBook book.now caller.old }
-    ensures of { IsOfBook book.now caller.new }
-{
-    let list = read(rt, book, caller, 0)?;
-    let entries = list.as_slice();
+/// Tells whether entries are eight rolls and eight drops, whose days rise in each thread, and one
+/// keep.
+fn account(entries: &[Entry]) -> bool {
     let kinds = (
         count_kind(entries, 'r'),
         count_kind(entries, 'd'),
@@ -166,26 +163,66 @@ fn accounts<R: Wait>(rt: &R, book: &LiveBook, caller: &mut Caller) -> Option<boo
     );
     let rolls = days_rise(entries, 'r', 0) && days_rise(entries, 'r', 1);
     let drops = days_rise(entries, 'd', 0) && days_rise(entries, 'd', 1);
-    Some(kinds == (8, 8, 1) && rolls && drops)
+    kinds == (8, 8, 1) && rolls && drops
+}
+
+/// Reads the journal, and tells whether it accounts for each trace.
+fn accounts<R: Wait>(rt: &R, book: &LiveBook, caller: &mut Caller) -> Option<bool>
+    requires of { IsOfBook book.now caller.old }
+    ensures of { IsOfBook book.now caller.new }
+{
+    let entries = read(rt, book, caller, 0)?;
+    Some(account(&entries))
+}
+
+/// Splits a caller of 27 turns, serves by three threads, and joins all callers again.
+fn serve_by_three<R: Threads + Wait + Sync>(
+    rt: &R,
+    alloc: Global,
+    book: &LiveBook,
+    caller: &mut Caller,
+) -> Option<(u32, Watched)>
+    requires names { book.now.names ≡ 2 }
+    requires of { IsOfBook book.now caller.old }
+    ensures of { IsOfBook book.now caller.new }
+{
+    if caller.turns() < 24 {
+        return None;
+    }
+    let even = book.split(caller, 4);
+    let odd = book.split(caller, 4);
+    let watcher = book.split(caller, 16);
+    let (others, rolled, watched) = serve(rt, alloc, book, even, odd, watcher);
+    book.join(caller, others);
+    Some((rolled, watched))
+}
+
+/// Asserts that the drops and a last keep had all eight traces, and that the journal accounts for
+/// them with the last turn.
+fn expect_accounts<R: Wait + Abort>(
+    rt: &R,
+    alloc: Global,
+    book: &LiveBook,
+    caller: &mut Caller,
+    dropped: u32,
+)
+    requires names { book.now.names ≡ 2 }
+    requires of { IsOfBook book.now caller.old }
+{
+    assert!(rt; dropped <= 8);
+    assert!(rt; answers(keep(rt, book, caller, 0), 8 - dropped));
+    assert_eq!(rt; ask_full(rt, alloc, book, caller), Some(127));
+    assert_eq!(rt; accounts(rt, book, caller), Some(true));
+    assert_eq!(rt; caller.turns(), 0);
 }
 
 #[test]
 fn a_service_accounts_for_each_trace(rt: HostRuntime) -> Result<(), Fail> {
-    let alloc = rt.alloc();
-    let (book, mut caller) = LiveBook::open(alloc, 2, 27)?;
-    let even = book.split(&mut caller, 4);
-    let odd = book.split(&mut caller, 4);
-    let watcher = book.split(&mut caller, 16);
-    let (others, rolled, watched) = serve(&rt, alloc, &book, even, odd, watcher);
-    book.join(&mut caller, others);
-    let left = keep(&rt, &book, &mut caller, 0)
-        .expect(&rt, "turn")
-        .ok()
-        .expect(&rt, "left");
-    assert!(rt; watched.sound);
-    assert_eq!(rt; (rolled, watched.dropped.wrapping_add(left)), (8, 8));
-    assert_eq!(rt; ask_full(&rt, alloc, &book, &mut caller), Some(127));
-    assert_eq!(rt; accounts(&rt, &book, &mut caller), Some(true));
-    assert_eq!(rt; caller.turns(), 0);
+    let (book, mut caller) = LiveBook::open(rt.alloc(), 2, 27)?;
+    let (rolled, watched) = serve_by_three(&rt, rt.alloc(), &book, &mut caller).ok_or(
+        "too few turns",
+    )?;
+    assert!(rt; watched.sound && rolled == 8);
+    expect_accounts(&rt, rt.alloc(), &book, &mut caller, watched.dropped);
     Ok(())
 }

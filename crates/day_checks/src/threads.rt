@@ -5,9 +5,10 @@ ghost use Rattle.live_book.specs.Callers.{IsOfBook};
 
 use crate::callers::{ask, drop_day, keep, read, read_two, roll};
 use crate::traces::{BOTH, FULL, SWAPPED, TOUCHED, day_sheet};
-use live_book::{Caller, Entry, LiveBook};
+use live_book::{Caller, DeedFault, Entry, LiveBook};
 use live_journal::JournaledBook;
 use std::alloc::{AllocError, Global};
+use std::process::Abort;
 use std::sync::Wait;
 use std::sync::atomic::{AtomicU64, Ordering};
 use std::test::Fail;
@@ -54,31 +55,54 @@ fn roll_meet_and_ask<R: Wait>(
     }
 }
 
-#[test]
-fn two_threads_see_what_both_rolled(rt: HostRuntime) -> Result<(), Fail> {
-    let alloc = rt.alloc();
-    let (book, mut first) = LiveBook::open(alloc, 2, 5)?;
-    let second = book.split(&mut first, 2);
+/// Rolls a day each in two threads, which ask when both have rolled. Joins their callers, and gives
+/// the last words that they were answered.
+fn roll_beside<R: Threads + Wait + Sync>(
+    rt: &R,
+    alloc: Global,
+    book: &LiveBook,
+    first: Caller,
+    second: Caller,
+) -> (Caller, (u64, u64))
+    requires names { book.now.names ≡ 2 }
+    requires first { IsOfBook book.now first }
+    requires second { IsOfBook book.now second }
+    ensures { IsOfBook book.now result.0 }
+{
     let (zero, one) = (AtomicU64::new(0), AtomicU64::new(0));
-    let (shared, here, there) = (&book, &zero, &one);
-    let runtime = &rt;
+    let (here, there) = (&zero, &one);
     let ((mut first, left), (second, right)) = thread::join(
-        &rt,
-        || -> (Caller, u64)
-            requires { IsOfBook shared.now first × (shared.now.names ≡ 2) }
-            ensures { IsOfBook shared.entry.now result.0 }
-        { roll_meet_and_ask(runtime, alloc, shared, first, 0, here, there) },
-        || -> (Caller, u64)
-            requires { IsOfBook shared.now second × (shared.now.names ≡ 2) }
-            ensures { IsOfBook shared.entry.now result.0 }
-        { roll_meet_and_ask(runtime, alloc, shared, second, 1, there, here) },
+        rt,
+        move || -> (Caller, u64)
+            requires { IsSync R.row × IsOfBook book.now first × (book.now.names ≡ 2) }
+            ensures { IsOfBook book.entry.now result.0 }
+        { roll_meet_and_ask(rt, alloc, book, first, 0, here, there) },
+        move || -> (Caller, u64)
+            requires { IsSync R.row × IsOfBook book.now second × (book.now.names ≡ 2) }
+            ensures { IsOfBook book.entry.now result.0 }
+        { roll_meet_and_ask(rt, alloc, book, second, 1, there, here) },
     );
-    assert_eq!(rt; (left, right), (BOTH, BOTH));
     book.join(&mut first, second);
-    let rows = read_two(&rt, &book, &mut first, 0);
+    (first, (left, right))
+}
+
+/// Asserts that a caller reads both days, in either order, with its last turn.
+fn expect_both<R: Wait + Abort>(rt: &R, book: &LiveBook, caller: &mut Caller)
+    requires of { IsOfBook book.now caller.old }
+{
+    let rows = read_two(rt, book, caller, 0);
     let both = (('r', 0, 1), ('r', 1, 1));
     assert!(rt; rows == Some(both) || rows == Some((both.1, both.0)));
-    assert_eq!(rt; first.turns(), 0);
+    assert_eq!(rt; caller.turns(), 0);
+}
+
+#[test]
+fn two_threads_see_what_both_rolled(rt: HostRuntime) -> Result<(), Fail> {
+    let (book, mut first) = LiveBook::open(rt.alloc(), 2, 5)?;
+    let second = book.split(&mut first, 2);
+    let (mut caller, words) = roll_beside(&rt, rt.alloc(), &book, first, second);
+    assert_eq!(rt; words, (BOTH, BOTH));
+    expect_both(&rt, &book, &mut caller);
     Ok(())
 }
 
@@ -197,6 +221,25 @@ fn is_touching(traces: &[NamedTrace]) -> bool {
     }
 }
 
+/// Rolls a trace into a fresh book, and tells whether it was taken.
+fn roll_again(alloc: Global, book: &mut JournaledBook, day: u32, touching: bool) -> bool
+    requires { book.old.names ≡ 2 }
+    ensures { book.new.names ≡ 2 }
+{
+    match day_sheet(alloc, day, touching) {
+        Ok(sheet) => book.roll(day, sheet).is_ok(),
+        Err(_) => false,
+    }
+}
+
+/// Tells whether a drop or a keep had so many traces.
+fn had(done: Result<u32, DeedFault>, traces: u64) -> bool {
+    match done {
+        Ok(dropped) => u64::from(dropped) == traces,
+        Err(_) => false,
+    }
+}
+
 /// Does what the entry says to a fresh book and to plain counts. Answers whether both dropped the
 /// same number of traces.
 fn redo(alloc: Global, book: &mut JournaledBook, counts: &mut Counts, entry: &Entry) -> bool
@@ -207,24 +250,15 @@ fn redo(alloc: Global, book: &mut JournaledBook, counts: &mut Counts, entry: &En
         Entry::Rolled { day, traces } => {
             let touching = is_touching(traces.items());
             count(counts, *day, touching);
-            let Ok(sheet) = day_sheet(alloc, *day, touching) else {
-                return false;
-            };
-            traces.items().len() == 1 && book.roll(*day, sheet).is_ok()
+            traces.items().len() == 1 && roll_again(alloc, book, *day, touching)
         }
         Entry::Dropped { day } => {
-            let had = clear(counts, *day);
-            match book.drop_day(*day) {
-                Ok(dropped) => u64::from(dropped) == had,
-                Err(_) => false,
-            }
+            let traces = clear(counts, *day);
+            had(book.drop_day(*day), traces)
         }
         Entry::Kept { days } => {
-            let had = keep_last(counts, *days);
-            match book.keep_newest(*days) {
-                Ok(dropped) => u64::from(dropped) == had,
-                Err(_) => false,
-            }
+            let traces = keep_last(counts, *days);
+            had(book.keep_newest(*days), traces)
         }
     }
 }
@@ -254,27 +288,58 @@ fn redo_all(alloc: Global, entries: &[Entry], words: &[u64]) -> Result<bool, All
     Ok(words.get(126).copied() == Some(plain_word(&counts)) && fresh.words() == words)
 }
 
-/// Asks and reads, and tells whether the words are those of the journal, which has over 400
-/// entries.
+/// Reads the journal, and tells whether these words are its own, and whether it has over 400 entries.
+fn has_words<R: Wait>(
+    rt: &R,
+    alloc: Global,
+    book: &LiveBook,
+    caller: &mut Caller,
+    words: &[u64],
+) -> Option<bool>
+    requires of { IsOfBook book.now caller.old }
+    ensures of { IsOfBook book.now caller.new }
+{
+    let entries = read(rt, book, caller, 0)?;
+    let same = redo_all(alloc, &entries, words).ok()?;
+    Some(same && entries.len() > 400)
+}
+
+/// Asks, and tells whether the words are those of the journal.
 fn agrees<R: Wait>(rt: &R, alloc: Global, book: &LiveBook, caller: &mut Caller) -> Option<bool>
     requires names { book.now.names ≡ 2 }
     requires of { IsOfBook book.now caller.old }
     ensures of { IsOfBook book.now caller.new }
 {
     let words = ask(rt, alloc, book, caller)?;
-    let entries = read(rt, book, caller, 0)?;
-    let same = redo_all(alloc, entries.as_slice(), words.as_slice()).ok()?;
-    Some(same && entries.len() > 400)
+    has_words(rt, alloc, book, caller, &words)
+}
+
+/// Works in eight threads, and tells whether all turns but two were used.
+fn work_by_eight<R: Threads + Wait + Sync>(
+    rt: &R,
+    alloc: Global,
+    book: &LiveBook,
+    mut caller: Caller,
+) -> (Caller, bool)
+    requires names { book.now.names ≡ 2 }
+    requires of { IsOfBook book.now caller }
+    ensures { IsOfBook book.now result.0 }
+{
+    if caller.turns() < 2 {
+        return (caller, false);
+    }
+    let last = book.split(&mut caller, 2);
+    let mut caller = work_beside(rt, alloc, book, caller, 3, 1);
+    let done = caller.turns() == 0;
+    book.join(&mut caller, last);
+    (caller, done)
 }
 
 #[test]
 fn eight_threads_leave_one_journal(rt: HostRuntime) -> Result<(), Fail> {
-    let alloc = rt.alloc();
-    let (book, mut caller) = LiveBook::open(alloc, 2, 802)?;
-    let last = book.split(&mut caller, 2);
-    let mut caller = work_beside(&rt, alloc, &book, caller, 3, 1);
-    assert_eq!(rt; caller.turns(), 0);
-    book.join(&mut caller, last);
-    assert_eq!(rt; agrees(&rt, alloc, &book, &mut caller), Some(true));
+    let (book, caller) = LiveBook::open(rt.alloc(), 2, 802)?;
+    let (mut caller, done) = work_by_eight(&rt, rt.alloc(), &book, caller);
+    assert!(rt; done);
+    assert_eq!(rt; agrees(&rt, rt.alloc(), &book, &mut caller), Some(true));
     Ok(())
 }

@@ -41,3 +41,6 @@ pub use line_run::{ControlLine, LineRun};
 pub use rising::lines_rise;
 pub use text_rules::is_bad_text;
 pub use why::Why;
+
+#[cfg(test)]
+mod tests;

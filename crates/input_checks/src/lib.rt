@@ -21,6 +21,4 @@ mod shared_types;
 #[cfg(test)]
 mod single_lines;
 #[cfg(test)]
-mod way_times;
-#[cfg(test)]
 mod ways;

@@ -61,7 +61,7 @@ null
 "#;
 
 /// Lines that are read straight from their tokens: none is read byte by byte.
-pub(crate) const FLAT: &str = r#"
+const FLAT: &str = r#"
 {"request":"r1","machine":"m","task":"a","event":"s","time":0}
 {"request":"r1","machine":"m","task":"a","event":"s@d","nanos":1500,"send":"x","recv":"y"}
 {"more":"x","number":5,"time":7,"event":"\u0065","task":"t","machine":"m","request":"r"}
@@ -69,7 +69,7 @@ pub(crate) const FLAT: &str = r#"
 "#;
 
 /// Lines that are read byte by byte.
-pub(crate) const PLAIN: &str = r#"
+const PLAIN: &str = r#"
 {"request":"r1","machine":"m","task":"a","event":"s","time":1}
 {"request":"r1","machine":"m","task":"a","event":"s@d","nanos":1500,"send":"x","recv":"y"}
 {"more":"x","number":5,"time":7,"event":"tä😀","task":"t","machine":"m","request":"r"}

@@ -1,60 +1,21 @@
 //! Whether claims are shown by the traces that they name.
-ghost use Rattle.std.specs.Prelude.{◌≡◌, IfOk, length};
-
-use crate::refuters::three_requests;
+use crate::catalogues::two_names;
+use crate::first_refuters::three_requests;
+use crate::worked_batches::name;
 use certificates::{Claim, Matter};
 use counterexamples::shown;
 use day_partitions::DayBook;
-use segment_names::Catalogue;
 use std::alloc::{AllocError, Global};
 use std::process::Abort;
 use std::test::Fail;
-use trace_types::{NameText, Segment, SegmentList, Text, Trace};
-
-/// A trace by texts of one segment of the task.
-fn single(alloc: Global, task: &str) -> Result<Trace, AllocError>
-    ensures { IfOk result (λ t. length t.segments ≡ 1) }
-{
-    let segment = Segment {
-        task: Text::new(alloc, task)?,
-        start_event: Text::new(alloc, "s")?,
-        end_event: Text::new(alloc, "e")?,
-        start: 5,
-        end: 9,
-        element: None,
-    };
-    Ok(Trace {
-        request: Text::new(alloc, "r0")?,
-        day: 3,
-        latency: 4,
-        segments: SegmentList::of(vec![in alloc; segment]?),
-    })
-}
-
-/// A catalogue of the names (a, s, e) and (b, s, e), in this order.
-fn two_names(rt: &impl Abort, alloc: Global) -> Result<Catalogue, AllocError> {
-    let mut catalogue = Catalogue::new(alloc);
-    assert!(rt; catalogue.add(alloc, &single(alloc, "a")?) == Ok(()));
-    assert!(rt; catalogue.add(alloc, &single(alloc, "b")?) == Ok(()));
-    Ok(catalogue)
-}
-
-/// The name (task, s, e).
-fn name(alloc: Global, task: &str) -> Result<NameText, AllocError> {
-    Ok(NameText {
-        task: Text::new(alloc, task)?,
-        start: Text::new(alloc, "s")?,
-        end: Text::new(alloc, "e")?,
-    })
-}
+use trace_types::Text;
 
 /// The relation of this kind between two names, or between two tasks.
-fn matter(alloc: Global, kind: &str, first: &str, second: &str) -> Result<Matter, AllocError> {
+fn matter_of(alloc: Global, kind: &str, first: &str, second: &str) -> Result<Matter, AllocError> {
     if kind == "pipe" {
-        return Ok(Matter::Pipe {
-            from: Text::new(alloc, first)?,
-            to: Text::new(alloc, second)?,
-        });
+        let from = Text::new(alloc, first)?;
+        let to = Text::new(alloc, second)?;
+        return Ok(Matter::Pipe { from, to });
     }
     let first = name(alloc, first)?;
     let second = name(alloc, second)?;
@@ -75,23 +36,24 @@ fn claim_of(
     request: &str,
 ) -> Result<Claim, AllocError> {
     let request = Text::new(alloc, request)?;
+    let matter = matter_of(alloc, kind, names.0, names.1)?;
     Ok(Claim {
         line: 2,
-        matter: matter(alloc, kind, names.0, names.1)?,
+        matter,
         day,
         index,
         request,
     })
 }
 
-/// Tells whether the book shows the claim, whose names are those of the catalogue of two names.
+/// Tells whether the book shows the claim, where name 0 is that of the task `a` and name 1 that of `b`.
 fn is_shown_by(
     rt: &impl Abort,
     alloc: Global,
     book: &DayBook,
     claim: &Claim,
 ) -> Result<bool, AllocError> {
-    let catalogue = two_names(rt, alloc)?;
+    let catalogue = two_names(rt, alloc, "a", "b")?;
     Ok(shown(book, &catalogue, claim))
 }
 

@@ -4,9 +4,13 @@
 #![tactic(auto)]
 
 #[cfg(test)]
+mod catalogues;
+#[cfg(test)]
 mod certificate_texts;
 #[cfg(test)]
 mod claims;
+#[cfg(test)]
+mod first_refuters;
 #[cfg(test)]
 mod named_batches;
 #[cfg(test)]

@@ -44,6 +44,21 @@ fn push_event<'a>(
     table.push(alloc, hints, line, &fields)
 }
 
+/// Appends an event at a time, and another of the name `e` four nanoseconds later.
+fn push_both(
+    alloc: Global,
+    hints: &mut TextHints,
+    table: &mut EventTable,
+    request: &str,
+    task: &str,
+    start: &str,
+    time: u64,
+) -> Result<(), AllocError> {
+    push_event(alloc, hints, table, request, task, start, time)?;
+    let end = time.saturating_add(4);
+    push_event(alloc, hints, table, request, task, "e", end)
+}
+
 /// Appends the two events of a trace, which has this number and is of the day with this number: one
 /// of this name, and then one of the name `e`.
 fn push_trace(
@@ -55,18 +70,8 @@ fn push_trace(
     start: &str,
 ) -> Result<(), AllocError> {
     let request = format!(in alloc; "r{number}")?;
-    let request = request.as_str();
     let time = u64::from(number).saturating_mul(NANOSECONDS_PER_DAY);
-    push_event(alloc, hints, table, request, task, start, time)?;
-    push_event(
-        alloc,
-        hints,
-        table,
-        request,
-        task,
-        "e",
-        time.saturating_add(4),
-    )
+    push_both(alloc, hints, table, &request, task, start, time)
 }
 
 /// Gathers the events of one table.
@@ -168,14 +173,25 @@ fn push_in_turn(
     push_trace(alloc, hints, table, number, "a", start.as_str())
 }
 
+/// Appends so many traces, the last two with a name of its own each.
+fn push_all_in_turn(
+    alloc: Global,
+    hints: &mut TextHints,
+    table: &mut EventTable,
+    count: u32,
+) -> Result<(), AllocError> {
+    for number in 0..count {
+        push_in_turn(alloc, hints, table, number, count)?;
+    }
+    Ok(())
+}
+
 /// Makes the events of so many traces of the task `a`, on the days 0, 1, 2 and so on. Their names
 /// are three in turn, but for those of the last two, who have each a name of its own.
 fn three_in_turn(alloc: Global, count: u32) -> Result<EventTable, AllocError> {
     let mut hints = TextHints::new(alloc)?;
     let mut table = EventTable::new(alloc);
-    for number in 0..count {
-        push_in_turn(alloc, &mut hints, &mut table, number, count)?;
-    }
+    push_all_in_turn(alloc, &mut hints, &mut table, count)?;
     Ok(table)
 }
 
@@ -193,26 +209,41 @@ fn is_in_turn(trace: &NamedTrace, number: u32, count: u32) -> bool {
     }
 }
 
+/// Tells whether these are so many of `three_in_turn` in their order.
+fn are_in_turn(named: &[NamedTrace], count: u32) -> bool {
+    let mut number = 0;
+    for trace in named {
+        if number >= count || !is_in_turn(trace, number, count) {
+            return false;
+        }
+        number += 1;
+    }
+    number == count
+}
+
+/// Tells whether the traces of a table are so many of `three_in_turn`, and are named in their order
+/// by so many workers.
+fn names_in_turn<R: Abort + Threads + Sync>(
+    rt: &R,
+    alloc: Global,
+    table: EventTable,
+    count: u32,
+    workers: u32,
+) -> bool {
+    let mut named = Vec::new(alloc);
+    let names = name_traces(rt, alloc, table, workers, &mut named);
+    names == Ok(5) && are_in_turn(&named, count)
+}
+
 /// Tells whether so many of `three_in_turn` are named in their order by so many workers.
-fn are_in_turn<R: Abort + Threads + Sync>(
+fn stay_in_turn<R: Abort + Threads + Sync>(
     rt: &R,
     alloc: Global,
     count: u32,
     workers: u32,
 ) -> Result<bool, AllocError> {
     let table = three_in_turn(alloc, count)?;
-    let mut named = Vec::new(alloc);
-    if name_traces(rt, alloc, table, workers, &mut named) != Ok(5) {
-        return Ok(false);
-    }
-    let mut number = 0;
-    for trace in &named {
-        if number >= count || !is_in_turn(trace, number, count) {
-            return Ok(false);
-        }
-        number += 1;
-    }
-    Ok(number == count)
+    Ok(names_in_turn(rt, alloc, table, count, workers))
 }
 
 #[test]
@@ -220,7 +251,7 @@ fn traces_stay_in_order_across_windows(rt: HostRuntime) -> Result<(), Fail> {
     let alloc = rt.alloc();
     for count in [63, 64, 65, 84, 85, 256, 257, 320, 321] {
         for workers in [1, 4, 64] {
-            assert!(rt; are_in_turn(&rt, alloc, count, workers)?);
+            assert!(rt; stay_in_turn(&rt, alloc, count, workers)?);
         }
     }
     Ok(())
@@ -241,8 +272,26 @@ fn push_own(
     push_trace(alloc, hints, table, number, event.as_str(), event.as_str())
 }
 
-/// Makes the events of so many traces of one name of the task `a`, and then of so many with a name
-/// of its own each, and a task of its own too or the task `a`.
+/// Appends so many traces of one name of the task `a`, and then so many with a name of its own each,
+/// and a task of its own too or the task `a`.
+fn push_first_and_own(
+    alloc: Global,
+    hints: &mut TextHints,
+    table: &mut EventTable,
+    counts: (u32, u32),
+    one_task: bool,
+) -> Result<(), AllocError> {
+    let (first, own) = counts;
+    for number in 0..first {
+        push_trace(alloc, hints, table, number, "a", "x")?;
+    }
+    for number in first..first.saturating_add(own) {
+        push_own(alloc, hints, table, number, one_task)?;
+    }
+    Ok(())
+}
+
+/// Makes the events of so many such traces.
 fn first_and_own(
     alloc: Global,
     first: u32,
@@ -251,13 +300,18 @@ fn first_and_own(
 ) -> Result<EventTable, AllocError> {
     let mut hints = TextHints::new(alloc)?;
     let mut table = EventTable::new(alloc);
-    for number in 0..first {
-        push_trace(alloc, &mut hints, &mut table, number, "a", "x")?;
-    }
-    for number in first..first.saturating_add(own) {
-        push_own(alloc, &mut hints, &mut table, number, one_task)?;
-    }
+    push_first_and_own(alloc, &mut hints, &mut table, (first, own), one_task)?;
     Ok(table)
+}
+
+/// Names the traces of a table, and gives the fault.
+fn fault_of<R: Abort + Threads + Sync>(
+    rt: &R,
+    alloc: Global,
+    table: EventTable,
+) -> Option<NameFault> {
+    let mut named = Vec::new(alloc);
+    name_traces(rt, alloc, table, 4, &mut named).err()
 }
 
 /// Names the traces of `first_and_own`, and gives the fault.
@@ -269,8 +323,7 @@ fn last_fault<R: Abort + Threads + Sync>(
     one_task: bool,
 ) -> Result<Option<NameFault>, AllocError> {
     let table = first_and_own(alloc, first, own, one_task)?;
-    let mut named = Vec::new(alloc);
-    Ok(name_traces(rt, alloc, table, 4, &mut named).err())
+    Ok(fault_of(rt, alloc, table))
 }
 
 #[test]

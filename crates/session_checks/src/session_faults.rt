@@ -8,6 +8,7 @@ use std::alloc::{AllocError, Global};
 use std::sync::atomic::{AtomicU64, Ordering};
 use std::test::Fail;
 use std::thread::Threads;
+use trace_types::Event;
 
 /// Counts its turns, one before each trace that is recorded.
 #[derive(Drop)]
@@ -21,6 +22,17 @@ impl Gate for CountingGate {
     }
 }
 
+/// Adds events to a new session, whose workers wait for this gate, and gives the fault.
+fn add_fault<R: AllocGlobal + Threads + Sync, S: Sink>(
+    rt: &R,
+    events: Vec<Event>,
+    out: &mut S,
+    gate: &CountingGate,
+) -> Result<Option<CommandFault>, AllocError> {
+    let session = Session::new(rt.alloc(), 2)?;
+    Ok(add_through(rt, session, events, out, gate).err())
+}
+
 /// Adds so many days to a new session. Gives the fault and how many traces were recorded.
 fn add_days<R: AllocGlobal + Threads + Sync, S: Sink>(
     rt: &R,
@@ -32,8 +44,7 @@ fn add_days<R: AllocGlobal + Threads + Sync, S: Sink>(
         turns: AtomicU64::new(0),
     };
     let events = on_days(alloc, days)?;
-    let session = Session::new(alloc, 2)?;
-    let fault = add_through(rt, session, events, out, &gate).err();
+    let fault = add_fault(rt, events, out, &gate)?;
     Ok((fault, gate.turns.load(Ordering::SeqCst)))
 }
 
@@ -51,13 +62,20 @@ fn an_add_of_65_days_records_and_writes_nothing(rt: HostRuntime) -> Result<(), F
     Ok(())
 }
 
+/// Drops a day of a new session, and gives the fault.
+fn drop_fault<R: AllocGlobal + Threads + Sync, S: Sink>(
+    rt: &R,
+    out: &mut S,
+) -> Result<Option<CommandFault>, AllocError> {
+    let session = Session::new(rt.alloc(), 1)?;
+    Ok(control(rt, session, Command::Drop { day: 3 }, out).err())
+}
+
 #[test]
 fn a_write_that_fails_leaves_a_prefix(rt: HostRuntime) -> Result<(), Fail> {
     let alloc = rt.alloc();
     let mut out = MemSink::new(alloc, 5, [2].to_vec(alloc)?, 1000)?;
-    let session = Session::new(alloc, 1)?;
-    let fault = control(&rt, session, Command::Drop { day: 3 }, &mut out).err();
-    assert_eq!(rt; fault, Some(CommandFault::Write));
+    assert_eq!(rt; drop_fault(&rt, &mut out)?, Some(CommandFault::Write));
     assert_eq!(rt; out.bytes(), b"drop\t".as_slice());
     Ok(())
 }

@@ -57,6 +57,18 @@ pub(crate) fn add<R: AllocGlobal + Threads + Sync, S: Sink>(
     add_through(rt, session, events, out, &OpenGate)
 }
 
+/// Makes a session of one worker, and carries out an add of these events.
+pub(crate) fn begin<R: AllocGlobal + Threads + Sync, S: Sink>(
+    rt: &R,
+    events: Vec<Event>,
+    out: &mut S,
+) -> Result<Session, CommandFault> {
+    match Session::new(rt.alloc(), 1) {
+        Ok(session) => add(rt, session, events, out),
+        Err(_) => Err(CommandFault::Memory),
+    }
+}
+
 /// Carries out an add, as `add` does, whose workers wait for this gate.
 pub(crate) fn add_through<R: AllocGlobal + Threads + Sync, S: Sink, G: Gate + Sync>(
     rt: &R,

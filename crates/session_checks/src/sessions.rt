@@ -1,10 +1,11 @@
 //! Sessions that add, drop and keep days, and what they print.
-use crate::session_steps::{add, carry_out, control};
+use crate::session_steps::{add, begin, carry_out, control};
 use crate::worked_batches::{batch, name};
 use event_lines::Command;
 use mystery_io::{MemSink, Sink};
 use session::{CommandFault, Job, Session};
 use session_rules::NamedChange;
+use std::alloc::{AllocError, Global};
 use std::test::Fail;
 use std::thread::Threads;
 use trace_types::Event;
@@ -42,70 +43,128 @@ fn keep_nothing<R: Threads + Sync, S: Sink>(
     control(rt, session, Command::Model, out)
 }
 
+/// Watches and adds, drops a day, and prints the views.
+fn drop_and_print<R: AllocGlobal + Threads + Sync, S: Sink>(
+    rt: &R,
+    session: Session,
+    events: Vec<Event>,
+    out: &mut S,
+) -> Result<Session, CommandFault> {
+    let session = watch_and_add(rt, session, events, out)?;
+    let session = control(rt, session, Command::Drop { day: 1 }, out)?;
+    print_views(rt, session, out)
+}
+
+/// Does all that to a new session, and keeps nothing in the end.
+fn run_controls<R: AllocGlobal + Threads + Sync, S: Sink>(
+    rt: &R,
+    events: Vec<Event>,
+    out: &mut S,
+) -> Result<Session, CommandFault> {
+    let Ok(session) = Session::new(rt.alloc(), 1) else {
+        return Err(CommandFault::Memory);
+    };
+    let session = drop_and_print(rt, session, events, out)?;
+    keep_nothing(rt, session, out)
+}
+
+/// What a session prints that adds, drops and keeps.
+const CONTROLS: &[u8] = b"refused\tr3\trepeated event\t6\n\
+    watch\t1\t0\t1\t0\n\
+    watch\t2\t0\t1\t0\n\
+    model\ttraces=2\tdays=2\tsegments=1\ttasks=1\thb=0\tmx=0\tpipe=0\n\
+    drop\t1\t1\n\
+    paths\ttraces=1\n\
+    path\tr2\t2\t10000\t10000\t1\n\
+    step\ta\ts\te\t10000\n\
+    slack\ttraces=1\n\
+    trace\tr2\t2\t10000\t10000\n\
+    segment\ta\ts\te\t10000\t0\n\
+    graph\ttraces=1\n\
+    trace\tr2\t2\t10000\t1\t0\n\
+    vertex\t0\ta\ts\te\t10000\n\
+    keep\t0\t1\n\
+    model\ttraces=0\tdays=0\tsegments=0\ttasks=0\thb=0\tmx=0\tpipe=0\n";
+
 #[test]
 fn a_session_adds_drops_keeps_and_prints(rt: HostRuntime) -> Result<(), Fail> {
     let alloc = rt.alloc();
-    let events = batch(alloc)?;
     let mut out = MemSink::new(alloc, 100, Vec::new(alloc), 1000)?;
-    let session = Session::new(alloc, 1)?;
-    let session = watch_and_add(&rt, session, events, &mut out).expect(&rt, "session");
-    let session = control(&rt, session, Command::Drop { day: 1 }, &mut out).expect(&rt, "session");
-    let session = print_views(&rt, session, &mut out).expect(&rt, "session");
-    let _session = keep_nothing(&rt, session, &mut out).expect(&rt, "session");
-    assert_eq!(rt;
-        out.bytes(),
-        b"refused\tr3\trepeated event\t6\n\
-          watch\t1\t0\t1\t0\n\
-          watch\t2\t0\t1\t0\n\
-          model\ttraces=2\tdays=2\tsegments=1\ttasks=1\thb=0\tmx=0\tpipe=0\n\
-          drop\t1\t1\n\
-          paths\ttraces=1\n\
-          path\tr2\t2\t10000\t10000\t1\n\
-          step\ta\ts\te\t10000\n\
-          slack\ttraces=1\n\
-          trace\tr2\t2\t10000\t10000\n\
-          segment\ta\ts\te\t10000\t0\n\
-          graph\ttraces=1\n\
-          trace\tr2\t2\t10000\t1\t0\n\
-          vertex\t0\ta\ts\te\t10000\n\
-          keep\t0\t1\n\
-          model\ttraces=0\tdays=0\tsegments=0\ttasks=0\thb=0\tmx=0\tpipe=0\n"
-            .as_slice()
-    );
+    assert!(rt; run_controls(&rt, batch(alloc)?, &mut out).is_ok());
+    assert_eq!(rt; out.bytes(), CONTROLS);
     Ok(())
 }
+
+/// Prints the report, the summary and the report on the slowest traces.
+fn print_reports<R: Threads + Sync, S: Sink>(
+    rt: &R,
+    session: Session,
+    out: &mut S,
+) -> Result<Session, CommandFault> {
+    let session = control(rt, session, Command::Report, out)?;
+    let session = carry_out(rt, session, Job::Summary, out)?;
+    carry_out(rt, session, Job::Tail, out)
+}
+
+/// Adds events to a new session and prints its reports.
+fn report<R: AllocGlobal + Threads + Sync, S: Sink>(
+    rt: &R,
+    events: Vec<Event>,
+    out: &mut S,
+) -> Result<Session, CommandFault> {
+    let session = begin(rt, events, out)?;
+    print_reports(rt, session, out)
+}
+
+/// Does all that, and forecasts a change.
+fn report_and_forecast<R: AllocGlobal + Threads + Sync, S: Sink>(
+    rt: &R,
+    events: Vec<Event>,
+    change: NamedChange,
+    out: &mut S,
+) -> Result<Session, CommandFault> {
+    let session = report(rt, events, out)?;
+    carry_out(rt, session, Job::WhatIf { change }, out)
+}
+
+/// Makes the change to a quarter of the segments of the task `a`.
+fn quarter(alloc: Global) -> Result<NamedChange, AllocError> {
+    Ok(NamedChange {
+        name: name(alloc, "a")?,
+        num: 1,
+        den: 4,
+    })
+}
+
+/// Reports on the worked batch and forecasts a change, and tells whether all jobs were carried out.
+fn reports_and_forecasts<R: AllocGlobal + Threads + Sync, S: Sink>(
+    rt: &R,
+    out: &mut S,
+) -> Result<bool, AllocError> {
+    let events = batch(rt.alloc())?;
+    let change = quarter(rt.alloc())?;
+    Ok(report_and_forecast(rt, events, change, out).is_ok())
+}
+
+/// What a session prints that reports and forecasts.
+const REPORTS: &[u8] = b"refused\tr3\trepeated event\t6\n\
+    report\ttraces=2\tcritical=20000\n\
+    latency\t2\t20000\t10000\t10000\n\
+    segment\ta\ts\te\t2\t20000\t10000\t10000\t2\t20000\n\
+    model\ttraces=2\tdays=2\tsegments=1\ttasks=1\thb=0\tmx=0\tpipe=0\n\
+    report\ttraces=2\tcritical=20000\n\
+    latency\t2\t20000\t10000\t10000\n\
+    tail\ttraces=2\tslow=1\tfloor=10000\n\
+    segment\ta\ts\te\t1\t10000\t1\t10000\n\
+    whatif\ttraces=2\tbefore=20000\tafter=5000\n\
+    forecast\tr1\t1\t10000\t2500\n\
+    forecast\tr2\t2\t10000\t2500\n";
 
 #[test]
 fn a_session_reports_and_forecasts(rt: HostRuntime) -> Result<(), Fail> {
     let alloc = rt.alloc();
-    let events = batch(alloc)?;
-    let change = NamedChange {
-        name: name(alloc, "a")?,
-        num: 1,
-        den: 4,
-    };
     let mut out = MemSink::new(alloc, 100, Vec::new(alloc), 1000)?;
-    let session = Session::new(alloc, 1)?;
-    let session = add(&rt, session, events, &mut out).expect(&rt, "session");
-    let session = control(&rt, session, Command::Report, &mut out).expect(&rt, "session");
-    let session = carry_out(&rt, session, Job::Summary, &mut out).expect(&rt, "session");
-    let session = carry_out(&rt, session, Job::Tail, &mut out).expect(&rt, "session");
-    let _session = carry_out(&rt, session, Job::WhatIf { change }, &mut out).expect(&rt, "session");
-    assert_eq!(rt;
-        out.bytes(),
-        b"refused\tr3\trepeated event\t6\n\
-          report\ttraces=2\tcritical=20000\n\
-          latency\t2\t20000\t10000\t10000\n\
-          segment\ta\ts\te\t2\t20000\t10000\t10000\t2\t20000\n\
-          model\ttraces=2\tdays=2\tsegments=1\ttasks=1\thb=0\tmx=0\tpipe=0\n\
-          report\ttraces=2\tcritical=20000\n\
-          latency\t2\t20000\t10000\t10000\n\
-          tail\ttraces=2\tslow=1\tfloor=10000\n\
-          segment\ta\ts\te\t1\t10000\t1\t10000\n\
-          whatif\ttraces=2\tbefore=20000\tafter=5000\n\
-          forecast\tr1\t1\t10000\t2500\n\
-          forecast\tr2\t2\t10000\t2500\n"
-            .as_slice()
-    );
+    assert!(rt; reports_and_forecasts(&rt, &mut out)?);
+    assert_eq!(rt; out.bytes(), REPORTS);
     Ok(())
 }

@@ -1,11 +1,12 @@
 //! A session that certifies what its traces refute, and verifies claims.
-use crate::session_steps::{add, carry_out, verify};
+use crate::session_steps::{begin, carry_out, verify};
 use crate::worked_batches::{name, turned_batch};
 use certificates::{Claim, Matter};
-use mystery_io::MemSink;
-use session::{Job, Session};
+use mystery_io::{MemSink, Sink};
+use session::{CommandFault, Job, Session};
 use std::alloc::{AllocError, Global};
 use std::test::Fail;
+use std::thread::Threads;
 use trace_types::Text;
 
 /// Makes the claim that a trace of the day 0 refutes that the one task's segment happens before the
@@ -45,29 +46,66 @@ fn refused_claims(alloc: Global) -> Result<Vec<Claim>, AllocError> {
     Ok(claims)
 }
 
+/// Certifies, and verifies these claims.
+fn certify_and_verify<R: Threads + Sync, S: Sink>(
+    rt: &R,
+    session: Session,
+    claims: Vec<Claim>,
+    out: &mut S,
+) -> Result<Session, CommandFault> {
+    let session = carry_out(rt, session, Job::Why, out)?;
+    verify(rt, session, claims, out)
+}
+
+/// Certifies what the turned batch refutes, and verifies claims.
+fn certify_turned<R: AllocGlobal + Threads + Sync, S: Sink>(
+    rt: &R,
+    claims: Vec<Claim>,
+    out: &mut S,
+) -> Result<Session, CommandFault> {
+    let Ok(events) = turned_batch(rt.alloc()) else {
+        return Err(CommandFault::Memory);
+    };
+    let session = begin(rt, events, out)?;
+    certify_and_verify(rt, session, claims, out)
+}
+
+/// Verifies claims that are shown, and then one that is not.
+fn verify_both<R: AllocGlobal + Threads + Sync, S: Sink>(
+    rt: &R,
+    claims: Vec<Claim>,
+    others: Vec<Claim>,
+    out: &mut S,
+) -> Result<Session, CommandFault> {
+    let session = certify_turned(rt, claims, out)?;
+    verify(rt, session, others, out)
+}
+
+/// Makes the claims and verifies them, and tells whether all jobs were carried out.
+fn verifies_both<R: AllocGlobal + Threads + Sync, S: Sink>(
+    rt: &R,
+    out: &mut S,
+) -> Result<bool, AllocError> {
+    let claims = shown_claims(rt.alloc())?;
+    let others = refused_claims(rt.alloc())?;
+    Ok(verify_both(rt, claims, others, out).is_ok())
+}
+
+/// What a session prints that certifies what the turned batch refutes, and verifies claims.
+const PRINTED: &[u8] = b"why\ttraces=2\trefuted=2\n\
+    refuted\tbefore\ta\ts\te\tb\ts\te\t0\t1\tr2\n\
+    refuted\tbefore\tb\ts\te\ta\ts\te\t0\t0\tr1\n\
+    shown\t2\n\
+    shown\t3\n\
+    verified\t2\t2\n\
+    not shown\t7\n\
+    verified\t0\t1\n";
+
 #[test]
 fn a_session_certifies_and_verifies(rt: HostRuntime) -> Result<(), Fail> {
     let alloc = rt.alloc();
-    let events = turned_batch(alloc)?;
-    let claims = shown_claims(alloc)?;
-    let others = refused_claims(alloc)?;
     let mut out = MemSink::new(alloc, 100, Vec::new(alloc), 1000)?;
-    let session = Session::new(alloc, 1)?;
-    let session = add(&rt, session, events, &mut out).expect(&rt, "session");
-    let session = carry_out(&rt, session, Job::Why, &mut out).expect(&rt, "session");
-    let session = verify(&rt, session, claims, &mut out).expect(&rt, "session");
-    let _session = verify(&rt, session, others, &mut out).expect(&rt, "session");
-    assert_eq!(rt;
-        out.bytes(),
-        b"why\ttraces=2\trefuted=2\n\
-          refuted\tbefore\ta\ts\te\tb\ts\te\t0\t1\tr2\n\
-          refuted\tbefore\tb\ts\te\ta\ts\te\t0\t0\tr1\n\
-          shown\t2\n\
-          shown\t3\n\
-          verified\t2\t2\n\
-          not shown\t7\n\
-          verified\t0\t1\n"
-            .as_slice()
-    );
+    assert!(rt; verifies_both(&rt, &mut out)?);
+    assert_eq!(rt; out.bytes(), PRINTED);
     Ok(())
 }
