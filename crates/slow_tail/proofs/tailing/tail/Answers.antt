@@ -6,6 +6,7 @@ use Rattle.std.proofs.lemmas.List.{length-map}
 use Rattle.std.proofs.lemmas.Slice.Zip.{AllZip-long}
 use Rattle.day_partitions.specs.Books.{BookState, all_traces}
 use Rattle.model_meet.specs.ModelStates.{ModelState}
+use Rattle.refute_tests.specs.Clearing.{HaveNamesBelow}
 use Rattle.refute_tests.specs.Survivors.{AreSurvivors}
 use Rattle.segment_names.specs.Known.{Known}
 use Rattle.trace_types.specs.declared.named_segment.NamedSegment.{NamedSegment}
