@@ -7,17 +7,12 @@ use Rattle.std.proofs.lemmas.List.Elements.{All-tail, All-weaker, All-contains, 
 use Rattle.std.proofs.lemmas.Option.{same_Some, slice_get_within}
 use Rattle.counterexamples.specs.Findings.{StandsAt, StandsBefore}
 use Rattle.counterexamples.specs.declared.finding.Finding.{Finding}
-use Rattle.day_partitions.specs.Books.{AreOfDay, AreRising, KeptDay, all_traces, traces_kept_on}
+use Rattle.day_partitions.specs.Books.{AreOfDay, KeptDay, all_traces, traces_kept_on}
 use Rattle.trace_types.specs.declared.named_trace.NamedTrace.{NamedTrace}
 use Rattle.trace_types.proofs.ElementLemmas.{from_flat_map, Contains-from_get}
-use Rattle.book_laws.proofs.BookLemmas.{pairs_head, days_tail, own_day, above_all}
+use Rattle.book_laws.proofs.BookLemmas.{AreDays, pairs_head, days_tail, own_day, above_all}
 use Rattle.day_partitions.proofs.FilterLemmas.{filter_all, filter_none}
 use Rattle.certificate_rows.proofs.ElementLemmas.{before_place, get_from_Contains, get_from_take}
-
--- days that rise, each with traces of that day
-pub record AreDays (ks : List KeptDay) : Type 0 where
-  pub rising : AreRising ks
-  pub dated : All (λ (k : KeptDay). AreOfDay k.day k.traces) ks
 
 abbrev IsDated : KeptDay → Type 0
 IsDated k = AreOfDay k.day k.traces

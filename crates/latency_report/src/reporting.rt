@@ -29,8 +29,8 @@ pub fn report<R: Threads + Sync>(
 {
     let names = book.names();
     let model = Model::new(book.words(), names);
-    model.tells_exclusions();
     // For the proof alone.
+    model.tells_exclusions();
     bits_tell_paths();
     let traces = kept_traces(alloc, book.day_book())?;
     let paths = critical_paths(workers, alloc, &traces, &model)?;

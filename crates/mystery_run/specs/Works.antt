@@ -39,8 +39,8 @@ view_command Slack = commands.Slack
 view_command Report = commands.Report
 view_command Graph = commands.Graph
 
--- the last job that an action asks for, whose certificate makes these claims; none where the control
--- lines of the files are all that is to be carried out, or where there are no lines
+-- the last job that an action asks for, whose certificate makes these claims: none for a session,
+-- whose control lines are all that is carried out, and for a replay, which has no jobs
 abbrev pub last_job : Action → List Claim → Option Job
 last_job (view v files) claims = Some (Control (view_command v))
 last_job (what_if change files) claims = Some (WhatIf change)

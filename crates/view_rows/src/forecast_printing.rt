@@ -157,10 +157,10 @@ pub fn print_forecasts<R: Threads + Sync, S: Sink>(
     // For the proof alone.
     bits_tell_graphs();
     forecast_is_shown();
-    // For the proof alone.
     parts_follow::<SessionPart>();
     let catalogue = book.catalogue();
     let model = Model::new(book.words(), book.names());
+    // For the proof alone.
     model.tells_exclusions();
     let traces = kept_traces(alloc, book.day_book())?;
     let forecasts = forecast_change(workers, alloc, &traces, &model, catalogue, change)?;
