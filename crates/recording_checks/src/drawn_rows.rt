@@ -89,57 +89,43 @@ fn is_plain(alloc: Global, kind: &Kind, seed: u64) -> Result<bool, AllocError> {
     has_plain_row(alloc, &trace)
 }
 
-/// Makes a kind of traces with times from 0 up.
-const fn kind(count: u32, gap: u64, span: u64, grace: u64) -> Kind {
-    Kind {
-        count,
-        gap,
-        base: 0,
-        span,
-        grace,
-    }
-}
-
-/// Makes a kind of traces with times from this one up.
-const fn kind_from(base: i64, count: u32, gap: u64, span: u64, grace: u64) -> Kind {
-    Kind {
-        count,
-        gap,
-        base,
-        span,
-        grace,
-    }
-}
-
 const EARLY: i64 = i64::MIN;
 
 const LATE: i64 = i64::MAX - 40;
 
-const KINDS: [Kind; 14] = [
-    kind(0, 1, 1, 0),
-    kind(1, 1, 9, 0),
-    kind(2, 1, 9, 0),
-    kind(17, 1, 9, 2),
-    kind_from(-50, 40, 12, 100, 0),
-    kind_from(EARLY, 40, 12, 40, 30),
-    kind_from(LATE, 40, 3, 80, 30),
-    kind_from(-1000, 100, 5, 2000, 1_000_000_000),
-    kind(120, 1, 9, 2),
-    kind_from(EARLY, 120, 3, 40, 30),
-    kind_from(LATE, 120, 3, 80, 30),
-    kind_from(-1000, 120, 2, 2000, 1_000_000_000),
-    kind(256, 2, 1_000_000, 1000),
-    kind(512, 1, 100_000, 100),
+/// Kinds of traces: the count, the gap, the base, the span and the grace of each.
+const KINDS: [(u32, u64, i64, u64, u64); 14] = [
+    (0, 1, 0, 1, 0),
+    (1, 1, 0, 9, 0),
+    (2, 1, 0, 9, 0),
+    (17, 1, 0, 9, 2),
+    (40, 12, -50, 100, 0),
+    (40, 12, EARLY, 40, 30),
+    (40, 3, LATE, 80, 30),
+    (100, 5, -1000, 2000, 1_000_000_000),
+    (120, 1, 0, 9, 2),
+    (120, 3, EARLY, 40, 30),
+    (120, 3, LATE, 80, 30),
+    (120, 2, -1000, 2000, 1_000_000_000),
+    (256, 2, 0, 1_000_000, 1000),
+    (512, 1, 0, 100_000, 100),
 ];
 
 #[test]
 fn both_ways_are_the_plain_pairs(rt: HostRuntime) -> Result<(), Fail> {
     let mut seed = 7;
-    for kind in &KINDS {
+    for (count, gap, base, span, grace) in KINDS {
+        let kind = Kind {
+            count,
+            gap,
+            base,
+            span,
+            grace,
+        };
         for _ in 0..3 {
             seed = next(seed);
-            let plain = is_plain(rt.alloc(), kind, seed)?;
-            assert!(rt; plain, "{} segments from {}", kind.count, kind.base);
+            let plain = is_plain(rt.alloc(), &kind, seed)?;
+            assert!(rt; plain, "{count} segments from {base}");
         }
     }
     Ok(())

@@ -1,5 +1,6 @@
 //! Tables of words that passes clear and read, in one thread and in two.
 ghost use Rattle.std.specs.Prelude.{◌≡◌, ◌<◌, [], ◌∷◌, IfOk};
+ghost use Rattle.word_rule.specs.Holdings.{IsOfTable};
 
 use std::alloc::{AllocError, Global};
 use std::sync::atomic::{AtomicU64, Ordering};
@@ -7,7 +8,7 @@ use std::test::Fail;
 use std::thread;
 use word_rows::{Entry, Row};
 use word_rule::uses::offer_and_read_beside;
-use word_rule::{CloseFault, MeetTable};
+use word_rule::{CloseFault, MeetTable, Pass};
 
 /// What is left of the full word where bits 0 and 2 are cleared.
 const LEFT: u64 = 0xffff_ffff_ffff_fffa;
@@ -20,6 +21,33 @@ fn row_of(alloc: Global, mask: u64) -> Result<Row, AllocError>
     let mut entries = Vec::with_capacity(alloc, 1)?;
     entries.push_reserved(Entry { word: 0, mask });
     Ok(Row::of(entries))
+}
+
+/// Offers the row of one entry in word 0, the only one of the table.
+fn offer_mask(
+    alloc: Global,
+    table: &MeetTable,
+    pass: &mut Pass,
+    mask: u64,
+) -> Result<(), AllocError>
+    requires table { IsOfTable table.now pass.old }
+    requires width { table.now.width ≡ 1 }
+    requires mask { 0 < mask }
+    ensures { IsOfTable table.now pass.new }
+{
+    let row = row_of(alloc, mask)?;
+    table.offer(pass, &row);
+    Ok(())
+}
+
+/// Tells whether a table closes with these words.
+fn closes_with(alloc: Global, table: MeetTable, pass: Pass, words: &[u64]) -> bool
+    requires { IsOfTable table pass }
+{
+    match table.close(alloc, pass) {
+        Ok(closed) => closed.words.words() == words,
+        Err(_) => false,
+    }
 }
 
 /// Says that one thread is here, and waits for the other for so many turns. Answers whether the
@@ -51,8 +79,8 @@ fn the_pass_with_all_shares_closes(rt: HostRuntime) -> Result<(), Fail> {
     let (table, mut first) = MeetTable::open(rt.alloc(), 1, 4)?;
     let mut second = table.split(&mut first, 1);
     assert_eq!(rt; (first.shares(), second.shares()), (3, 1));
-    table.offer(&mut first, &row_of(rt.alloc(), 1)?);
-    table.offer(&mut second, &row_of(rt.alloc(), 4)?);
+    offer_mask(rt.alloc(), &table, &mut first, 1)?;
+    offer_mask(rt.alloc(), &table, &mut second, 4)?;
     let (table, mut first) = match table.close(rt.alloc(), first) {
         Err(
             CloseFault::PassesOut {
@@ -69,10 +97,7 @@ fn the_pass_with_all_shares_closes(rt: HostRuntime) -> Result<(), Fail> {
         Ok(_) => return Err(Fail::from("closed")),
     };
     table.join(&mut first, second);
-    match table.close(rt.alloc(), first) {
-        Ok(closed) => assert_eq!(rt; closed.words.words(), [LEFT].as_slice()),
-        Err(_) => return Err(Fail::from("not closed")),
-    }
+    assert!(rt; closes_with(rt.alloc(), table, first, &[LEFT]));
     Ok(())
 }
 
@@ -81,16 +106,13 @@ fn the_pass_with_all_shares_closes(rt: HostRuntime) -> Result<(), Fail> {
 fn what_another_pass_offered_is_read_without_a_note(rt: HostRuntime) -> Result<(), Fail> {
     let (table, mut first) = MeetTable::open(rt.alloc(), 1, 2)?;
     let mut second = table.split(&mut first, 1);
-    table.offer(&mut first, &row_of(rt.alloc(), 1)?);
-    table.offer(&mut second, &row_of(rt.alloc(), 4)?);
+    offer_mask(rt.alloc(), &table, &mut first, 1)?;
+    offer_mask(rt.alloc(), &table, &mut second, 4)?;
     let mut into = [0u64];
     table.read(&mut first, &mut into);
     assert_eq!(rt; into, [LEFT]);
     table.join(&mut first, second);
-    match table.close(rt.alloc(), first) {
-        Ok(closed) => assert_eq!(rt; closed.words.words(), [LEFT].as_slice()),
-        Err(_) => return Err(Fail::from("not closed")),
-    }
+    assert!(rt; closes_with(rt.alloc(), table, first, &[LEFT]));
     Ok(())
 }
 
@@ -104,10 +126,7 @@ fn whole_rows_run_as_on_the_step_machine(rt: HostRuntime) -> Result<(), Fail> {
     let mut into = [0u64; 2];
     table.read(&mut pass, &mut into);
     assert_eq!(rt; into, [u64::MAX - 1; 2]);
-    match table.close(rt.alloc(), pass) {
-        Ok(closed) => assert_eq!(rt; closed.words.words(), [u64::MAX - 1; 2].as_slice()),
-        Err(_) => return Err(Fail::from("not closed")),
-    }
+    assert!(rt; closes_with(rt.alloc(), table, pass, &[u64::MAX - 1; 2]));
     Ok(())
 }
 
@@ -115,7 +134,7 @@ fn whole_rows_run_as_on_the_step_machine(rt: HostRuntime) -> Result<(), Fail> {
 fn a_note_tells_what_was_offered(rt: HostRuntime) -> Result<(), Fail> {
     let (table, mut first) = MeetTable::open(rt.alloc(), 1, 2)?;
     let mut second = table.split(&mut first, 1);
-    table.offer(&mut first, &row_of(rt.alloc(), 1)?);
+    offer_mask(rt.alloc(), &table, &mut first, 1)?;
     let note = table.note(&mut first);
     table.meet(&mut second, note);
     let mut into = [0u64];
@@ -148,10 +167,7 @@ fn two_threads_offer_beside_each_other(rt: HostRuntime) -> Result<(), Fail> {
     );
     assert_eq!(rt; (one, other), (true, true));
     table.join(&mut first, second);
-    match table.close(rt.alloc(), first) {
-        Ok(closed) => assert_eq!(rt; closed.words.words(), [LEFT].as_slice()),
-        Err(_) => return Err(Fail::from("not closed")),
-    }
+    assert!(rt; closes_with(rt.alloc(), table, first, &[LEFT]));
     Ok(())
 }
 

@@ -1,6 +1,6 @@
 use crate::rows::Row::Line;
 use crate::running::{SETTING, Setting, expect, expect_texts};
-use std::alloc::Global;
+use std::alloc::{AllocError, Global};
 use std::process::Abort;
 use std::test::Fail;
 use std::thread::Threads;
@@ -126,6 +126,31 @@ fn a_later_read_fault_is_told_before_a_bad_line(rt: HostRuntime) -> Result<(), F
     expect(&rt, rt.alloc(), setting, 4, b"", b"file 2: read failed\n")
 }
 
+/// Makes so many line feeds and this line after them.
+fn after_line_feeds(alloc: Global, count: usize, last: &[u8]) -> Result<Vec<u8>, AllocError> {
+    let mut bytes = vec![in alloc; b'\n'; count]?;
+    bytes.extend_from_slice(last)?;
+    Ok(bytes)
+}
+
+/// Compares what one worker tells of a last line after 1,048,570 line feeds, with a bad line after it
+/// in another file.
+fn expect_numbered<R: Threads + Sync + Abort>(
+    rt: &R,
+    alloc: Global,
+    last: &[u8],
+    err: &[u8],
+) -> Result<(), Fail> {
+    let f = after_line_feeds(alloc, 1_048_570, last)?;
+    let setting = Setting {
+        words: &["--workers", "1", "model", "f", "g"],
+        f: &f,
+        g: b"[]",
+        ..SETTING
+    };
+    expect(rt, alloc, setting, 3, b"", err)
+}
+
 /// One worker reads 1,048,576 bytes at a time: the last line of the first file goes on in the bytes
 /// after these.
 #[test]
@@ -135,15 +160,7 @@ fn lines_are_numbered_over_all_bytes(rt: HostRuntime) -> Result<(), Fail> {
         (b"{\"do\":\"stop\"}", b"line 1048571: unknown command\n"),
     ];
     for (last, err) in table {
-        let mut f = vec![in rt.alloc(); b'\n'; 1_048_570]?;
-        f.extend_from_slice(last)?;
-        let setting = Setting {
-            words: &["--workers", "1", "model", "f", "g"],
-            f: &f,
-            g: b"[]",
-            ..SETTING
-        };
-        expect(&rt, rt.alloc(), setting, 3, b"", err)?;
+        expect_numbered(&rt, rt.alloc(), last, err)?;
     }
     Ok(())
 }

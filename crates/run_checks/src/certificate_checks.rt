@@ -167,37 +167,55 @@ fn find_certificate(text: &[u8]) -> Option<&[u8]> {
     None
 }
 
-#[test]
-fn a_print_is_a_certificate_from_its_header_on(rt: HostRuntime) -> Result<(), Fail> {
-    let alloc = rt.alloc();
-    let pieces: &[&[Row<'_>]] = &[&TOUCHING, &[ADD, MODEL], &OPPOSITE, &PIPELINE];
-    let f = input_of(alloc, pieces)?;
-    let setting = Setting {
-        words: &["why", "f"],
-        f: &f,
-        ..SETTING
-    };
-    let ending = run_setting(&rt, alloc, setting)?;
-    assert_eq!(rt; ending.status, 0);
-    let text = ending.out.bytes();
-    let certificate = find_certificate(text).ok_or("no certificate")?;
-    let setting = Setting {
-        words: &["verify", "g", "f"],
-        g: certificate,
-        ..setting
-    };
-    let checked = run_setting(&rt, alloc, setting)?;
+/// Checks a certificate over an input, and asserts that each of nine claims is shown.
+fn expect_nine<R: Threads + Sync + Abort>(
+    rt: &R,
+    alloc: Global,
+    setting: Setting<'_>,
+) -> Result<(), Fail> {
+    let checked = run_setting(rt, alloc, setting)?;
     assert_eq!(rt; checked.status, 0);
     assert!(rt; checked.out.bytes().ends_with(b"\nverified\t9\t9\n"));
-    expect_check(
-        &rt,
-        alloc,
-        text,
-        pieces,
-        3,
-        b"",
-        b"line 1: bad certificate\n",
-    )
+    Ok(())
+}
+
+/// Asserts that a print of nine claims is a certificate from its header on, and not whole.
+fn expect_header<R: Threads + Sync + Abort>(
+    rt: &R,
+    alloc: Global,
+    f: &[u8],
+    print: &[u8],
+) -> Result<(), Fail> {
+    let setting = Setting {
+        words: &["verify", "g", "f"],
+        f,
+        g: print,
+        ..SETTING
+    };
+    expect(rt, alloc, setting, 3, b"", b"line 1: bad certificate\n")?;
+    let g = find_certificate(print).ok_or("no certificate")?;
+    expect_nine(rt, alloc, Setting { g, ..setting })
+}
+
+/// Certifies an input, and asserts the same of what is printed.
+fn expect_print<R: Threads + Sync + Abort>(rt: &R, alloc: Global, f: &[u8]) -> Result<(), Fail> {
+    let setting = Setting {
+        words: &["why", "f"],
+        f,
+        ..SETTING
+    };
+    let ending = run_setting(rt, alloc, setting)?;
+    assert_eq!(rt; ending.status, 0);
+    expect_header(rt, alloc, f, ending.out.bytes())
+}
+
+#[test]
+fn a_print_is_a_certificate_from_its_header_on(rt: HostRuntime) -> Result<(), Fail> {
+    let f = input_of(
+        rt.alloc(),
+        &[&TOUCHING, &[ADD, MODEL], &OPPOSITE, &PIPELINE],
+    )?;
+    expect_print(&rt, rt.alloc(), &f)
 }
 
 /// A line that is no event line.

@@ -2,25 +2,50 @@ ghost use Rattle.std.specs.Prelude.{◌≤◌};
 
 use crate::page_load::{FIRST, SECOND};
 use crate::rows::input_of;
-use crate::running::{SETTING, Setting, run_setting};
+use crate::running::{SETTING, Setting, expect, run_setting};
 use drill_input::generate;
 use std::alloc::{AllocError, Global};
 use std::process::Abort;
 use std::test::Fail;
 use std::thread::Threads;
 
+/// Appends the row of a claim that is shown, on this line.
+fn put_row(alloc: Global, text: &mut Vec<u8>, line: u32) -> Result<(), AllocError> {
+    let row = format!(in alloc; "shown\t{line}\n")?;
+    text.extend_from_slice(row.as_bytes())
+}
+
+/// Appends the rows of so many claims that are shown, and their count.
+fn put_shown(alloc: Global, text: &mut Vec<u8>, claims: u32) -> Result<(), AllocError>
+    requires { claims ≤ 1000 }
+{
+    for claim in 0..claims {
+        put_row(alloc, text, claim + 2)?;
+    }
+    let row = format!(in alloc; "verified\t{claims}\t{claims}\n")?;
+    text.extend_from_slice(row.as_bytes())
+}
+
 /// Makes the text of a check that shows each of so many claims, on the lines from 2 on.
 fn all_shown(alloc: Global, claims: u32) -> Result<Vec<u8>, AllocError>
     requires { claims ≤ 1000 }
 {
     let mut text = Vec::new(alloc);
-    for claim in 0..claims {
-        let row = format!(in alloc; "shown\t{}\n", claim + 2)?;
-        text.extend_from_slice(row.as_bytes())?;
-    }
-    let row = format!(in alloc; "verified\t{claims}\t{claims}\n")?;
-    text.extend_from_slice(row.as_bytes())?;
+    put_shown(alloc, &mut text, claims)?;
     Ok(text)
+}
+
+/// Runs and compares the text with a check that shows each of so many claims.
+fn expect_all<R: Threads + Sync + Abort>(
+    rt: &R,
+    alloc: Global,
+    setting: Setting<'_>,
+    claims: u32,
+) -> Result<(), Fail>
+    requires { claims ≤ 1000 }
+{
+    let shown = all_shown(alloc, claims)?;
+    expect(rt, alloc, setting, 0, &shown, b"")
 }
 
 /// Runs `why` over an input, and `verify` with what it prints over the same input. Compares the
@@ -48,11 +73,7 @@ fn expect_shown<R: Threads + Sync + Abort>(
         g: certificate,
         ..setting
     };
-    let checked = run_setting(rt, alloc, setting)?;
-    assert_eq!(rt; checked.status, 0);
-    let expected = all_shown(alloc, claims)?;
-    assert_eq!(rt; checked.out.bytes(), expected.as_slice());
-    Ok(())
+    expect_all(rt, alloc, setting, claims)
 }
 
 #[test]

@@ -186,17 +186,28 @@ fn expect_model<R: Threads + Sync + Abort>(
     Ok(())
 }
 
+/// Prints the model of so many line feeds and compares the status and what is written.
+fn expect_blank<R: Threads + Sync + Abort>(
+    rt: &R,
+    alloc: Global,
+    count: usize,
+    status: u8,
+    out: &[u8],
+    err: &[u8],
+) -> Result<(), Fail> {
+    let mut files = blank_file(alloc, count)?;
+    expect_model(rt, alloc, &mut files, status, out, err)
+}
+
 #[test]
 fn the_size_is_passed_by_one_line_feed_more(rt: HostRuntime) -> Result<(), Fail> {
-    let alloc = rt.alloc();
     let limit: &[u8] = b"limit: input over 67108864 bytes\n";
     let table: [(usize, u8, &[u8], &[u8]); 2] = [
         (67_108_864, 0, EMPTY, b""),
         (67_108_865, 6, b"", limit),
     ];
     for (count, status, out, err) in table {
-        let mut files = blank_file(alloc, count)?;
-        expect_model(&rt, alloc, &mut files, status, out, err)?;
+        expect_blank(&rt, rt.alloc(), count, status, out, err)?;
     }
     Ok(())
 }

@@ -1,9 +1,11 @@
 //! Texts of so many traces that several threads make them.
-use crate::rows::put_event;
+use crate::rows::put_whole_event;
 use crate::running::{SETTING, Setting, expect};
 use itoa::Buffer;
 use std::alloc::{AllocError, Global};
+use std::process::Abort;
 use std::test::Fail;
+use std::thread::Threads;
 
 /// So many traces of one segment are cut into three pieces.
 const TRACES: u32 = 600;
@@ -13,24 +15,20 @@ fn length_of(number: u32) -> u32 {
     1 + number % 7
 }
 
+/// Appends the lines of a trace.
+fn put_trace(bytes: &mut Vec<u8>, number: u32) -> Result<(), AllocError> {
+    let mut request = Buffer::new();
+    let mut end = Buffer::new();
+    let request = request.format(number);
+    put_whole_event(bytes, request, "t", "s", "0")?;
+    put_whole_event(bytes, request, "t", "e", end.format(length_of(number)))
+}
+
 /// Makes the lines of the traces. Each request is the number of its trace.
 fn lines(alloc: Global) -> Result<Vec<u8>, AllocError> {
     let mut bytes = Vec::new(alloc);
     for number in 0..TRACES {
-        let mut request = Buffer::new();
-        let mut end = Buffer::new();
-        let request = request.format(number);
-        put_event(&mut bytes, request, "m", "t", "s", "0")?;
-        bytes.extend_from_slice(b"}\n")?;
-        put_event(
-            &mut bytes,
-            request,
-            "m",
-            "t",
-            "e",
-            end.format(length_of(number)),
-        )?;
-        bytes.extend_from_slice(b"}\n")?;
+        put_trace(&mut bytes, number)?;
     }
     Ok(bytes)
 }
@@ -53,52 +51,66 @@ fn put_head(bytes: &mut Vec<u8>, word: &str, number: u32) -> Result<(), AllocErr
     put_time(bytes, length_of(number))
 }
 
+/// Appends the rows of the path of a trace.
+fn put_path(bytes: &mut Vec<u8>, number: u32) -> Result<(), AllocError> {
+    put_head(bytes, "path", number)?;
+    put_time(bytes, length_of(number))?;
+    bytes.extend_from_slice(b"\t1\nstep\tt\ts\te")?;
+    put_time(bytes, length_of(number))?;
+    bytes.extend_from_slice(b"\n")
+}
+
 /// Makes the text of the paths of the traces.
 fn paths(alloc: Global) -> Result<Vec<u8>, AllocError> {
     let mut bytes = b"paths\ttraces=600\n".to_vec(alloc)?;
     for number in 0..TRACES {
-        put_head(&mut bytes, "path", number)?;
-        put_time(&mut bytes, length_of(number))?;
-        bytes.extend_from_slice(b"\t1\nstep\tt\ts\te")?;
-        put_time(&mut bytes, length_of(number))?;
-        bytes.push(b'\n')?;
+        put_path(&mut bytes, number)?;
     }
     Ok(bytes)
+}
+
+/// Appends the rows of the graph of a trace.
+fn put_graph(bytes: &mut Vec<u8>, number: u32) -> Result<(), AllocError> {
+    put_head(bytes, "trace", number)?;
+    bytes.extend_from_slice(b"\t1\t0\nvertex\t0\tt\ts\te")?;
+    put_time(bytes, length_of(number))?;
+    bytes.extend_from_slice(b"\n")
 }
 
 /// Makes the text of the graphs of the traces.
 fn graphs(alloc: Global) -> Result<Vec<u8>, AllocError> {
     let mut bytes = b"graph\ttraces=600\n".to_vec(alloc)?;
     for number in 0..TRACES {
-        put_head(&mut bytes, "trace", number)?;
-        bytes.extend_from_slice(b"\t1\t0\nvertex\t0\tt\ts\te")?;
-        put_time(&mut bytes, length_of(number))?;
-        bytes.push(b'\n')?;
+        put_graph(&mut bytes, number)?;
     }
     Ok(bytes)
 }
 
+/// Prints the paths of an input and compares the text.
+fn expect_paths<R: Threads + Sync + Abort>(rt: &R, alloc: Global, f: &[u8]) -> Result<(), Fail> {
+    let text = paths(alloc)?;
+    let setting = Setting {
+        words: &["paths", "f"],
+        f,
+        ..SETTING
+    };
+    expect(rt, alloc, setting, 0, &text, b"")
+}
+
+/// Prints the graphs of an input and compares the text.
+fn expect_graphs<R: Threads + Sync + Abort>(rt: &R, alloc: Global, f: &[u8]) -> Result<(), Fail> {
+    let text = graphs(alloc)?;
+    let setting = Setting {
+        words: &["graph", "f"],
+        f,
+        ..SETTING
+    };
+    expect(rt, alloc, setting, 0, &text, b"")
+}
+
 #[test]
 fn texts_of_many_traces_stand_in_their_order(rt: HostRuntime) -> Result<(), Fail> {
-    let alloc = rt.alloc();
-    let f = lines(alloc)?;
-    let setting = Setting { f: &f, ..SETTING };
-    let words = &["paths", "f"];
-    expect(
-        &rt,
-        alloc,
-        Setting { words, ..setting },
-        0,
-        &paths(alloc)?,
-        b"",
-    )?;
-    let words = &["graph", "f"];
-    expect(
-        &rt,
-        alloc,
-        Setting { words, ..setting },
-        0,
-        &graphs(alloc)?,
-        b"",
-    )
+    let f = lines(rt.alloc())?;
+    expect_paths(&rt, rt.alloc(), &f)?;
+    expect_graphs(&rt, rt.alloc(), &f)
 }

@@ -1,8 +1,10 @@
-use crate::rows::{ADD, Row, TOUCHING, put_event};
+use crate::rows::{ADD, Row, TOUCHING, put_whole_event};
 use crate::running::{Printed, SETTING, Setting, expect, expect_texts};
 use Row::{Event, Line};
 use std::alloc::{AllocError, Global};
+use std::process::Abort;
 use std::test::Fail;
+use std::thread::Threads;
 
 const THIRTY: [Row<'static>; 2] = [Event("r1", "a", "s", "0"), Event("r1", "a", "e", "30")];
 
@@ -74,23 +76,48 @@ fn of_equal_latencies_the_last_is_slow(rt: HostRuntime) -> Result<(), Fail> {
     expect_texts(&rt, rt.alloc(), "4", &table)
 }
 
+/// Appends a trace of one segment, which takes a microsecond more than its number.
+fn put_trace(alloc: Global, bytes: &mut Vec<u8>, number: u8) -> Result<(), AllocError> {
+    let request = format!(in alloc; "r{number}")?;
+    let time = format!(in alloc; "{}", u16::from(number) + 1)?;
+    put_whole_event(bytes, &request, "a", "s", "0")?;
+    put_whole_event(bytes, &request, "a", "e", &time)
+}
+
 /// Appends so many traces of one segment; the first takes 1 microsecond, and each other one more
 /// than the one in front of it.
 fn put_traces(alloc: Global, bytes: &mut Vec<u8>, count: u8) -> Result<(), AllocError> {
     for n in 0..count {
-        let request = format!(in alloc; "r{n}")?;
-        let time = format!(in alloc; "{}", u16::from(n) + 1)?;
-        put_event(bytes, request.as_str(), "m", "a", "s", "0")?;
-        bytes.extend_from_slice(b"}\n")?;
-        put_event(bytes, request.as_str(), "m", "a", "e", time.as_str())?;
-        bytes.extend_from_slice(b"}\n")?;
+        put_trace(alloc, bytes, n)?;
     }
     Ok(())
 }
 
+/// Makes the input of so many such traces.
+fn traces_of(alloc: Global, count: u8) -> Result<Vec<u8>, AllocError> {
+    let mut bytes = Vec::new(alloc);
+    put_traces(alloc, &mut bytes, count)?;
+    Ok(bytes)
+}
+
+/// Reports on the slowest of so many such traces and compares the text.
+fn expect_tail<R: Threads + Sync + Abort>(
+    rt: &R,
+    alloc: Global,
+    count: u8,
+    out: &[u8],
+) -> Result<(), Fail> {
+    let f = traces_of(alloc, count)?;
+    let setting = Setting {
+        words: &["tail", "f"],
+        f: &f,
+        ..SETTING
+    };
+    expect(rt, alloc, setting, 0, out, b"")
+}
+
 #[test]
 fn one_trace_in_twenty_is_slow(rt: HostRuntime) -> Result<(), Fail> {
-    let alloc = rt.alloc();
     let table: [(u8, &[u8]); 2] = [
         (
             20,
@@ -102,14 +129,7 @@ fn one_trace_in_twenty_is_slow(rt: HostRuntime) -> Result<(), Fail> {
         ),
     ];
     for (count, out) in table {
-        let mut f = Vec::new(alloc);
-        put_traces(alloc, &mut f, count)?;
-        let setting = Setting {
-            words: &["tail", "f"],
-            f: &f,
-            ..SETTING
-        };
-        expect(&rt, alloc, setting, 0, out, b"")?;
+        expect_tail(&rt, rt.alloc(), count, out)?;
     }
     Ok(())
 }

@@ -29,7 +29,7 @@ fn put_member(bytes: &mut Vec<u8>, name: &str, text: &str) -> Result<(), AllocEr
 }
 
 /// Appends an event's object but for its closing brace.
-pub(crate) fn put_event(
+fn put_event(
     bytes: &mut Vec<u8>,
     request: &str,
     machine: &str,
@@ -43,6 +43,18 @@ pub(crate) fn put_event(
     put_member(bytes, "machine", machine)?;
     put_member(bytes, "task", task)?;
     put_member(bytes, "event", event)
+}
+
+/// Appends the line of an event of machine m.
+pub(crate) fn put_whole_event(
+    bytes: &mut Vec<u8>,
+    request: &str,
+    task: &str,
+    event: &str,
+    time: &str,
+) -> Result<(), AllocError> {
+    put_event(bytes, request, "m", task, event, time)?;
+    bytes.extend_from_slice(b"}\n")
 }
 
 /// Appends the event of a line of a table.
@@ -71,8 +83,7 @@ fn put_table(bytes: &mut Vec<u8>, table: &str) -> Result<(), AllocError> {
 fn put_row(bytes: &mut Vec<u8>, row: Row<'_>) -> Result<(), AllocError> {
     match row {
         Row::Event(request, task, event, time) => {
-            put_event(bytes, request, "m", task, event, time)?;
-            bytes.extend_from_slice(b"}\n")
+            put_whole_event(bytes, request, task, event, time)
         }
         Row::Table(table) => put_table(bytes, table),
         Row::Line(line) => {

@@ -23,10 +23,9 @@ pub(crate) fn texts(alloc: Global, words: &[&str]) -> Result<Vec<Text>, AllocErr
 
 /// Makes a file in memory.
 pub(crate) fn mem_file(alloc: Global, name: &str, bytes: &[u8]) -> Result<MemFile, AllocError> {
-    Ok(MemFile {
-        name: Text::new(alloc, name)?,
-        bytes: ByteList::of(bytes.to_vec(alloc)?),
-    })
+    let name = Text::new(alloc, name)?;
+    let bytes = ByteList::of(bytes.to_vec(alloc)?);
+    Ok(MemFile { name, bytes })
 }
 
 /// What a run meets: its arguments, the files `f` and `g`, the calls on files, on `out` and on
@@ -78,7 +77,8 @@ fn two_files(alloc: Global, setting: Setting<'_>) -> Result<Vec<MemFile>, AllocE
 fn files_of<R: Abort>(rt: &R, alloc: Global, setting: Setting<'_>) -> Result<MemFiles, Fail> {
     assert!(rt; setting.most > 0);
     let all = two_files(alloc, setting)?;
-    Ok(MemFiles::new(all, setting.most, [setting.failing].to_vec(alloc)?))
+    let failing = [setting.failing].to_vec(alloc)?;
+    Ok(MemFiles::new(all, setting.most, failing))
 }
 
 /// Makes a sink that takes so many bytes in a call, fails at this call, and has so much room.
@@ -93,6 +93,20 @@ fn make_sink<R: Abort>(
     Ok(MemSink::new(alloc, most, [failing].to_vec(alloc)?, room)?)
 }
 
+/// Runs with these arguments over these files and these sinks.
+fn run_into<R: Threads + Sync, G: Gate + Sync>(
+    rt: &R,
+    alloc: Global,
+    words: &[Text],
+    files: &mut MemFiles,
+    mut out: MemSink,
+    mut err: MemSink,
+    gate: &G,
+) -> Ending {
+    let status = run(rt, alloc, words, files, &mut out, &mut err, gate);
+    Ending { status, out, err }
+}
+
 /// Runs with these arguments over these files, and over the sinks of a setting.
 pub(crate) fn run_over<R: Threads + Sync + Abort, G: Gate + Sync>(
     rt: &R,
@@ -102,16 +116,15 @@ pub(crate) fn run_over<R: Threads + Sync + Abort, G: Gate + Sync>(
     setting: Setting<'_>,
     gate: &G,
 ) -> Result<Ending, Fail> {
-    let mut out = make_sink(
+    let out = make_sink(
         rt,
         alloc,
         setting.out_most,
         setting.out_failing,
         setting.out_room,
     )?;
-    let mut err = make_sink(rt, alloc, setting.err_most, setting.err_failing, ROOM)?;
-    let status = run(rt, alloc, words, files, &mut out, &mut err, gate);
-    Ok(Ending { status, out, err })
+    let err = make_sink(rt, alloc, setting.err_most, setting.err_failing, ROOM)?;
+    Ok(run_into(rt, alloc, words, files, out, err, gate))
 }
 
 /// Runs with these arguments over files and sinks in memory.
@@ -185,11 +198,7 @@ pub(crate) type Printed<'t> = (&'t str, &'t [&'t [Row<'t>]], &'t [u8]);
 
 /// Makes the arguments of a command over the file `f` with so many workers.
 fn words_of(alloc: Global, workers: &str, command: &str) -> Result<Vec<Text>, AllocError> {
-    let mut words = texts(alloc, &["--workers"])?;
-    words.push(Text::new(alloc, workers)?)?;
-    words.push(Text::new(alloc, command)?)?;
-    words.push(Text::new(alloc, "f")?)?;
-    Ok(words)
+    texts(alloc, &["--workers", workers, command, "f"])
 }
 
 /// Runs a command with so many workers over this input and compares the text.
@@ -206,6 +215,18 @@ fn expect_text<R: Threads + Sync + Abort>(
     expect_run(rt, alloc, &words, setting, 0, out, b"")
 }
 
+/// Runs a command with so many workers over its input and compares the text.
+fn expect_printed<R: Threads + Sync + Abort>(
+    rt: &R,
+    alloc: Global,
+    workers: &str,
+    printed: Printed<'_>,
+) -> Result<(), Fail> {
+    let (command, pieces, out) = printed;
+    let f = input_of(alloc, pieces)?;
+    expect_text(rt, alloc, workers, command, &f, out)
+}
+
 /// Runs each command with so many workers over its input and compares the text.
 pub(crate) fn expect_texts<R: Threads + Sync + Abort>(
     rt: &R,
@@ -213,9 +234,8 @@ pub(crate) fn expect_texts<R: Threads + Sync + Abort>(
     workers: &str,
     table: &[Printed<'_>],
 ) -> Result<(), Fail> {
-    for (command, pieces, out) in table {
-        let f = input_of(alloc, pieces)?;
-        expect_text(rt, alloc, workers, command, &f, out)?;
+    for printed in table {
+        expect_printed(rt, alloc, workers, *printed)?;
     }
     Ok(())
 }

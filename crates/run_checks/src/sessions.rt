@@ -106,9 +106,8 @@ fn sessions_carry_out_their_control_lines(rt: HostRuntime) -> Result<(), Fail> {
 
 #[test]
 fn a_view_carries_out_the_control_lines_of_its_files(rt: HostRuntime) -> Result<(), Fail> {
-    let alloc = rt.alloc();
-    let first = input_of(alloc, &[&TOUCHING, &[ADD, MODEL]])?;
-    let second = input_of(alloc, &[&OPPOSITE])?;
+    let first = input_of(rt.alloc(), &[&TOUCHING, &[ADD, MODEL]])?;
+    let second = input_of(rt.alloc(), &[&OPPOSITE])?;
     let setting = Setting {
         words: &["model", "f", "g"],
         f: &first,
@@ -119,7 +118,7 @@ fn a_view_carries_out_the_control_lines_of_its_files(rt: HostRuntime) -> Result<
         b"model\ttraces=1\tdays=1\tsegments=2\ttasks=2\thb=1\tmx=0\tpipe=0\nhb\ta\ts\te\tb\ts\te\n\
             model\ttraces=2\tdays=1\tsegments=2\ttasks=2\thb=0\tmx=1\tpipe=0\n\
             mx\ta\ts\te\tb\ts\te\n";
-    expect(&rt, alloc, setting, 0, out, b"")
+    expect(&rt, rt.alloc(), setting, 0, out, b"")
 }
 
 /// All requests but r3 are refused.

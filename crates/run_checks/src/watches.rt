@@ -124,6 +124,13 @@ fn run_session<R: Threads + Sync + Abort, G: Gate + Sync>(
     run_over(rt, alloc, &words, files, SETTING, gate)
 }
 
+/// Returns what was written by a run that succeeded.
+fn whole_text(rt: &impl Abort, ending: Ending) -> MemSink {
+    assert_eq!(rt; ending.err.bytes(), b"".as_slice());
+    assert_eq!(rt; ending.status, 0);
+    ending.out
+}
+
 /// Runs a session of an input with two workers, and returns what was written.
 fn run_watched<R: Threads + Sync + Abort, G: Gate + Sync>(
     rt: &R,
@@ -133,9 +140,17 @@ fn run_watched<R: Threads + Sync + Abort, G: Gate + Sync>(
 ) -> Result<MemSink, Fail> {
     let mut files = file_of(alloc, f)?;
     let ending = run_session(rt, alloc, &mut files, gate)?;
-    assert_eq!(rt; ending.err.bytes(), b"".as_slice());
-    assert_eq!(rt; ending.status, 0);
-    Ok(ending.out)
+    Ok(whole_text(rt, ending))
+}
+
+/// Runs a session of two traces for each of two workers, and returns what was written.
+fn watch_two<R: Threads + Sync + Abort, G: Gate + Sync>(
+    rt: &R,
+    alloc: Global,
+    gate: &G,
+) -> Result<MemSink, Fail> {
+    let f = watched_input(alloc)?;
+    run_watched(rt, alloc, &f, gate)
 }
 
 /// Returns the watch number of a line with this beginning: one digit, and then the line's end.
@@ -146,47 +161,45 @@ fn watch_number(line: &[u8], before: &[u8]) -> Option<u8> {
     }
 }
 
+/// Returns the watch numbers of four lines, two for each worker; none where a text is another.
+fn watch_numbers(text: &[u8]) -> Option<[u8; 4]> {
+    let mut lines = text.split(|byte| *byte == b'\n');
+    let numbers = [
+        watch_number(lines.next()?, b"watch\t0\t0\t1\t")?,
+        watch_number(lines.next()?, b"watch\t0\t0\t2\t")?,
+        watch_number(lines.next()?, b"watch\t0\t1\t1\t")?,
+        watch_number(lines.next()?, b"watch\t0\t1\t2\t")?,
+    ];
+    if lines.next() != Some(b"".as_slice()) || lines.next().is_some() {
+        return None;
+    }
+    Some(numbers)
+}
+
 #[test]
 fn watch_numbers_are_bounded_and_never_fall(rt: HostRuntime) -> Result<(), Fail> {
-    let alloc = rt.alloc();
     let gate = BothFirst {
         zero: AtomicU64::new(0),
         one: AtomicU64::new(0),
         failed: AtomicU64::new(0),
     };
-    let f = watched_input(alloc)?;
-    let out = run_watched(&rt, alloc, &f, &gate)?;
+    let out = watch_two(&rt, rt.alloc(), &gate)?;
     assert_eq!(rt; gate.failed.load(Ordering::SeqCst), 0);
-    let wanted: [&[u8]; 4] = [
-        b"watch\t0\t0\t1\t",
-        b"watch\t0\t0\t2\t",
-        b"watch\t0\t1\t1\t",
-        b"watch\t0\t1\t2\t",
-    ];
-    let mut numbers = Vec::new(alloc);
-    let mut lines = out.bytes().split(|byte| *byte == b'\n');
-    for before in wanted {
-        let number = lines.next().and_then(|line| watch_number(line, before));
-        numbers.push(number.ok_or("no watch line")?)?;
-    }
-    assert_eq!(rt; lines.next(), Some(b"".as_slice()));
-    assert!(rt; lines.next().is_none());
+    let numbers = watch_numbers(out.bytes()).ok_or("no watch lines")?;
     assert!(rt; numbers.iter().all(|number| 2 <= *number && *number <= 3));
-    assert_eq!(rt; numbers.len(), 4);
-    assert!(rt; numbers[0] <= numbers[1] && numbers[2] <= numbers[3]);
+    let [one, two, three, four] = numbers;
+    assert!(rt; one <= two && three <= four);
     Ok(())
 }
 
 #[test]
 fn a_reading_sees_what_the_other_worker_offered(rt: HostRuntime) -> Result<(), Fail> {
-    let alloc = rt.alloc();
     let gate = OneBeforeZero {
         zero: AtomicU64::new(0),
         one: AtomicU64::new(0),
         failed: AtomicU64::new(0),
     };
-    let f = watched_input(alloc)?;
-    let out = run_watched(&rt, alloc, &f, &gate)?;
+    let out = watch_two(&rt, rt.alloc(), &gate)?;
     assert_eq!(rt; gate.failed.load(Ordering::SeqCst), 0);
     assert_eq!(rt;
         out.bytes(),
