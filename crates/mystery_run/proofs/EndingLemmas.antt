@@ -19,6 +19,7 @@ use Rattle.mystery_run.specs.ReplayTexts.{replay_text}
 use Rattle.mystery_run.specs.Runs.{Seen, OfInputs, ReadsAll, EndsAs, Reads, Explains}
 use Rattle.mystery_run.specs.Works.{BadInput, Work, Jobs, Steps, work_after, work_said}
 use Rattle.mystery_run.specs.inner.InputEnds.{InputEnds, SaidEnds}
+use Rattle.mystery_run.specs.inner.OutcomeFaults.{outcome_read_faults}
 use Rattle.mystery_run.proofs.ReadingLemmas.{opens_to_failed, opens_to_passed, too_big}
 use Rattle.mystery_run.proofs.ReplayLemmas.{unbegun}
 
@@ -35,6 +36,21 @@ no_memory workers (Err bad) old = ([], (inr refl, refl), unbegun old [])
 -- jobs that were carried out
 pub whole_ends : (workers : ℕ) (jobs : List Job) (old new : Option (List ℕ)) → WritesWhole workers jobs old new → InputEnds workers (Ok (Jobs jobs)) Done old new
 whole_ends workers jobs old new h = (h.1, (h.0, h.2), h.3)
+
+-- no file fails once the input was read
+pub no_file_fails : (workers : ℕ) (said : Result Work BadInput) (o : Outcome) (before now : Option (List ℕ)) (count : ℕ) → InputEnds workers said o before now → outcome_read_faults o count ≡ count
+no_file_fails workers said Done before now count h = refl
+no_file_fails workers said Memory before now count h = refl
+no_file_fails workers said Arguments before now count h = refl
+no_file_fails workers said (BadLine line why) before now count h = refl
+no_file_fails workers said Write before now count h = refl
+no_file_fails workers said Size before now count h = refl
+no_file_fails workers said (Over limit) before now count h = refl
+no_file_fails workers (Ok work) (File index) before now count h = absurd h.1
+no_file_fails workers (Err bad) (File index) before now count h = elim h.1.0 [
+  | inl e ↦ absurd (cc e)
+  | inr e ↦ absurd (cc e)
+]
 
 -- the call of the arguments is known
 module _ (s : Seen) (call : Call) (known : Some call ≡ call_of s.words) where

@@ -1,11 +1,11 @@
-use Rattle.std.proofs.Common.{drop, length, refl, take}
+use Rattle.std.proofs.Common.{◌∙◌, drop, length, refl, sym, take}
 use Rattle.mystery_io.specs.Input.{input_read}
 use Rattle.mystery_io.specs.ReadFaults.{files_seen}
 use Rattle.mystery_run.specs.CommandLines.{Call, certificate_of_action}
 use Rattle.mystery_run.specs.Runs.{Seen, run_seen}
 use Rattle.mystery_run.specs.inner.ParsedLines.{call_of_line}
 use Rattle.mystery_run.specs.inner.ReadingTwice.{said_by}
-use Rattle.mystery_run.proofs.EndingLemmas.{explains_file, explains_memory, explains_read, explains_size, reads_all}
+use Rattle.mystery_run.proofs.EndingLemmas.{explains_file, explains_memory, explains_read, explains_size, no_file_fails, reads_all}
 use Rattle.mystery_run.proofs.program.perform.Goals as goal
 
 pub returns-in-Err-Memory-clause-explains : goal.returns-in-Err-Memory-clause-explains
@@ -43,3 +43,13 @@ returns-in-Ok-clause-explains g c =
     let cert = input_read (take (length (certificate_of_action call.action)) seen.files.readings) in
     let bytes = input_read (drop (length (certificate_of_action call.action)) seen.files.readings) in
     explains_read seen call known (said_by c.in-Ok.readings.certificate) cert bytes said (cert_fits, input.fits) c.perform_over.result refl refl (reads_all seen call known opened read.ended) (c.perform_over.ensures.ends bytes input.is)
+
+pub returns-in-Ok-clause-tallied : goal.returns-in-Ok-clause-tallied
+returns-in-Ok-clause-tallied g c =
+    let call : Call = call_of_line c.in-Some.line in
+    let F = g.F.Files in
+    let seen : Seen = run_seen c.args.words.now (files_seen F.given F.opens c.args.files.now c.read_both.new.files) g.S.Sink.written c.args.out.now c.perform_over.new.out in
+    let input = rw (c.form-form.ensures, c.certificate-certificate.ensures) at c.in-Ok.ensures.input in
+    let bytes = input_read (drop (length (certificate_of_action call.action)) seen.files.readings) in
+    c.in-Ok.ensures.tallied
+    ∙ sym (no_file_fails _ _ c.perform_over.result _ _ (F.faults c.args.files.now) (c.perform_over.ensures.ends bytes input.is))
