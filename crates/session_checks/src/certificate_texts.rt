@@ -202,7 +202,9 @@ fn is_check(
     claims: &[Claim],
     sink: &mut MemSink,
     expected: &[u8],
-) -> bool {
+) -> bool
+    requires { length claims.now < 4294967296 }
+{
     let mut buffer = RowBuffer::new(alloc);
     let printed = print_verdicts(book, claims, sink, &mut buffer).is_ok();
     printed && buffer.bytes() == expected

@@ -1,4 +1,6 @@
 //! Sessions that add, drop and keep days, and what they print.
+ghost use Rattle.std.specs.Prelude.{◌≡◌, ◌<◌, ◌≤◌, IfOk};
+
 use crate::session_steps::{add, begin, carry_out, control};
 use crate::worked_batches::{batch, name};
 use event_lines::Command;
@@ -122,13 +124,19 @@ fn report_and_forecast<R: AllocGlobal + Threads + Sync, S: Sink>(
     events: Vec<Event>,
     change: NamedChange,
     out: &mut S,
-) -> Result<Session, CommandFault> {
+) -> Result<Session, CommandFault>
+    requires some { 0 < change.den }
+    requires less { change.num ≤ change.den }
+{
     let session = report(rt, events, out)?;
     carry_out(rt, session, Job::WhatIf { change }, out)
 }
 
 /// Makes the change to a quarter of the segments of the task `a`.
-fn quarter(alloc: Global) -> Result<NamedChange, AllocError> {
+fn quarter(alloc: Global) -> Result<NamedChange, AllocError>
+    ensures num { IfOk result (λ change. change.num ≡ 1) }
+    ensures den { IfOk result (λ change. change.den ≡ 4) }
+{
     Ok(NamedChange {
         name: name(alloc, "a")?,
         num: 1,
