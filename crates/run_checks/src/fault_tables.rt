@@ -194,11 +194,11 @@ fn fail_each_write<R: Threads + Sync + Abort>(
 }
 
 /// Fails each write of the text of these arguments over an input in turn.
-fn fail_writes<R: Threads + Sync + Abort>(
+fn fail_writes<'a, R: Threads + Sync + Abort>(
     rt: &R,
     alloc: Global,
-    words: &[&str],
-    f: &[u8],
+    words: &'a [&'a str],
+    f: &'a [u8],
 ) -> Result<(), Fail> {
     let setting = Setting {
         words,
