@@ -1,0 +1,4 @@
+pub mod CallLemmas
+pub mod PlaceLemmas
+pub mod SeenLemmas
+pub mod ShallowLemmas

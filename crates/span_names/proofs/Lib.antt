@@ -1,0 +1,5 @@
+pub mod CharacterLemmas
+pub mod CutLemmas
+pub mod NumberedLemmas
+pub mod FoldingLemmas
+pub mod EscapeLemmas

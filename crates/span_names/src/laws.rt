@@ -1,0 +1,7 @@
+//! Laws over the definitions alone: each function does nothing, and its contract is the law.
+ghost use Rattle.span_names.specs.NameLaws.{EscapingIsOneToOne};
+
+/// No two texts are escaped alike.
+pub fn escaping_is_one_to_one()
+    ensures { EscapingIsOneToOne }
+{}
