@@ -10,7 +10,8 @@ use Rattle.span_types.specs.declared.span.Span.{Span}
 use Rattle.span_files.specs.InputSpans.{InputSpans}
 use Rattle.span_files.specs.declared.span_form.SpanForm.{SpanForm}
 use Rattle.span_files.specs.declared.span_place.SpanPlace.{SpanPlace}
-use Rattle.span_lines.specs.SpanTexts.{AreSpanLines, folded_span}
+use Rattle.span_lines.specs.FoldedSpans.{folded_span, folded_spans}
+use Rattle.span_lines.specs.SpanTexts.{AreSpanLines}
 use Rattle.span_lines.specs.declared.span_text.SpanText.{SpanText}
 use Rattle.span_requests.specs.Callers.{is_endless}
 use Rattle.span_requests.specs.SpansOnce.{repeats_id, spans_once}
@@ -31,7 +32,7 @@ use Rattle.import_run.specs.declared.outcome.Outcome.TheVariants.{Done, Memory, 
 pub named_count : (asked : Asked) (spans : List Span) → length (named_spans asked spans) ≡ length spans
 named_count asked spans = by asked.fold
   where
-    by : (b : Bool) → length (cond b (map folded_span spans) spans) ≡ length spans
+    by : (b : Bool) → length (cond b (folded_spans spans) spans) ≡ length spans
     by true = length-map spans folded_span
     by false = refl
 
