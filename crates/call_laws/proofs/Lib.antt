@@ -1,0 +1,3 @@
+pub mod ContextLemmas
+pub mod OnceLemmas
+pub mod TogetherLemmas

@@ -1,0 +1,34 @@
+//! Laws over the definitions alone: each function does nothing, and its contract is the law.
+ghost use Rattle.call_laws.specs.CallLaws.{CallsAreTogether, EntriesAreCalledByNone, EverySpanIsCalled};
+ghost use Rattle.call_laws.specs.CallLaws.{SpansAreCalledOnce};
+ghost use Rattle.call_laws.specs.ContextLaws.{ContextsAreOfOneCall, GroupsHaveOneAbove};
+
+/// Each span of the requests that are asked for is one call.
+pub fn spans_are_called_once()
+    ensures { SpansAreCalledOnce }
+{}
+
+/// Where no request is asked for, each span is a call.
+pub fn every_span_is_called()
+    ensures { EverySpanIsCalled }
+{}
+
+/// A call without a caller is an entry.
+pub fn entries_are_called_by_none()
+    ensures { EntriesAreCalledByNone }
+{}
+
+/// The calls of a request stand together: no entry stands between a call and its caller.
+pub fn calls_are_together()
+    ensures { CallsAreTogether }
+{}
+
+/// Two calls of one request that have one context are one call.
+pub fn contexts_are_of_one_call()
+    ensures { ContextsAreOfOneCall }
+{}
+
+/// Two contexts of one group are below the same context.
+pub fn groups_have_one_above()
+    ensures { GroupsHaveOneAbove }
+{}
