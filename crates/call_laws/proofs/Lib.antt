@@ -1,3 +1,4 @@
 pub mod ContextLemmas
 pub mod OnceLemmas
+pub mod OverlapLemmas
 pub mod TogetherLemmas

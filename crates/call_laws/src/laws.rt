@@ -2,6 +2,8 @@
 ghost use Rattle.call_laws.specs.CallLaws.{CallsAreTogether, EntriesAreCalledByNone, EverySpanIsCalled};
 ghost use Rattle.call_laws.specs.CallLaws.{SpansAreCalledOnce};
 ghost use Rattle.call_laws.specs.ContextLaws.{ContextsAreOfOneCall, GroupsHaveOneAbove};
+ghost use Rattle.call_laws.specs.OverlapLaws.{ForksAreOfOverlaps, GroupsAreOfOverlaps};
+ghost use Rattle.call_laws.specs.OverlapLaws.{PartnersTellOverlaps};
 
 /// Each span of the requests that are asked for is one call.
 pub fn spans_are_called_once()
@@ -31,4 +33,19 @@ pub fn contexts_are_of_one_call()
 /// Two contexts of one group are below the same context.
 pub fn groups_have_one_above()
     ensures { GroupsHaveOneAbove }
+{}
+
+/// A call has a partner exactly where it overlaps some earlier call.
+pub fn partners_tell_overlaps()
+    ensures { PartnersTellOverlaps }
+{}
+
+/// Contexts are forked as all overlaps of calls tell, pair by pair.
+pub fn forks_are_of_overlaps()
+    ensures { ForksAreOfOverlaps }
+{}
+
+/// Contexts are grouped as all overlaps of calls join them, pair by pair.
+pub fn groups_are_of_overlaps()
+    ensures { GroupsAreOfOverlaps }
 {}

@@ -65,7 +65,7 @@ module _ (calls : List Call) (grace : ℕ) (P : ℕ → Type 0) where
   after_are earlier [] h k = All-nil (BothAre P)
   after_are earlier (i ∷ later) h k =
       All-append (BothAre P) (pair_of (partner calls grace earlier i) i) (pairs_after calls grace (earlier ++ i ∷ []) later)
-          (pair_are (partner calls grace earlier i) i (partner_within calls P grace earlier i h) (All-head P i later k)) (after_are (earlier ++ i ∷ []) later (All-push P earlier i h (All-head P i later k)) (All-tail P i later k))
+      (pair_are (partner calls grace earlier i) i (partner_within calls P grace earlier i h) (All-head P i later k)) (after_are (earlier ++ i ∷ []) later (All-push P earlier i h (All-head P i later k)) (All-tail P i later k))
 
   pub pairs_are : (below : List (List ℕ)) → All (λ (xs : List ℕ). All P xs) below → All (BothAre P) (pairs_of calls grace below)
   pairs_are below h = lists_are calls grace (BothAre P) below (All-weaker (λ (xs : List ℕ). All P xs) (λ (xs : List ℕ). All (BothAre P) (pairs_after calls grace [] xs)) (λ (xs : List ℕ) (k : All P xs). after_are [] xs (All-nil P) k) below h)

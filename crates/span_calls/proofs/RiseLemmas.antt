@@ -1,18 +1,18 @@
 -- What a call calls stands in the order in which it starts: a walk lists it so.
-use Rattle.std.proofs.Common.{◌≡◌, ◌≢◌, ◌⊎◌, inl, inr, ℕ, zero, suc, ◌+◌, ◌-◌, ◌<◌, ◌≤◌, List, [], All, true, false, eqb, Option, Some, None, length, get_or, filter, take, slice_get, refl, sym, ap, ◌∙◌, subst, arith, true≢false}
-use Rattle.std.specs.Prelude.{IsSome, position}
+use Rattle.std.proofs.Common.{◌≡◌, ◌≢◌, ◌⊎◌, inl, inr, ℕ, zero, suc, ◌+◌, ◌<◌, ◌≤◌, List, [], All, false, eqb, Option, Some, None, length, get_or, filter, take, slice_get, refl, sym, ap, ◌∙◌, subst, arith, true≢false}
+use Rattle.std.specs.Prelude.{position}
 use Rattle.std.specs.List.{AllPairs, flat_map, range_with_len}
 use Rattle.std.specs.Option.{option_and_then}
 use Rattle.std.specs.Cmp.Lexicographic.{slice_cmp}
 use Rattle.std.specs.Ordering.{is_lt, nat_cmp, ordering_then}
 use Rattle.std.specs.declared.cmp.Ordering.{Ordering}
 use Rattle.std.specs.declared.cmp.Ordering.TheVariants.{Less, Equal, Greater}
-use Rattle.std.proofs.lemmas.Bool.{cases_lt, cases_order, eqb-true}
+use Rattle.std.proofs.lemmas.Bool.{cases_lt, eqb-true}
 use Rattle.std.proofs.lemmas.List.{get_or-map, get_or-take, get_or_default, get_or_past, length-take}
 use Rattle.std.proofs.lemmas.List.Quantifiers.{position-Some}
 use Rattle.std.proofs.lemmas.Map.Keys.{ge_from_not_lt}
 use Rattle.std.proofs.lemmas.Option.{get_or_from_slice_get, slice_get-get_or, slice_get_within}
-use Rattle.std.proofs.lemmas.List.Elements.{All-cons, All-filter, All-get_or, All-nil, All-weaker, filter_passes}
+use Rattle.std.proofs.lemmas.List.Elements.{All-filter, All-get_or, All-weaker}
 use Rattle.std.proofs.lemmas.List.Kept.{AllPairs-filter}
 use Rattle.span_types.specs.declared.span.Span.{Span}
 use Rattle.call_trees.specs.Orders.{AreInOrder}
@@ -27,7 +27,7 @@ use Rattle.call_trees.specs.Walks.{walk_from, walk_through}
 use Rattle.call_trees.proofs.GroupLemmas.{group_at, groups_length}
 use Rattle.span_requests.specs.CallerNumbers.{AreRoots, HaveLastCallers, number_above}
 use Rattle.span_requests.proofs.ApartLemmas.{apart_from_rising, apart_permutation, range_rises}
-use Rattle.span_requests.proofs.CircleLemmas.{above_add, above_next, endless}
+use Rattle.span_requests.proofs.CircleLemmas.{above_next}
 use Rattle.span_calls.proofs.PairLemmas.{ByPairs, all_flat, flat_pairs, pairs_all, pairs_listed}
 use Rattle.span_calls.proofs.UnderLemmas.{IsUnder, above_caller, all_under, called_at, no_circle, one_above, some_is, some_none}
 
