@@ -1,4 +1,5 @@
 pub mod ContextLemmas
 pub mod OnceLemmas
 pub mod OverlapLemmas
+pub mod RootLemmas
 pub mod TogetherLemmas

@@ -320,7 +320,7 @@ module _ (numbers : List ℕ) (pairs : List (ℕ × ℕ)) where
       by l both (inl e) = subst Q (eqb-true l.0 x e) both.0
       by l both (inr e) = subst Q (eqb-true l.1 x e) both.1
 
-same_bool : (a b : Bool) → (a ≡ true → b ≡ true) → (b ≡ true → a ≡ true) → a ≡ b
+pub same_bool : (a b : Bool) → (a ≡ true → b ≡ true) → (b ≡ true → a ≡ true) → a ≡ b
 same_bool true b f g = sym (f refl)
 same_bool false true f g = g refl
 same_bool false false f g = refl

@@ -1,9 +1,13 @@
 -- The calls of requests: statements that laws prove.
-use Rattle.std.specs.Prelude.{ℕ, ◌≡◌, ◌≢◌, ◌<◌, List, All, Contains, Option, Some, None, true, length, slice_get}
-use Rattle.std.specs.Prelude.{slice_index, slice_index_or, IsSome}
+use Rattle.std.specs.Prelude.{ℕ, ◌≡◌, ◌≢◌, ◌<◌, List, All, Contains, Option, Some, None, true, length, map}
+use Rattle.std.specs.Prelude.{slice_get, slice_index, slice_index_or, IsSome}
 use Rattle.std.specs.List.{AllPairs}
 use Rattle.span_types.specs.declared.span.Span.{Span}
 use Rattle.span_requests.specs.CallerNumbers.{AreCallers, AreRoots, HaveLastCallers, number_above}
+use Rattle.span_requests.specs.Callers.{caller_numbers}
+use Rattle.span_requests.specs.Entries.{AreEntries}
+use Rattle.span_requests.specs.Faults.{HaveEntries}
+use Rattle.span_requests.specs.SpansOnce.{spans_once}
 use Rattle.span_calls.specs.Calls.{AreCalls, is_asked}
 use Rattle.span_calls.specs.Seen.{span_at}
 use Rattle.span_calls.specs.declared.call.Call.{Call}
@@ -17,6 +21,15 @@ pub record AreCallsOf (spans : List Span) (callers : List (Option ℕ)) (asked :
   pub roots : AreRoots callers entries
   pub within : All (λ e. e < length spans) entries
   pub are : AreCalls spans callers asked entries calls
+
+-- the calls of an input are such calls: of its spans, each once, with the entries of its requests,
+-- where no parents form a circle
+abbrev pub InputsHaveCalls : Type 0
+InputsHaveCalls = (input : List Span) (asked : Option (List ℕ)) (entries : List ℕ)
+    (calls : List Call) → HaveEntries input → All (λ e. e < length (spans_once input)) entries
+    → AreEntries (spans_once input) (map (span_at (spans_once input)) entries)
+    → AreCalls (spans_once input) (caller_numbers (spans_once input)) asked entries calls
+    → AreCallsOf (spans_once input) (caller_numbers (spans_once input)) asked entries calls
 
 -- the span with this number is in a request that is asked for: it is so many calls below its entry
 pub record IsAskedFor (spans : List Span) (callers : List (Option ℕ)) (asked : Option (List ℕ)) (n : ℕ) : Type 0 where

@@ -1,9 +1,14 @@
 //! Laws over the definitions alone: each function does nothing, and its contract is the law.
 ghost use Rattle.call_laws.specs.CallLaws.{CallsAreTogether, EntriesAreCalledByNone, EverySpanIsCalled};
-ghost use Rattle.call_laws.specs.CallLaws.{SpansAreCalledOnce};
+ghost use Rattle.call_laws.specs.CallLaws.{InputsHaveCalls, SpansAreCalledOnce};
 ghost use Rattle.call_laws.specs.ContextLaws.{ContextsAreOfOneCall, GroupsHaveOneAbove};
 ghost use Rattle.call_laws.specs.OverlapLaws.{ForksAreOfOverlaps, GroupsAreOfOverlaps};
 ghost use Rattle.call_laws.specs.OverlapLaws.{PartnersTellOverlaps};
+
+/// The calls of an input are those of which the laws below speak.
+pub fn inputs_have_calls()
+    ensures { InputsHaveCalls }
+{}
 
 /// Each span of the requests that are asked for is one call.
 pub fn spans_are_called_once()
