@@ -35,24 +35,24 @@ firsts_apart {X} same (x ∷ xs) = AllPairs-cons (λ (y : X) (z : X). same y z �
 bytes_turn : (a b : List ℕ) → bytes_eq a b ≡ bytes_eq b a
 bytes_turn a b = same_bool (bytes_eq a b) (bytes_eq b a) (λ e. (bytes_eq-Decides b a).1 (sym ((bytes_eq-Decides a b).0 e))) (λ e. (bytes_eq-Decides a b).1 (sym ((bytes_eq-Decides b a).0 e)))
 
-ids_turn : (s t : Span) → have_one_id s t ≡ have_one_id t s
+pub ids_turn : (s t : Span) → have_one_id s t ≡ have_one_id t s
 ids_turn s t = rw (bytes_turn s.trace t.trace, bytes_turn s.id t.id) refl
 
-ids_own : (s : Span) → have_one_id s s ≡ true
+pub ids_own : (s : Span) → have_one_id s s ≡ true
 ids_own s = rw ((bytes_eq-Decides s.trace s.trace).1 refl, (bytes_eq-Decides s.id s.id).1 refl) refl
+
+-- spans that have one id have one number
+pub one_number : (spans : List Span) → AllPairs (λ s t. have_one_id s t ≡ false) spans → (i j : ℕ) → i < length spans → j < length spans → have_one_id (span_at spans i) (span_at spans j) ≡ true → i ≡ j
+one_number spans apart i j lt less e = by (cases_order i j)
+  where
+    by : (i ≡ j) ⊎ ((i < j) ⊎ (j < i)) → i ≡ j
+    by (inl q) = q
+    by (inr (inl low)) = absurd (true≢false (sym e ∙ apart i j no_span low less))
+    by (inr (inr high)) = absurd (true≢false (sym e ∙ ids_turn (span_at spans i) (span_at spans j) ∙ apart j i no_span high lt))
 
 -- ---- entries
 
 module _ (spans : List Span) (apart : AllPairs (λ s t. have_one_id s t ≡ false) spans) (entries : List ℕ) (within : All (λ e. e < length spans) entries) (h : AreEntries spans (map (span_at spans) entries)) where
-  -- spans that have one id have one number
-  one_number : (i j : ℕ) → i < length spans → j < length spans → have_one_id (span_at spans i) (span_at spans j) ≡ true → i ≡ j
-  one_number i j lt less e = by (cases_order i j)
-    where
-      by : (i ≡ j) ⊎ ((i < j) ⊎ (j < i)) → i ≡ j
-      by (inl q) = q
-      by (inr (inl low)) = absurd (true≢false (sym e ∙ apart i j no_span low less))
-      by (inr (inr high)) = absurd (true≢false (sym e ∙ ids_turn (span_at spans i) (span_at spans j) ∙ apart j i no_span high lt))
-
   at : (k : ℕ) (d : Span) → k < length entries → get_or (map (span_at spans) entries) k d ≡ span_at spans (get_or entries k 0)
   at k d lt = get_or-map (span_at spans) entries k 0 d lt
 
@@ -92,7 +92,7 @@ module _ (spans : List Span) (apart : AllPairs (λ s t. have_one_id s t ≡ fals
         let k = found.0 in
         let small : k < length entries = omega (arith, found.1, length-map entries (span_at spans)) in
         let same : span_at spans (get_or entries k 0) ≡ span_at spans e = sym (at k (span_at spans e) small) ∙ found.2 in
-        let is : get_or entries k 0 ≡ e = one_number (get_or entries k 0) e (All-get_or (λ e. e < length spans) entries k 0 small within) low (ap (λ (s : Span). have_one_id s (span_at spans e)) same ∙ ids_own (span_at spans e)) in
+        let is : get_or entries k 0 ≡ e = one_number spans apart (get_or entries k 0) e (All-get_or (λ e. e < length spans) entries k 0 small within) low (ap (λ (s : Span). have_one_id s (span_at spans e)) same ∙ ids_own (span_at spans e)) in
         (k, small, get_or_default entries k e 0 small ∙ is);
   }
 

@@ -2,6 +2,7 @@
 ghost use Rattle.call_laws.specs.CallLaws.{CallsAreTogether, EntriesAreCalledByNone, EverySpanIsCalled};
 ghost use Rattle.call_laws.specs.CallLaws.{InputsHaveCalls, SpansAreCalledOnce};
 ghost use Rattle.call_laws.specs.ContextLaws.{ContextsAreOfOneCall, GroupsHaveOneAbove};
+ghost use Rattle.call_laws.specs.OrderLaws.{RequestsKeepTheirCalls};
 ghost use Rattle.call_laws.specs.OverlapLaws.{ForksAreOfOverlaps, GroupsAreOfOverlaps};
 ghost use Rattle.call_laws.specs.OverlapLaws.{PartnersTellOverlaps};
 
@@ -53,4 +54,9 @@ pub fn forks_are_of_overlaps()
 /// Contexts are grouped as all overlaps of calls join them, pair by pair.
 pub fn groups_are_of_overlaps()
     ensures { GroupsAreOfOverlaps }
+{}
+
+/// The calls of a request do not depend on the order of the spans in the input.
+pub fn requests_keep_their_calls()
+    ensures { RequestsKeepTheirCalls }
 {}
