@@ -33,13 +33,14 @@ module _ (grouping : Grouping) where
   is_part_with i (j ∷ more) = fork_together i j
 
 module _ (calls : List Call) (grouping : Grouping) where
-  -- calls in order, cut into parts, where the open part has this first call, these calls and this end
+  -- calls in order, cut into parts, where the last one so far has this first call, these calls and this
+  -- end
   abbrev pub cut_from : ℕ → List ℕ → ℕ → List ℕ → List (List ℕ)
-  cut_from first open end [] = open ∷ []
-  cut_from first open end (i ∷ later) =
+  cut_from first part end [] = part ∷ []
+  cut_from first part end (i ∷ later) =
       if fork_together grouping first i && nat_lt (start_of calls i) end
-      then cut_from first (open ++ i ∷ []) (max end (end_of calls i)) later
-      else open ∷ cut_from i (i ∷ []) (end_of calls i) later
+      then cut_from first (part ++ i ∷ []) (max end (end_of calls i)) later
+      else part ∷ cut_from i (i ∷ []) (end_of calls i) later
 
   abbrev pub parts_of : List ℕ → List (List ℕ)
   parts_of [] = []

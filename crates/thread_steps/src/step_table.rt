@@ -42,10 +42,10 @@ pub fn make_steps(
 ) -> Result<StepTable, AllocError>
     requires before { AreBefore calls.now }
     requires below { below.now ≡ calls_below calls.now }
-    requires numbers { length forking.entry.numbers.now ≡ length calls.now }
-    requires contexts { All (λ x. x < length forking.entry.forked.now) forking.entry.numbers.now }
-    requires groups { length forking.entry.groups.now ≡ length forking.entry.forked.now }
-    requires group_numbers { All (λ g. g < length group_numbers.now) forking.entry.groups.now }
+    requires numbers { length forking.numbers.now ≡ length calls.now }
+    requires contexts { All (λ x. x < length forking.forked.now) forking.numbers.now }
+    requires groups { length forking.groups.now ≡ length forking.forked.now }
+    requires group_numbers { All (λ g. g < length group_numbers.now) forking.groups.now }
     ensures count { IfOk result (λ table. length table ≡ length calls.now) }
     ensures threads { IfOk result (λ table. (call : ℕ) → call < length calls.now
         → slice_index_or table call [] ≡ steps_from calls.now below.now
