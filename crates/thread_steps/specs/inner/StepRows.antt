@@ -1,5 +1,5 @@
 -- The steps of calls in one list, each call's up to its end.
-use Rattle.std.specs.Prelude.{ℕ, zero, suc, ◌<◌, List, [], ◌∷◌, Bool, true, false, IsTrue, All}
+use Rattle.std.specs.Prelude.{ℕ, zero, suc, ◌+◌, ◌<◌, List, [], ◌∷◌, Bool, true, false, IsTrue, All}
 use Rattle.std.specs.Prelude.{length, drop, nat_lt, slice_index}
 use Rattle.std.specs.List.{flat_map, list_all}
 use Rattle.call_trees.specs.Tables.{table_of}
@@ -29,6 +29,13 @@ starts_behind i (Starts j) = nat_lt i j
 starts_behind i (Ends j) = true
 starts_behind i (Forks j) = true
 starts_behind i (Joins j piece) = true
+
+-- where a walk goes on behind the step at this index, the next place last
+abbrev pub next_of : List ℕ → ℕ → Step → List ℕ
+next_of firsts at (Starts i) = (at + 1) ∷ slice_index firsts i ∷ []
+next_of firsts at (Ends i) = []
+next_of firsts at (Forks i) = (at + 1) ∷ []
+next_of firsts at (Joins i piece) = (at + 1) ∷ []
 
 module _ (steps : List Step) (firsts : List ℕ) where
   -- the steps of a call itself, up to its end
