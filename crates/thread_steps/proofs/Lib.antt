@@ -1,3 +1,4 @@
 pub mod CutLemmas
 pub mod GapLemmas
 pub mod RowLemmas
+pub mod ThreadLemmas

@@ -14,7 +14,7 @@ fn push_next(
     step: Step,
 ) -> Result<(), AllocError>
     requires within { call_of step < length firsts.now }
-    requires room { at + 1 < usize.MAX }
+    requires room { at < usize.MAX }
     ensures { OnOk result (stack.new.items ≡ stack.old.items ++ next_of firsts.now at step) }
 {
     match step {

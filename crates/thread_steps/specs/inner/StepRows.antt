@@ -1,5 +1,5 @@
 -- The steps of calls in one list, each call's up to its end.
-use Rattle.std.specs.Prelude.{ℕ, zero, suc, ◌+◌, ◌<◌, List, [], ◌∷◌, Bool, true, false, IsTrue, All}
+use Rattle.std.specs.Prelude.{ℕ, zero, suc, ◌≡◌, ◌+◌, ◌<◌, List, [], ◌∷◌, Bool, true, false, All}
 use Rattle.std.specs.Prelude.{length, drop, nat_lt, slice_index}
 use Rattle.std.specs.List.{flat_map, list_all}
 use Rattle.call_trees.specs.Tables.{table_of}
@@ -45,8 +45,8 @@ module _ (steps : List Step) (firsts : List ℕ) where
   -- each call has its steps, which are of calls with steps, and start those behind it
   pub record AreRows : Type 0 where
     pub within : All (λ s. call_of s < length firsts) steps
-    pub ended : (i : ℕ) → i < length firsts → IsTrue (has_end (drop (slice_index firsts i) steps))
-    pub behind : (i : ℕ) → i < length firsts → IsTrue (list_all (starts_behind i) (row_of i))
+    pub ended : (i : ℕ) → i < length firsts → has_end (drop (slice_index firsts i) steps) ≡ true
+    pub behind : (i : ℕ) → i < length firsts → list_all (starts_behind i) (row_of i) ≡ true
 
   -- the steps of a thread that starts with a call, in calls so deep at most
   abbrev pub thread_within : ℕ → ℕ → List Step
