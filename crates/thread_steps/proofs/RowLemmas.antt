@@ -1,12 +1,10 @@
 -- The steps of a call itself.
-use Rattle.std.proofs.Common.{◌≡◌, ℕ, zero, suc, ◌+◌, ◌<◌, ◌≤◌, List, [], ◌∷◌, ◌++◌, ◌&&◌, ◌||◌, All, Bool, true, false, cond, Option, Some, None, length, get_or, map, nat_eq, drop, refl, sym, ap, ◌∙◌, append-nil, append_assoc, arith}
+use Rattle.std.proofs.Common.{◌≡◌, ℕ, ◌+◌, ◌<◌, ◌≤◌, List, [], ◌∷◌, ◌++◌, ◌&&◌, ◌||◌, All, Bool, true, false, cond, Option, Some, None, length, get_or, map, nat_eq, drop, refl, sym, ap, ◌∙◌, append-nil, append_assoc, arith}
 use Rattle.std.specs.List.{count_by, list_any}
 use Rattle.std.specs.Option.{option_eq}
-use Rattle.std.proofs.lemmas.Bool.{false≢true}
-use Rattle.std.proofs.lemmas.List.{drop_all, drop_more, get_or_default, length-map, map_push}
+use Rattle.std.proofs.lemmas.List.{drop_all, drop_more, length-map, map_push}
 use Rattle.std.proofs.lemmas.List.Elements.{All-head, All-nil, All-push, All-tail}
 use Rattle.span_calls.specs.declared.call.Call.{Call}
-use Rattle.span_names.specs.declared.piece.Piece.{Piece}
 use Rattle.context_forks.specs.Partners.{last_after}
 use Rattle.thread_steps.specs.Parts.{Grouping, forks, group_of, is_part_with, parts_of}
 use Rattle.thread_steps.specs.Steps.{own_steps, part_steps, piece_after, steps_over}

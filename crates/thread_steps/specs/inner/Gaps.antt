@@ -1,7 +1,7 @@
 -- Parts by their groups.
 use Rattle.std.specs.Prelude.{ℕ, ◌+◌, ◌==◌, List, [], ◌∷◌, ◌++◌, Option, Some, None, nat_eq}
 use Rattle.std.specs.Prelude.{if◌then◌else◌, slice_index}
-use Rattle.std.specs.List.{count_by, list_any}
+use Rattle.std.specs.List.{count_by}
 use Rattle.std.specs.Option.{option_eq}
 use Rattle.thread_steps.specs.Parts.{Grouping, forks, group_of}
 use Rattle.thread_steps.specs.declared.parts.Part.{Part}

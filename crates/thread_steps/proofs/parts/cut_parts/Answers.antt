@@ -1,11 +1,11 @@
-use Rattle.std.proofs.Common.{◌≡◌, ◌≢◌, ◌<◌, ◌+◌, ◌++◌, ℕ, All, Vec, Global, drop, map, Bool, cond, false, get_or, length, nat_lt, subst, sym, true, ap, ◌∙◌, arith, rules}
+use Rattle.std.proofs.Common.{◌≢◌, ◌<◌, ◌+◌, ◌++◌, Vec, Global, drop, map, get_or, length, nat_lt, subst, sym, ap, ◌∙◌, arith}
 use Rattle.std.proofs.lemmas.Bool.{eqb-false}
 use Rattle.std.proofs.lemmas.List.Elements.{All-get_or}
-use Rattle.context_forks.specs.Partners.{end_of, later_of}
+use Rattle.context_forks.specs.Partners.{end_of}
 use Rattle.thread_steps.specs.Parts.{grouping_of, parts_of}
-use Rattle.thread_steps.specs.inner.CutParts.{part_of, part_with}
+use Rattle.thread_steps.specs.inner.CutParts.{part_of}
 use Rattle.thread_steps.specs.declared.parts.Part.{Part}
-use Rattle.thread_steps.proofs.CutLemmas.{cut_all, cut_begins, cut_off, cut_on, cut_with, one_of, part_from}
+use Rattle.thread_steps.proofs.CutLemmas.{cut_begins, cut_off, cut_on, cut_with, one_of}
 use Rattle.thread_steps.proofs.parts.cut_parts.Goals as goal
 use Rattle.thread_steps.proofs.parts.cut_parts.Goals.{then-goes_on, else-goes_on+in_ok-push}
 

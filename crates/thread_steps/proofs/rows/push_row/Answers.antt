@@ -1,11 +1,9 @@
-use Rattle.std.proofs.Common.{◌≡◌, ◌∙◌, ◌<◌, ◌++◌, ◌∷◌, [], ℕ, List, All, Option, ap, append_assoc, arith, drop, get_or, length, map, subst, sym}
+use Rattle.std.proofs.Common.{◌≡◌, ◌∙◌, ◌<◌, ◌++◌, ◌∷◌, [], List, ap, arith, length, map, subst, sym}
 use Rattle.std.proofs.lemmas.List.Elements.{All-get_or, All-weaker}
-use Rattle.thread_steps.specs.Parts.{grouping_of, parts_of}
-use Rattle.thread_steps.specs.Steps.{own_steps}
+use Rattle.thread_steps.specs.Parts.{grouping_of}
 use Rattle.thread_steps.specs.declared.parts.Part.{Part}
 use Rattle.thread_steps.specs.declared.step.Step.{Step}
 use Rattle.thread_steps.specs.declared.step.Step.TheVariants.{Ends}
-use Rattle.thread_steps.specs.inner.CutParts.{part_of}
 use Rattle.thread_steps.specs.inner.Gaps.{gaps_over, group_of_part}
 use Rattle.thread_steps.proofs.CutLemmas.{firsts_within}
 use Rattle.thread_steps.proofs.RowLemmas.{gap_there, own_same, steps_with, with_all, with_more}

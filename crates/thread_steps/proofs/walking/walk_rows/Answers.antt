@@ -1,6 +1,5 @@
-use Rattle.std.proofs.Common.{◌<◌, ◌∙◌, arith, get_or, length, refl, rules}
+use Rattle.std.proofs.Common.{◌<◌, get_or, length, refl, rules}
 use Rattle.std.proofs.lemmas.List.{get_or_default}
-use Rattle.thread_steps.specs.declared.step.Step.{Step}
 use Rattle.thread_steps.specs.declared.step.Step.TheVariants.{Starts}
 use Rattle.thread_steps.proofs.ThreadLemmas.{on_top, walk_begins, walk_less, walk_more}
 use Rattle.thread_steps.proofs.walking.walk_rows.Goals as goal
