@@ -1,3 +1,4 @@
 pub mod Parts
 pub mod Steps
+pub mod ThreadLaws
 pub mod inner
