@@ -1,19 +1,19 @@
 -- How often calls stand in threads.
-use Rattle.std.proofs.Common.{◌≡◌, ◌≢◌, ◌⊎◌, inl, inr, ℕ, zero, suc, ◌+◌, ◌<◌, ◌≤◌, List, [], ◌∷◌, ◌++◌, ◌&&◌, All, Bool, true, false, cond, eqb, Option, Some, None, filter, length, get_or, map, max, nat_lt, refl, sym, ap, ◌∙◌, subst, append-nil, append_assoc, arith, eq-eqb}
+use Rattle.std.proofs.Common.{◌≡◌, ◌≢◌, ◌⊎◌, inl, inr, ℕ, zero, suc, ◌+◌, ◌<◌, ◌≤◌, List, [], ◌∷◌, ◌++◌, ◌&&◌, All, Bool, true, false, cond, eqb, Option, Some, None, filter, length, get_or, max, nat_lt, refl, sym, ap, ◌∙◌, arith, eq-eqb}
 use Rattle.std.specs.Prelude.{is_none}
 use Rattle.std.specs.List.{count_by, flat_map, range_with_len, sum_by}
-use Rattle.std.proofs.lemmas.Bool.{and_parts, cases_eq, eqb-true, false≢true, ne_eqb}
+use Rattle.std.proofs.lemmas.Bool.{and_parts, cases_eq, eqb-true, ne_eqb}
 use Rattle.std.proofs.lemmas.List.{length-map}
-use Rattle.std.proofs.lemmas.List.Elements.{All-cons, All-filter, All-head, All-nil, All-push, All-tail, All-weaker}
+use Rattle.std.proofs.lemmas.List.Elements.{All-filter, All-head, All-tail, All-weaker}
 use Rattle.std.proofs.lemmas.List.Sums.{sum_by-append, sum_by-cons, sum_by_push}
-use Rattle.call_trees.specs.Below.{below_one, is_number}
+use Rattle.call_trees.specs.Below.{is_number}
 use Rattle.call_trees.proofs.GroupLemmas.{group_at}
 use Rattle.span_calls.specs.Calls.{AreBefore}
 use Rattle.span_calls.specs.declared.call.Call.{Call}
 use Rattle.span_names.specs.declared.piece.Piece.{Piece}
 use Rattle.context_forks.specs.Forks.{callers_of, calls_below}
 use Rattle.context_forks.specs.Partners.{end_of, last_after, start_of}
-use Rattle.thread_steps.specs.Parts.{Grouping, cut_from, fork_together, forks, group_of, parts_of}
+use Rattle.thread_steps.specs.Parts.{Grouping, cut_from, fork_together, forks, group_of}
 use Rattle.thread_steps.specs.Steps.{gone_into, own_steps, part_steps, piece_after, steps_over, steps_within}
 use Rattle.thread_steps.specs.ThreadLaws.{CallsStandWithCallers, EachEndsOnce, EachStartsOnce, all_steps, caller_within, count_of, is_end, is_start, thread_heads, thread_steps}
 use Rattle.thread_steps.specs.declared.step.Step.{Step}

@@ -1,9 +1,6 @@
-use Rattle.std.proofs.Common.{◌≡◌, ◌∙◌, [], List, None, Option, Vec, Global, ℕ, ap, arith, length, map, replicate, sym}
-use Rattle.std.specs.Prelude.{is_some}
-use Rattle.std.specs.List.{list_any}
+use Rattle.std.proofs.Common.{◌≡◌, ◌∙◌, [], List, None, Option, Vec, Global, ℕ, ap, arith, length, replicate, sym}
 use Rattle.std.proofs.lemmas.Result.{IfOk-weaker}
-use Rattle.thread_steps.specs.Parts.{grouping_of}
-use Rattle.thread_steps.specs.inner.Gaps.{gaps_over, group_of_part}
+use Rattle.thread_steps.specs.inner.Gaps.{gaps_over}
 use Rattle.thread_steps.proofs.GapLemmas.{none_over}
 use Rattle.thread_steps.proofs.gaps.gaps_of_parts.Goals as goal
 
