@@ -2,7 +2,7 @@
 use Rattle.std.proofs.Common.{◌≡◌, ◌≢◌, ◌⊎◌, inl, inr, ℕ, zero, suc, ◌+◌, ◌<◌, ◌≤◌, List, [], ◌∷◌, ◌++◌, ◌&&◌, All, Bool, true, false, cond, eqb, Option, Some, None, filter, length, get_or, max, nat_lt, refl, sym, ap, ◌∙◌, arith, eq-eqb}
 use Rattle.std.specs.Prelude.{is_none}
 use Rattle.std.specs.List.{count_by, flat_map, range_with_len, sum_by}
-use Rattle.std.proofs.lemmas.Bool.{and_parts, cases_eq, eqb-true, ne_eqb}
+use Rattle.std.proofs.lemmas.Bool.{and_parts, cases_eq, cases_lt, eqb-true, ne_eqb}
 use Rattle.std.proofs.lemmas.List.{length-map}
 use Rattle.std.proofs.lemmas.List.Elements.{All-filter, All-head, All-tail, All-weaker}
 use Rattle.std.proofs.lemmas.List.Sums.{sum_by-append, sum_by-cons, sum_by_push}
@@ -15,11 +15,11 @@ use Rattle.context_forks.specs.Forks.{callers_of, calls_below}
 use Rattle.context_forks.specs.Partners.{end_of, last_after, start_of}
 use Rattle.thread_steps.specs.Parts.{Grouping, cut_from, fork_together, forks, group_of}
 use Rattle.thread_steps.specs.Steps.{gone_into, own_steps, part_steps, piece_after, steps_over, steps_within}
-use Rattle.thread_steps.specs.ThreadLaws.{CallsStandWithCallers, EachEndsOnce, EachStartsOnce, all_steps, caller_within, count_of, is_end, is_start, thread_heads, thread_steps}
+use Rattle.thread_steps.specs.ThreadLaws.{AreClosed, CallsStandWithCallers, EachStandsOnce, HeadsStandOnce, NoOtherStands, all_steps, caller_within, count_of, is_end, is_start, thread_heads, thread_steps}
 use Rattle.thread_steps.specs.declared.step.Step.{Step}
 use Rattle.thread_steps.specs.declared.step.Step.TheVariants.{Starts, Ends, Forks, Joins}
 use Rattle.thread_steps.proofs.GapLemmas.{count-cons}
-use Rattle.thread_steps.proofs.TableLemmas.{below_behind, caller_before, range_below}
+use Rattle.thread_steps.proofs.TableLemmas.{below_behind, caller_before, range_within}
 
 -- sums
 
@@ -76,6 +76,23 @@ count_range i p a (suc n) le lt = front (p a) ∙ by (cases_eq a i) (count_range
       where
         below : (a ≡ i → ⊥) → a < i
         below other = omega (arith, le, other)
+
+count_above : (i : ℕ) (p : ℕ → Bool) (a n : ℕ) → a + n ≤ i → count_by (eqb i) (filter p (range_with_len a n)) ≡ 0
+count_above i p a zero le = refl
+count_above i p a (suc n) le = by (p a) (count_above i p (a + 1) n (omega (arith, le)))
+  where
+    by : (b : Bool) → count_by (eqb i) (filter p (range_with_len (a + 1) n)) ≡ 0 → count_by (eqb i) (cond b (a ∷ filter p (range_with_len (a + 1) n)) (filter p (range_with_len (a + 1) n))) ≡ 0
+    by true h = count-cons (eqb i) a (filter p (range_with_len (a + 1) n)) ∙ ap (λ b. cond b 1 0 + count_by (eqb i) (filter p (range_with_len (a + 1) n))) (ne_eqb i a (λ e. let gone : ⊥ = omega (arith, le, e) in gone)) ∙ (let e : 0 + count_by (eqb i) (filter p (range_with_len (a + 1) n)) ≡ 0 = omega (arith, h) in e)
+    by false h = h
+
+-- one outside of a range is not met there
+count_outside : (i : ℕ) (p : ℕ → Bool) (a n : ℕ) → (a ≤ i → i < a + n → ⊥) → count_by (eqb i) (filter p (range_with_len a n)) ≡ 0
+count_outside i p a n out = by (cases_lt i a) (cases_lt i (a + n))
+  where
+    by : (i < a) ⊎ (a ≤ i) → (i < a + n) ⊎ (a + n ≤ i) → count_by (eqb i) (filter p (range_with_len a n)) ≡ 0
+    by (inl below) other = count_below i p a n below
+    by (inr low) (inl high) = absurd (out low high)
+    by (inr low) (inr above) = count_above i p a n above
 
 -- steps over parts, by what each start weighs
 
@@ -216,6 +233,10 @@ module _ (is_of : ℕ → Step → Bool) (own : (i t : ℕ) → cond (is_of i (S
       split true x y z h = omega arith
       split false x y z h = h
 
+  caller_some : (b : Bool) (o : Option ℕ) (c : ℕ) → cond b None o ≡ Some c → o ≡ Some c
+  caller_some true o c h = cc
+  caller_some false o c h = h
+
   same_count : (o : Option ℕ) (t : ℕ) → stands_by o (length calls) t ≡ count_of calls grouping group_numbers is_of o t
   same_count None t = refl
   same_count (Some c) t = refl
@@ -227,40 +248,84 @@ module _ (is_of : ℕ → Step → Bool) (own : (i t : ℕ) → cond (is_of i (S
       ∙ (let e : 0 + stands_by (caller_within calls grouping i) (length calls) head ≡ stands_by (caller_within calls grouping i) (length calls) head = omega arith in e)
       ∙ same_count (caller_within calls grouping i) head
 
-  -- all threads together
-
-  heads_within : All (λ t. t < length calls) (thread_heads calls grouping)
-  heads_within = All-filter (λ i. is_none (caller_within calls grouping i)) (λ t. t < length calls) (range_with_len 0 (length calls)) (range_below (length calls))
-
-  all_stand : (i : ℕ) → i < length calls → count_by (is_of i) (all_steps calls grouping group_numbers) ≡ cond (is_none (caller_within calls grouping i)) 1 0 + sum_by (λ t. stands_by (caller_within calls grouping i) (length calls) t) (thread_heads calls grouping)
-  all_stand i lt =
-      let up = caller_within calls grouping i in
-      let heads = thread_heads calls grouping in
-      omega (
-        arith,
-        count-flat (is_of i) (thread_steps calls grouping group_numbers) heads,
-        sum_plus (λ t. stands i (length calls) t) (λ t. cond (eqb i t) 1 0) (λ t. stands_by up (length calls) t) heads
-            (All-weaker (λ t. t < length calls) (λ t. stands i (length calls) t ≡ cond (eqb i t) 1 0 + stands_by up (length calls) t) (λ t less. stand (length calls) t i less lt (omega arith)) heads heads_within),
-        count_range i (λ k. is_none (caller_within calls grouping k)) 0 (length calls) (omega arith) (omega (arith, lt)),
-      )
-
-  caller_some : (b : Bool) (o : Option ℕ) (c : ℕ) → cond b None o ≡ Some c → o ≡ Some c
-  caller_some true o c h = cc
-  caller_some false o c h = h
-
-  once_below : (k i : ℕ) → i < k → i < length calls → count_by (is_of i) (all_steps calls grouping group_numbers) ≡ 1
-  once_below zero i few lt = absurd (let e : ⊥ = omega (arith, few) in e)
-  once_below (suc k) i few lt = all_stand i lt ∙ by (caller_within calls grouping i) refl (once_below k)
+  none_before : (k i head : ℕ) → i < k → i < head → head < length calls → stands i (length calls) head ≡ 0
+  none_before zero i head few lt less = absurd (let e : ⊥ = omega (arith, few) in e)
+  none_before (suc k) i head few lt less =
+      stand (length calls) head i less (omega (arith, lt, less)) (omega arith)
+      ∙ ap (λ b. cond b 1 0 + stands_by (caller_within calls grouping i) (length calls) head) (ne_eqb i head (λ e. let gone : ⊥ = omega (arith, lt, e) in gone))
+      ∙ by (caller_within calls grouping i) refl (none_before k)
     where
-      by : (o : Option ℕ) → caller_within calls grouping i ≡ o → ((c : ℕ) → c < k → c < length calls → count_by (is_of c) (all_steps calls grouping group_numbers) ≡ 1)
-          → cond (is_none o) 1 0 + sum_by (λ t. stands_by o (length calls) t) (thread_heads calls grouping) ≡ 1
-      by None e rest = omega (arith, sum_none (thread_heads calls grouping))
+      by : (o : Option ℕ) → caller_within calls grouping i ≡ o → ((c h : ℕ) → c < k → c < h → h < length calls → stands c (length calls) h ≡ 0) → 0 + stands_by o (length calls) head ≡ 0
+      by None e rest = refl
       by (Some c) e rest =
           let low : c < i = caller_before calls before c i (caller_some (forks grouping i) (get_or (callers_of calls) i None) c e) in
-          omega (arith, count-flat (is_of c) (thread_steps calls grouping group_numbers) (thread_heads calls grouping), rest c (omega (arith, low, few)) (omega (arith, low, lt)))
+          omega (arith, rest c head (omega (arith, low, few)) (omega (arith, low, lt)) less)
 
-  pub stands_once : (i : ℕ) → i < length calls → count_by (is_of i) (all_steps calls grouping group_numbers) ≡ 1
-  stands_once i lt = once_below (suc i) i (omega arith) lt
+  pub heads_once : (head : ℕ) → head < length calls → count_by (is_of head) (thread_steps calls grouping group_numbers head) ≡ 1
+  heads_once head less =
+      stand (length calls) head head less less (omega arith)
+      ∙ ap (λ b. cond b 1 0 + stands_by (caller_within calls grouping head) (length calls) head) (eq-eqb head head refl)
+      ∙ by (caller_within calls grouping head) refl
+    where
+      by : (o : Option ℕ) → caller_within calls grouping head ≡ o → 1 + stands_by o (length calls) head ≡ 1
+      by None e = refl
+      by (Some c) e =
+          let low : c < head = caller_before calls before c head (caller_some (forks grouping head) (get_or (callers_of calls) head None) c e) in
+          omega (arith, none_before (suc c) c head (omega arith) low less)
+
+  -- all threads of requests
+
+  module _ (start size : ℕ) (closed : AreClosed calls start size) where
+    heads_within : All (λ t. t < length calls) (thread_heads calls grouping start size)
+    heads_within = All-filter (λ i. is_none (caller_within calls grouping i)) (λ t. t < length calls) (range_with_len start size) (All-weaker (λ t. t < start + size) (λ t. t < length calls) (λ t lt. omega (arith, lt, closed.bound)) (range_with_len start size) (range_within start size))
+
+    all_stand : (i : ℕ) → i < length calls → count_by (is_of i) (all_steps calls grouping group_numbers start size) ≡ count_by (eqb i) (thread_heads calls grouping start size) + sum_by (λ t. stands_by (caller_within calls grouping i) (length calls) t) (thread_heads calls grouping start size)
+    all_stand i lt =
+        let up = caller_within calls grouping i in
+        let heads = thread_heads calls grouping start size in
+        omega (
+          arith,
+          count-flat (is_of i) (thread_steps calls grouping group_numbers) heads,
+          sum_plus (λ t. stands i (length calls) t) (λ t. cond (eqb i t) 1 0) (λ t. stands_by up (length calls) t) heads
+              (All-weaker (λ t. t < length calls) (λ t. stands i (length calls) t ≡ cond (eqb i t) 1 0 + stands_by up (length calls) t) (λ t less. stand (length calls) t i less lt (omega arith)) heads heads_within),
+        )
+
+    once_below : (k i : ℕ) → i < k → start ≤ i → i < start + size → count_by (is_of i) (all_steps calls grouping group_numbers start size) ≡ 1
+    once_below zero i few low high = absurd (let e : ⊥ = omega (arith, few) in e)
+    once_below (suc k) i few low high =
+        all_stand i (omega (arith, high, closed.bound))
+        ∙ ap (λ n. n + sum_by (λ t. stands_by (caller_within calls grouping i) (length calls) t) (thread_heads calls grouping start size)) (count_range i (λ k. is_none (caller_within calls grouping k)) start size low high)
+        ∙ by (caller_within calls grouping i) refl (once_below k)
+      where
+        by : (o : Option ℕ) → caller_within calls grouping i ≡ o → ((c : ℕ) → c < k → start ≤ c → c < start + size → count_by (is_of c) (all_steps calls grouping group_numbers start size) ≡ 1)
+            → cond (is_none o) 1 0 + sum_by (λ t. stands_by o (length calls) t) (thread_heads calls grouping start size) ≡ 1
+        by None e rest = omega (arith, sum_none (thread_heads calls grouping start size))
+        by (Some c) e rest =
+            let up = caller_some (forks grouping i) (get_or (callers_of calls) i None) c e in
+            let under : c < i = caller_before calls before c i up in
+            omega (arith, count-flat (is_of c) (thread_steps calls grouping group_numbers) (thread_heads calls grouping start size), rest c (omega (arith, under, few)) (closed.callers i c low high up) (omega (arith, under, high)))
+
+    pub stands_once : (i : ℕ) → start ≤ i → i < start + size → count_by (is_of i) (all_steps calls grouping group_numbers start size) ≡ 1
+    stands_once i low high = once_below (suc i) i (omega arith) low high
+
+    none_below : (k i : ℕ) → i < k → i < length calls → (start ≤ i → i < start + size → ⊥) → count_by (is_of i) (all_steps calls grouping group_numbers start size) ≡ 0
+    none_below zero i few lt out = absurd (let e : ⊥ = omega (arith, few) in e)
+    none_below (suc k) i few lt out =
+        all_stand i lt
+        ∙ ap (λ n. n + sum_by (λ t. stands_by (caller_within calls grouping i) (length calls) t) (thread_heads calls grouping start size)) (count_outside i (λ k. is_none (caller_within calls grouping k)) start size out)
+        ∙ by (caller_within calls grouping i) refl (none_below k)
+      where
+        by : (o : Option ℕ) → caller_within calls grouping i ≡ o → ((c : ℕ) → c < k → c < length calls → (start ≤ c → c < start + size → ⊥) → count_by (is_of c) (all_steps calls grouping group_numbers start size) ≡ 0)
+            → 0 + sum_by (λ t. stands_by o (length calls) t) (thread_heads calls grouping start size) ≡ 0
+        by None e rest = omega (arith, sum_none (thread_heads calls grouping start size))
+        by (Some c) e rest =
+            let up = caller_some (forks grouping i) (get_or (callers_of calls) i None) c e in
+            let under : c < i = caller_before calls before c i up in
+            let gone : start ≤ c → c < start + size → ⊥ = λ low high. out (omega (arith, low, under)) (closed.called i c up low high) in
+            omega (arith, count-flat (is_of c) (thread_steps calls grouping group_numbers) (thread_heads calls grouping start size), rest c (omega (arith, under, few)) (omega (arith, under, lt)) gone)
+
+    pub none_outside : (i : ℕ) → i < length calls → (start ≤ i → i < start + size → ⊥) → count_by (is_of i) (all_steps calls grouping group_numbers start size) ≡ 0
+    none_outside i lt out = none_below (suc i) i (omega arith) lt out
 
 start_own : (i t : ℕ) → cond (is_start i (Starts t)) 1 0 + cond (is_start i (Ends t)) 1 0 ≡ cond (eqb i t) 1 0
 start_own i t = omega arith
@@ -268,11 +333,23 @@ start_own i t = omega arith
 end_own : (i t : ℕ) → cond (is_end i (Starts t)) 1 0 + cond (is_end i (Ends t)) 1 0 ≡ cond (eqb i t) 1 0
 end_own i t = omega arith
 
-pub each_starts_once : EachStartsOnce
-each_starts_once calls grouping group_numbers before i lt = stands_once is_start start_own (λ i j. refl) (λ i j piece. refl) calls grouping group_numbers before i lt
+pub each_stands_once : EachStandsOnce
+each_stands_once calls grouping group_numbers before start size closed i low high = (
+  stands_once is_start start_own (λ i j. refl) (λ i j piece. refl) calls grouping group_numbers before start size closed i low high,
+  stands_once is_end end_own (λ i j. refl) (λ i j piece. refl) calls grouping group_numbers before start size closed i low high,
+)
 
-pub each_ends_once : EachEndsOnce
-each_ends_once calls grouping group_numbers before i lt = stands_once is_end end_own (λ i j. refl) (λ i j piece. refl) calls grouping group_numbers before i lt
+pub no_other_stands : NoOtherStands
+no_other_stands calls grouping group_numbers before start size closed i lt out = (
+  none_outside is_start start_own (λ i j. refl) (λ i j piece. refl) calls grouping group_numbers before start size closed i lt out,
+  none_outside is_end end_own (λ i j. refl) (λ i j piece. refl) calls grouping group_numbers before start size closed i lt out,
+)
+
+pub heads_stand_once : HeadsStandOnce
+heads_stand_once calls grouping group_numbers before head less = (
+  heads_once is_start start_own (λ i j. refl) (λ i j piece. refl) calls grouping group_numbers before head less,
+  heads_once is_end end_own (λ i j. refl) (λ i j piece. refl) calls grouping group_numbers before head less,
+)
 
 pub calls_stand_with_callers : CallsStandWithCallers
 calls_stand_with_callers calls grouping group_numbers before head i less lt other = (

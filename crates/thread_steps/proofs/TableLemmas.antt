@@ -38,6 +38,9 @@ caller_before calls before i j is = let found = by calls j is in before j found.
     by (c ∷ cs) zero e = (c, refl, e)
     by (c ∷ cs) (suc k) e = by cs k e
 
+pub range_within : (a n : ℕ) → All (λ j. j < a + n) (range_with_len a n)
+range_within a n = All-from_get_or (λ j. j < a + n) (range_with_len a n) 0 (λ k small. omega (arith, small, length-range_with_len a n, get_or-range_with_len a n k 0 (omega (arith, small, length-range_with_len a n))))
+
 pub range_below : (n : ℕ) → All (λ j. j < n) (range_with_len 0 n)
 range_below n = All-from_get_or (λ j. j < n) (range_with_len 0 n) 0 (λ k small. omega (arith, small, length-range_with_len 0 n, get_or-range_with_len 0 n k 0 (omega (arith, small, length-range_with_len 0 n))))
 

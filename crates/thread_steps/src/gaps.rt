@@ -1,4 +1,5 @@
-ghost use Rattle.std.specs.Prelude.{◌≡◌, ◌<◌, [], All, None, is_some, length, map, replicate, reverse, IfOk};
+ghost use Rattle.std.specs.Prelude.{◌≡◌, ◌<◌, [], All, None, is_some, length, map, replicate};
+ghost use Rattle.std.specs.Prelude.{reverse, IfOk};
 ghost use Rattle.std.specs.List.{list_any};
 ghost use Rattle.thread_steps.specs.Parts.{grouping_of};
 ghost use Rattle.thread_steps.specs.inner.Gaps.{gap_of, gaps_over, group_of_part};
@@ -64,8 +65,8 @@ fn gap_of(group: Option<usize>, ordinal: usize, left: usize) -> Option<u64>
     }
 }
 
-/// Gives for each part which of its group it is, from 1, unless it is the last of it, or has none, by
-/// the groups of parts. The only error is out of memory.
+/// Gives for each part which of its group it is, from 1, unless it is the last of it, or has none,
+/// by the groups of parts. The only error is out of memory.
 fn find_gaps(alloc: Global, groups: &[Option<usize>]) -> Result<Vec<Option<u64>>, AllocError>
     ensures { IfOk result (λ gaps. gaps.items ≡ gaps_over [] groups.now) }
 {
@@ -93,8 +94,8 @@ fn no_gaps(alloc: Global, count: usize) -> Result<Vec<Option<u64>>, AllocError>
     vec![in alloc; None; count]
 }
 
-/// Gives for each part which of its group it is, from 1, unless it is the last of it, or has none. The
-/// only error is out of memory.
+/// Gives for each part which of its group it is, from 1, unless it is the last of it, or has none.
+/// The only error is out of memory.
 pub(crate) fn gaps_of_parts(
     alloc: Global,
     forking: Forking<'_>,

@@ -1,14 +1,20 @@
 //! Laws over the definitions alone: each function does nothing, and its contract is the law.
-ghost use Rattle.thread_steps.specs.ThreadLaws.{CallsStandWithCallers, EachEndsOnce, EachStartsOnce};
+ghost use Rattle.thread_steps.specs.ThreadLaws.{CallsStandWithCallers, EachStandsOnce};
+ghost use Rattle.thread_steps.specs.ThreadLaws.{HeadsStandOnce, NoOtherStands};
 
-/// Among the steps of all threads each call starts once.
-pub fn each_starts_once()
-    ensures { EachStartsOnce }
+/// Among the steps of the threads of requests each of their calls starts once and ends once.
+pub fn each_stands_once()
+    ensures { EachStandsOnce }
 {}
 
-/// Among the steps of all threads each call ends once.
-pub fn each_ends_once()
-    ensures { EachEndsOnce }
+/// No other call stands among the steps of the threads of requests.
+pub fn no_other_stands()
+    ensures { NoOtherStands }
+{}
+
+/// In the thread that it begins a call starts once and ends once.
+pub fn heads_stand_once()
+    ensures { HeadsStandOnce }
 {}
 
 /// In a thread that another call begins, a call starts and ends as often as the caller that goes
