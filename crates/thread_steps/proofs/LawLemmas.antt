@@ -1,5 +1,5 @@
 -- How often calls stand in threads.
-use Rattle.std.proofs.Common.{◌≡◌, ◌≢◌, ◌⊎◌, inl, inr, ℕ, zero, suc, ◌+◌, ◌<◌, ◌≤◌, List, [], ◌∷◌, ◌++◌, ◌&&◌, All, Bool, true, false, cond, eqb, Option, Some, None, filter, length, get_or, max, nat_lt, refl, sym, ap, ◌∙◌, arith, eq-eqb}
+use Rattle.std.proofs.Common.{◌≡◌, ◌≢◌, ◌⊎◌, inl, inr, ℕ, zero, suc, ◌+◌, ◌<◌, ◌≤◌, List, [], ◌∷◌, ◌++◌, ◌&&◌, All, Bool, true, false, cond, eqb, Option, Some, None, filter, length, get_or, max, nat_lt, refl, sym, ap, ◌∙◌, subst, arith, eq-eqb}
 use Rattle.std.specs.Prelude.{is_none}
 use Rattle.std.specs.List.{count_by, flat_map, range_with_len, sum_by}
 use Rattle.std.proofs.lemmas.Bool.{and_parts, cases_eq, cases_lt, eqb-true, ne_eqb}
@@ -31,7 +31,7 @@ sum_none : {X : Type 0} (xs : List X) → sum_by (λ x. 0) xs ≡ 0
 sum_none [] = refl
 sum_none (x ∷ xs) = sum_by-cons (λ x. 0) x xs ∙ (let e : 0 + sum_by (λ x. 0) xs ≡ 0 = omega (arith, sum_none xs) in e)
 
-count-flat : {X Y : Type 0} (p : Y → Bool) (f : X → List Y) (xs : List X) → count_by p (flat_map f xs) ≡ sum_by (λ x. count_by p (f x)) xs
+pub count-flat : {X Y : Type 0} (p : Y → Bool) (f : X → List Y) (xs : List X) → count_by p (flat_map f xs) ≡ sum_by (λ x. count_by p (f x)) xs
 count-flat p f [] = refl
 count-flat p f (x ∷ xs) =
     sum_by-append (λ y. cond (p y) 1 0) (f x) (flat_map f xs)
@@ -98,7 +98,7 @@ count_outside i p a n out = by (cases_lt i a) (cases_lt i (a + n))
 
 module _ (calls : List Call) (grouping : Grouping) (group_numbers : List ℕ) (weight : Step → ℕ) (forking : (j : ℕ) → weight (Forks j) ≡ 0) (joining : (j : ℕ) (piece : Piece) → weight (Joins j piece) ≡ 0) where
   -- what a call weighs that is not forked
-  abbrev own_weight : ℕ → ℕ
+  abbrev pub own_weight : ℕ → ℕ
   own_weight j = cond (forks grouping j) 0 (weight (Starts j))
 
   part_weight : (before later : List (List ℕ)) (i : ℕ) (more : List ℕ) → sum_by weight (part_steps calls grouping group_numbers before later (i ∷ more)) ≡ own_weight i
@@ -138,7 +138,7 @@ module _ (calls : List Call) (grouping : Grouping) (group_numbers : List ℕ) (w
             sum_by-cons own_weight i later,
           )
 
-  steps_weigh : (below : List ℕ) → sum_by weight (own_steps calls grouping group_numbers below) ≡ sum_by own_weight below
+  pub steps_weigh : (below : List ℕ) → sum_by weight (own_steps calls grouping group_numbers below) ≡ sum_by own_weight below
   steps_weigh [] = refl
   steps_weigh (i ∷ later) = cut_weight [] i [] (end_of calls i) later refl ∙ sym (sum_by-cons own_weight i later)
 
@@ -146,19 +146,19 @@ module _ (calls : List Call) (grouping : Grouping) (group_numbers : List ℕ) (w
 
 module _ (is_of : ℕ → Step → Bool) (own : (i t : ℕ) → cond (is_of i (Starts t)) 1 0 + cond (is_of i (Ends t)) 1 0 ≡ cond (eqb i t) 1 0) (forking : (i j : ℕ) → is_of i (Forks j) ≡ false) (joining : (i j : ℕ) (piece : Piece) → is_of i (Joins j piece) ≡ false) (calls : List Call) (grouping : Grouping) (group_numbers : List ℕ) (before : AreBefore calls) where
   -- how often a call stands in a thread so deep
-  abbrev stands : ℕ → ℕ → ℕ → ℕ
+  abbrev pub stands : ℕ → ℕ → ℕ → ℕ
   stands i n t = count_by (is_of i) (steps_within calls (calls_below calls) grouping group_numbers n t)
 
   -- the same of a caller, if there is one
-  abbrev stands_by : Option ℕ → ℕ → ℕ → ℕ
+  abbrev pub stands_by : Option ℕ → ℕ → ℕ → ℕ
   stands_by None n t = 0
   stands_by (Some c) n t = stands c n t
 
   -- the calls below a call
-  abbrev under : ℕ → List ℕ
+  abbrev pub under : ℕ → List ℕ
   under t = get_or (calls_below calls) t []
 
-  stands_suc : (i n t : ℕ) → stands i (suc n) t ≡ cond (eqb i t) 1 0 + sum_by (λ j. cond (forks grouping j) 0 (stands i n j)) (under t)
+  pub stands_suc : (i n t : ℕ) → stands i (suc n) t ≡ cond (eqb i t) 1 0 + sum_by (λ j. cond (forks grouping j) 0 (stands i n j)) (under t)
   stands_suc i n t =
       let steps = own_steps calls grouping group_numbers (under t) in
       let deep = flat_map (gone_into (steps_within calls (calls_below calls) grouping group_numbers n)) steps in
@@ -214,7 +214,7 @@ module _ (is_of : ℕ → Step → Bool) (own : (i t : ℕ) → cond (is_of i (S
       ap (count_by (eqb i)) (group_at (callers_of calls) (range_with_len 0 (length calls)) t [] (omega (arith, less, length-map calls (λ (c : Call). c.caller))))
       ∙ count_range i (λ j. is_number t (get_or (callers_of calls) j None)) 0 (length calls) (omega arith) (omega (arith, lt))
 
-  stand : (n t i : ℕ) → t < length calls → i < length calls → length calls ≤ n + t → stands i n t ≡ cond (eqb i t) 1 0 + stands_by (caller_within calls grouping i) n t
+  pub stand : (n t i : ℕ) → t < length calls → i < length calls → length calls ≤ n + t → stands i n t ≡ cond (eqb i t) 1 0 + stands_by (caller_within calls grouping i) n t
   stand zero t i less lt le = absurd (let e : ⊥ = omega (arith, less, le) in e)
   stand (suc n) t i less lt le =
       let up = caller_within calls grouping i in
@@ -233,7 +233,7 @@ module _ (is_of : ℕ → Step → Bool) (own : (i t : ℕ) → cond (is_of i (S
       split true x y z h = omega arith
       split false x y z h = h
 
-  caller_some : (b : Bool) (o : Option ℕ) (c : ℕ) → cond b None o ≡ Some c → o ≡ Some c
+  pub caller_some : (b : Bool) (o : Option ℕ) (c : ℕ) → cond b None o ≡ Some c → o ≡ Some c
   caller_some true o c h = cc
   caller_some false o c h = h
 
@@ -272,6 +272,24 @@ module _ (is_of : ℕ → Step → Bool) (own : (i t : ℕ) → cond (is_of i (S
       by (Some c) e =
           let low : c < head = caller_before calls before c head (caller_some (forks grouping head) (get_or (callers_of calls) head None) c e) in
           omega (arith, none_before (suc c) c head (omega arith) low less)
+
+  few_below : (k i head : ℕ) → i < k → i < length calls → head < length calls → stands i (length calls) head ≤ 1
+  few_below zero i head few lt less = absurd (let e : ⊥ = omega (arith, few) in e)
+  few_below (suc k) i head few lt less = by (cases_eq i head) (few_below k)
+    where
+      from : (o : Option ℕ) → caller_within calls grouping i ≡ o → ((c h : ℕ) → c < k → c < length calls → h < length calls → stands c (length calls) h ≤ 1) → stands_by o (length calls) head ≤ 1
+      from None e rest = omega arith
+      from (Some c) e rest =
+          let low : c < i = caller_before calls before c i (caller_some (forks grouping i) (get_or (callers_of calls) i None) c e) in
+          rest c head (omega (arith, low, few)) (omega (arith, low, lt)) less
+
+      by : (i ≡ head) ⊎ (i ≡ head → ⊥) → ((c h : ℕ) → c < k → c < length calls → h < length calls → stands c (length calls) h ≤ 1) → stands i (length calls) head ≤ 1
+      by (inl same) rest = subst (λ j. stands j (length calls) head ≤ 1) (sym same) (omega (arith, heads_once head less))
+      by (inr other) rest = omega (arith, stand (length calls) head i less lt (omega arith), ap (λ b. cond {A = ℕ} b 1 0) (ne_eqb i head other), from (caller_within calls grouping i) refl rest)
+
+  -- in a thread a call starts, or ends, once at most
+  pub once_at_most : (i head : ℕ) → i < length calls → head < length calls → count_by (is_of i) (thread_steps calls grouping group_numbers head) ≤ 1
+  once_at_most i head lt less = few_below (suc i) i head (omega arith) lt less
 
   -- all threads of requests
 
@@ -327,10 +345,10 @@ module _ (is_of : ℕ → Step → Bool) (own : (i t : ℕ) → cond (is_of i (S
     pub none_outside : (i : ℕ) → i < length calls → (start ≤ i → i < start + size → ⊥) → count_by (is_of i) (all_steps calls grouping group_numbers start size) ≡ 0
     none_outside i lt out = none_below (suc i) i (omega arith) lt out
 
-start_own : (i t : ℕ) → cond (is_start i (Starts t)) 1 0 + cond (is_start i (Ends t)) 1 0 ≡ cond (eqb i t) 1 0
+pub start_own : (i t : ℕ) → cond (is_start i (Starts t)) 1 0 + cond (is_start i (Ends t)) 1 0 ≡ cond (eqb i t) 1 0
 start_own i t = omega arith
 
-end_own : (i t : ℕ) → cond (is_end i (Starts t)) 1 0 + cond (is_end i (Ends t)) 1 0 ≡ cond (eqb i t) 1 0
+pub end_own : (i t : ℕ) → cond (is_end i (Starts t)) 1 0 + cond (is_end i (Ends t)) 1 0 ≡ cond (eqb i t) 1 0
 end_own i t = omega arith
 
 pub each_stands_once : EachStandsOnce
@@ -356,3 +374,26 @@ calls_stand_with_callers calls grouping group_numbers before head i less lt othe
   stands_with_caller is_start start_own (λ i j. refl) (λ i j piece. refl) calls grouping group_numbers before head i less lt other,
   stands_with_caller is_end end_own (λ i j. refl) (λ i j piece. refl) calls grouping group_numbers before head i less lt other,
 )
+
+-- a call starts as often as it ends
+pub as_often : (calls : List Call) (grouping : Grouping) (group_numbers : List ℕ) → AreBefore calls → (k i head : ℕ) → i < k → i < length calls → head < length calls → count_by (is_start i) (thread_steps calls grouping group_numbers head) ≡ count_by (is_end i) (thread_steps calls grouping group_numbers head)
+as_often calls grouping group_numbers before zero i head few lt less = absurd (let e : ⊥ = omega (arith, few) in e)
+as_often calls grouping group_numbers before (suc k) i head few lt less = by (cases_eq i head) (as_often calls grouping group_numbers before k)
+  where
+    from : (o : Option ℕ) → caller_within calls grouping i ≡ o
+        → ((c h : ℕ) → c < k → c < length calls → h < length calls → count_by (is_start c) (thread_steps calls grouping group_numbers h) ≡ count_by (is_end c) (thread_steps calls grouping group_numbers h))
+        → count_of calls grouping group_numbers is_start o head ≡ count_of calls grouping group_numbers is_end o head
+    from None e rest = refl
+    from (Some c) e rest =
+        let low : c < i = caller_before calls before c i (caller_some is_start start_own (λ i j. refl) (λ i j piece. refl) calls grouping group_numbers before (forks grouping i) (get_or (callers_of calls) i None) c e) in
+        rest c head (omega (arith, low, few)) (omega (arith, low, lt)) less
+
+    by : (i ≡ head) ⊎ (i ≡ head → ⊥)
+        → ((c h : ℕ) → c < k → c < length calls → h < length calls → count_by (is_start c) (thread_steps calls grouping group_numbers h) ≡ count_by (is_end c) (thread_steps calls grouping group_numbers h))
+        → count_by (is_start i) (thread_steps calls grouping group_numbers head) ≡ count_by (is_end i) (thread_steps calls grouping group_numbers head)
+    by (inl same) rest =
+        let both = heads_stand_once calls grouping group_numbers before head less in
+        subst (λ j. count_by (is_start j) (thread_steps calls grouping group_numbers head) ≡ count_by (is_end j) (thread_steps calls grouping group_numbers head)) (sym same) (both.0 ∙ sym both.1)
+    by (inr other) rest =
+        let both = calls_stand_with_callers calls grouping group_numbers before head i less lt other in
+        both.0 ∙ from (caller_within calls grouping i) refl rest ∙ sym both.1

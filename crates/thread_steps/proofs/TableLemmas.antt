@@ -58,6 +58,14 @@ below_behind calls below before is i lt =
       All-get_or (λ j. j < length calls) (below_one callers all i) k 0 small (All-filter (λ j. is_number i (get_or callers j None)) (λ j. j < length calls) all few),
     )))
 
+pub below_called : (calls : List Call) (c : ℕ) → c < length calls → All (λ j. get_or (callers_of calls) j None ≡ Some c) (get_or (calls_below calls) c [])
+below_called calls c lt =
+    let callers = callers_of calls in
+    let all = range_with_len 0 (length calls) in
+    let same : get_or (calls_below calls) c [] ≡ below_one callers all c = group_at callers all c [] (omega (arith, lt, length-map calls (λ (c : Call). c.caller))) in
+    subst (All (λ j. get_or callers j None ≡ Some c)) (sym same)
+    (All-weaker (λ j. is_number c (get_or callers j None) ≡ true) (λ j. get_or callers j None ≡ Some c) (λ j h. is_some_number c (get_or callers j None) h) (below_one callers all c) (filter_passes (λ j. is_number c (get_or callers j None)) all))
+
 -- steps of a call itself
 
 module _ (calls : List Call) (grouping : Grouping) (group_numbers : List ℕ) where

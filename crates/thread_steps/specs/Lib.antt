@@ -1,4 +1,5 @@
 pub mod Parts
+pub mod StepKeys
 pub mod Steps
 pub mod ThreadLaws
 pub mod inner

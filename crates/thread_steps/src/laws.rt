@@ -1,4 +1,5 @@
 //! Laws over the definitions alone: each function does nothing, and its contract is the law.
+ghost use Rattle.thread_steps.specs.StepKeys.{StepsDiffer};
 ghost use Rattle.thread_steps.specs.ThreadLaws.{CallsStandWithCallers, EachStandsOnce};
 ghost use Rattle.thread_steps.specs.ThreadLaws.{HeadsStandOnce, NoOtherStands};
 
@@ -21,4 +22,9 @@ pub fn heads_stand_once()
 /// into it, and if none does, never.
 pub fn calls_stand_with_callers()
     ensures { CallsStandWithCallers }
+{}
+
+/// No two steps of a thread have one key, where its calls are told apart by their contexts.
+pub fn steps_differ()
+    ensures { StepsDiffer }
 {}
