@@ -10,8 +10,9 @@ use Rattle.span_calls.specs.declared.call.Call.{Call}
 use Rattle.span_names.specs.declared.piece.Piece.{Piece}
 use Rattle.context_forks.specs.Forks.{callers_of, calls_below}
 use Rattle.thread_steps.specs.Parts.{Grouping, forks, parts_of}
-use Rattle.thread_steps.specs.StepKeys.{AreToldApart, Stands}
+use Rattle.thread_steps.specs.StepKeys.{AreToldApart}
 use Rattle.thread_steps.specs.Steps.{gone_into, own_steps, steps_within}
+use Rattle.thread_steps.specs.ThreadCalls.{Stands}
 use Rattle.thread_steps.specs.ThreadLaws.{is_start, thread_steps}
 use Rattle.thread_steps.specs.declared.step.Step.{Step}
 use Rattle.thread_steps.specs.declared.step.Step.TheVariants.{Starts, Ends, Forks, Joins}

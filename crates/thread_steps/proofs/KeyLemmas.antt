@@ -10,8 +10,9 @@ use Rattle.span_names.specs.declared.piece.Piece.{Piece}
 use Rattle.context_forks.specs.Forks.{calls_below}
 use Rattle.context_forks.specs.Partners.{last_after}
 use Rattle.thread_steps.specs.Parts.{Grouping, forks, parts_of}
-use Rattle.thread_steps.specs.StepKeys.{AreToldApart, StartIn, EndIn, Stands, StepKey, StepsDiffer, happening_of, keys_from, piece_behind}
+use Rattle.thread_steps.specs.StepKeys.{AreToldApart, StartIn, EndIn, StepKey, StepsDiffer, happening_of, keys_from, piece_behind}
 use Rattle.thread_steps.specs.Steps.{call_of, gone_into, own_steps, part_steps, piece_after, steps_over, steps_within}
+use Rattle.thread_steps.specs.ThreadCalls.{Stands}
 use Rattle.thread_steps.specs.ThreadLaws.{is_end, is_start, thread_steps}
 use Rattle.thread_steps.specs.declared.step.Step.{Step}
 use Rattle.thread_steps.specs.declared.step.Step.TheVariants.{Starts, Ends, Forks, Joins}
@@ -177,7 +178,7 @@ module _ (calls : List Call) (grouping : Grouping) (group_numbers : List ℕ) wh
         by (Forks j) lt = All-cons (λ s. call_of s < length calls) (Forks j) [] lt (All-nil (λ s. call_of s < length calls))
         by (Joins j piece) lt = All-cons (λ s. call_of s < length calls) (Joins j piece) [] lt (All-nil (λ s. call_of s < length calls))
 
-    calls_within : (n t : ℕ) → t < length calls → All (λ s. call_of s < length calls) (steps_within calls (calls_below calls) grouping group_numbers n t)
+    pub calls_within : (n t : ℕ) → t < length calls → All (λ s. call_of s < length calls) (steps_within calls (calls_below calls) grouping group_numbers n t)
     calls_within zero t lt = All-nil (λ s. call_of s < length calls)
     calls_within (suc n) t lt =
         let under = get_or (calls_below calls) t [] in

@@ -2,13 +2,13 @@
 -- which context. A statement that a law proves.
 use Rattle.std.specs.Prelude.{ℕ, ◌≡◌, ◌<◌, List, [], ◌∷◌, Option, Some, None, true, length, slice_get}
 use Rattle.std.specs.Prelude.{slice_index, slice_index_or}
-use Rattle.std.specs.List.{count_by}
 use Rattle.span_calls.specs.Calls.{AreBefore}
 use Rattle.span_calls.specs.declared.call.Call.{Call}
 use Rattle.span_names.specs.declared.piece.Piece.{Piece}
 use Rattle.context_forks.specs.Forks.{callers_of}
 use Rattle.thread_steps.specs.Parts.{Grouping, forks, group_of}
-use Rattle.thread_steps.specs.ThreadLaws.{is_start, thread_steps}
+use Rattle.thread_steps.specs.ThreadCalls.{Stands}
+use Rattle.thread_steps.specs.ThreadLaws.{thread_steps}
 use Rattle.thread_steps.specs.declared.step.Step.{Step}
 use Rattle.thread_steps.specs.declared.step.Step.TheVariants.{Starts, Ends, Forks, Joins}
 
@@ -46,10 +46,6 @@ module _ (grouping : Grouping) where
       ∷ keys_from (piece_behind piece step) later
 
 module _ (calls : List Call) (grouping : Grouping) (group_numbers : List ℕ) (head : ℕ) where
-  -- the call starts in the thread that this one begins
-  abbrev pub Stands : ℕ → Type 0
-  Stands c = 0 < count_by (is_start c) (thread_steps calls grouping group_numbers head)
-
   -- the caller forks the call
   abbrev pub IsForkedBy : (i c : ℕ) → Type 0
   IsForkedBy i c = (forks grouping i ≡ true) × (slice_index_or (callers_of calls) i None ≡ Some c)
@@ -57,12 +53,14 @@ module _ (calls : List Call) (grouping : Grouping) (group_numbers : List ℕ) (h
   -- calls of the thread are told apart by their contexts, callers of one group have one context, and
   -- groups that the thread forks have numbers of their own
   pub record AreToldApart : Type 0 where
-    pub contexts : (c d : ℕ) → Stands c → Stands d
+    pub contexts : (c d : ℕ) → Stands calls grouping group_numbers head c
+        → Stands calls grouping group_numbers head d
         → slice_index grouping.numbers c ≡ slice_index grouping.numbers d → c ≡ d
     pub callers : (i j c d : ℕ) → IsForkedBy i c → IsForkedBy j d
         → group_of grouping i ≡ group_of grouping j
         → slice_index grouping.numbers c ≡ slice_index grouping.numbers d
-    pub groups : (i j c d : ℕ) → Stands c → Stands d → IsForkedBy i c → IsForkedBy j d
+    pub groups : (i j c d : ℕ) → Stands calls grouping group_numbers head c
+        → Stands calls grouping group_numbers head d → IsForkedBy i c → IsForkedBy j d
         → slice_index group_numbers (group_of grouping i)
         ≡ slice_index group_numbers (group_of grouping j)
         → group_of grouping i ≡ group_of grouping j

@@ -1,5 +1,6 @@
 //! Laws over the definitions alone: each function does nothing, and its contract is the law.
 ghost use Rattle.thread_steps.specs.StepKeys.{StepsDiffer};
+ghost use Rattle.thread_steps.specs.ThreadCalls.{ThreadsAreOfCallsBelow, ThreadsKeepTests};
 ghost use Rattle.thread_steps.specs.ThreadLaws.{CallsStandWithCallers, EachStandsOnce};
 ghost use Rattle.thread_steps.specs.ThreadLaws.{HeadsStandOnce, NoOtherStands};
 
@@ -27,4 +28,15 @@ pub fn calls_stand_with_callers()
 /// No two steps of a thread have one key, where its calls are told apart by their contexts.
 pub fn steps_differ()
     ensures { StepsDiffer }
+{}
+
+/// The calls that stand in a thread are below the one that begins it.
+pub fn threads_are_of_calls_below()
+    ensures { ThreadsAreOfCallsBelow }
+{}
+
+/// A test that the call that begins a thread passes, and each call that a thread goes into if its
+/// caller does, all calls that stand in the thread pass.
+pub fn threads_keep_tests()
+    ensures { ThreadsKeepTests }
 {}
