@@ -1,5 +1,5 @@
--- By what the steps of a thread are told apart: the piece that the thread is in, and what happens in
--- which context. A statement that a law proves.
+-- By what the steps of a thread are told apart: the piece that the thread is in, and what happens
+-- in which context. A statement that a law proves.
 use Rattle.std.specs.Prelude.{ℕ, ◌≡◌, ◌<◌, List, [], ◌∷◌, Option, Some, None, true, length, slice_get}
 use Rattle.std.specs.Prelude.{slice_index, slice_index_or}
 use Rattle.span_calls.specs.Calls.{AreBefore}
@@ -50,8 +50,8 @@ module _ (calls : List Call) (grouping : Grouping) (group_numbers : List ℕ) (h
   abbrev pub IsForkedBy : (i c : ℕ) → Type 0
   IsForkedBy i c = (forks grouping i ≡ true) × (slice_index_or (callers_of calls) i None ≡ Some c)
 
-  -- calls of the thread are told apart by their contexts, callers of one group have one context, and
-  -- groups that the thread forks have numbers of their own
+  -- calls of the thread are told apart by their contexts, callers of one group have one context,
+  -- and groups that the thread forks have numbers of their own
   pub record AreToldApart : Type 0 where
     pub contexts : (c d : ℕ) → Stands calls grouping group_numbers head c
         → Stands calls grouping group_numbers head d
@@ -65,11 +65,16 @@ module _ (calls : List Call) (grouping : Grouping) (group_numbers : List ℕ) (h
         ≡ slice_index group_numbers (group_of grouping j)
         → group_of grouping i ≡ group_of grouping j
 
+-- the keys of the steps of the thread that begins with this call
+abbrev pub thread_keys : (calls : List Call) → Grouping → (group_numbers : List ℕ) → ℕ → List StepKey
+thread_keys calls grouping group_numbers head =
+    keys_from grouping None (thread_steps calls grouping group_numbers head)
+
 -- then no two steps of the thread have one key
 abbrev pub StepsDiffer : Type 0
 StepsDiffer = (calls : List Call) (grouping : Grouping) (group_numbers : List ℕ) → AreBefore calls
     → (head : ℕ) → head < length calls → AreToldApart calls grouping group_numbers head
     → (i j : ℕ) (key : StepKey)
-    → slice_get (keys_from grouping None (thread_steps calls grouping group_numbers head)) i ≡ Some key
-    → slice_get (keys_from grouping None (thread_steps calls grouping group_numbers head)) j ≡ Some key
+    → slice_get (thread_keys calls grouping group_numbers head) i ≡ Some key
+    → slice_get (thread_keys calls grouping group_numbers head) j ≡ Some key
     → i ≡ j

@@ -1,6 +1,6 @@
 -- The steps of threads of control: into each call that is not forked and back, and over each part
--- of forked calls by a fork and a join, behind which the thread goes on as a piece of its own. So no
--- segment of a thread is spent waiting for a call.
+-- of forked calls by a fork and a join, behind which the thread goes on as a piece of its own. So
+-- no segment of a thread is spent waiting for a call.
 use Rattle.std.specs.Prelude.{ℕ, zero, suc, ◌+◌, List, [], ◌∷◌, ◌++◌, Some, None}
 use Rattle.std.specs.Prelude.{if◌then◌else◌, length, slice_index, slice_index_or}
 use Rattle.std.specs.List.{count_by, flat_map, list_any}
