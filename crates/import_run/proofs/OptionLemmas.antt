@@ -1,11 +1,11 @@
 -- Options that are read one after another.
-use Rattle.std.proofs.Common.{◌≡◌, ◌≤◌, ◌<◌, ℕ, suc, List, [], ◌∷◌, Option, Some, None, Bool, true, false, refl, ap, sym, subst, ◌∙◌, arith, length, drop, slice_get}
+use Rattle.std.proofs.Common.{◌≡◌, ◌≤◌, ℕ, suc, List, [], ◌∷◌, Some, None, Bool, true, false, refl, ap, sym, subst, ◌∙◌, arith, length, drop, slice_get}
 use Rattle.std.proofs.lemmas.Option.{get_or_from_slice_get, slice_get_within}
 use Rattle.std.proofs.lemmas.Slice.Eq.{bytes_eq-Decides}
 use Rattle.std.specs.Prelude.{codes, option_and_then, if◌then◌else◌, ◌==◌}
 use Rattle.std.specs.Str.{bytes_eq}
 use Rattle.span_files.specs.declared.span_form.SpanForm.{SpanForm}
-use Rattle.import_run.specs.CommandLines.{Asked, Call, call_after, call_of_form, call_with, grace_of, nothing_asked}
+use Rattle.import_run.specs.CommandLines.{Asked, call_after, call_of_form, call_with, grace_of, nothing_asked}
 use Rattle.import_run.specs.declared.form.Form.{Form}
 use Rattle.import_run.specs.declared.form.Form.TheVariants.{Spans}
 

@@ -1,6 +1,6 @@
 -- How a run ends, and what it writes.
 use Rattle.std.specs.Prelude.{ℕ, ◌≡◌, ◌+◌, ◌<◌, ◌≤◌, List, [], Ok, Err, Option, Some, length}
-use Rattle.std.specs.Prelude.{map, slice_get, take, true, false, if◌then◌else◌}
+use Rattle.std.specs.Prelude.{slice_get, take, false, if◌then◌else◌}
 use Rattle.std.specs.Io.KnownBytes.{append_known}
 use Rattle.event_lines.specs.declared.line.Line.{Line}
 use Rattle.event_rewrite.specs.WithoutWaits.{without_waits}
@@ -24,7 +24,6 @@ use Rattle.import_run.specs.Messages.{no_notes}
 use Rattle.import_run.specs.declared.form.Form.{Form}
 use Rattle.import_run.specs.declared.form.Form.TheVariants.{Events, Spans}
 use Rattle.import_run.specs.declared.notes.Notes.{Notes}
-use Rattle.import_run.specs.declared.span_reason.SpanReason.{SpanReason}
 use Rattle.import_run.specs.declared.span_reason.SpanReason.TheVariants.{Unreadable, RepeatedId}
 use Rattle.import_run.specs.declared.span_reason.SpanReason.TheVariants.{Circle}
 use Rattle.import_run.specs.declared.outcome.Outcome.{Outcome}
