@@ -7,24 +7,18 @@ use Rattle.std.specs.List.{count_by, list_any}
 use Rattle.span_calls.specs.declared.call.Call.{Call}
 use Rattle.span_names.specs.declared.piece.Piece.{Piece}
 use Rattle.context_forks.specs.Partners.{last_to_end}
-use Rattle.span_lines.specs.Parts.{Beside, forks, group_of, is_part_with, parts_of}
+use Rattle.thread_steps.specs.declared.step.Step.{Step}
+use Rattle.thread_steps.specs.declared.step.Step.TheVariants.{Starts, Ends, Forks, Joins}
+use Rattle.thread_steps.specs.Parts.{Grouping, forks, group_of, is_part_with, parts_of}
 
--- a step of a thread: a call starts or ends; its caller forks calls, of which this is the first, or
--- joins them, of which this one ends last, and goes on in this piece
-pub data Step : Type 0 where
-  Starts : (i : ℕ) → Step
-  Ends : (i : ℕ) → Step
-  Forks : (i : ℕ) → Step
-  Joins : (i : ℕ) → (piece : Piece) → Step
-
-module _ (calls : List Call) (below : List (List ℕ)) (beside : Beside) (group_numbers : List ℕ) where
+module _ (calls : List Call) (below : List (List ℕ)) (grouping : Grouping) (group_numbers : List ℕ) where
   -- the piece in which a caller goes on after a part: under the number of its group, and unless it is
   -- the last part of that group, under which of these it is, from 1
   abbrev pub piece_after : (before later : List (List ℕ)) → ℕ → Piece
   piece_after before later i = record {
-    number = slice_index group_numbers (group_of calls beside i);
-    gap = if list_any (is_part_with calls beside i) later
-        then Some (1 + count_by (is_part_with calls beside i) before) else None;
+    number = slice_index group_numbers (group_of calls grouping i);
+    gap = if list_any (is_part_with calls grouping i) later
+        then Some (1 + count_by (is_part_with calls grouping i) before) else None;
   }
 
   abbrev pub join_of : Option ℕ → Piece → List Step
@@ -35,7 +29,7 @@ module _ (calls : List Call) (below : List (List ℕ)) (beside : Beside) (group_
   abbrev pub one_part : (ℕ → List Step) → (before later : List (List ℕ)) → List ℕ → List Step
   one_part within before later [] = []
   one_part within before later (i ∷ more) =
-      if forks calls beside i
+      if forks calls grouping i
       then Forks i ∷ join_of (last_to_end calls (i ∷ more)) (piece_after before later i)
       else within i
 
@@ -48,7 +42,7 @@ module _ (calls : List Call) (below : List (List ℕ)) (beside : Beside) (group_
   abbrev pub steps_within : ℕ → ℕ → List Step
   steps_within zero i = []
   steps_within (suc n) i = Starts i
-      ∷ part_steps (steps_within n) [] (parts_of calls beside (slice_index_or below i [])) ++ Ends i ∷ []
+      ∷ part_steps (steps_within n) [] (parts_of calls grouping (slice_index_or below i [])) ++ Ends i ∷ []
 
   abbrev pub steps_from : ℕ → List Step
   steps_from i = steps_within (length calls) i

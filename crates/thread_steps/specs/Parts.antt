@@ -1,4 +1,4 @@
--- The calls of one caller, in order, cut into parts: calls that run beside one another are forked
+-- The calls of one caller, in order, cut into parts: calls that run grouping one another are forked
 -- together and joined together, and any other call is a part of its own.
 use Rattle.std.specs.Prelude.{ℕ, ◌==◌, ◌&&◌, List, [], ◌∷◌, ◌++◌, Bool, false, max, nat_lt}
 use Rattle.std.specs.Prelude.{if◌then◌else◌, slice_index, slice_index_or}
@@ -6,18 +6,18 @@ use Rattle.span_calls.specs.declared.call.Call.{Call}
 use Rattle.context_forks.specs.Partners.{end_of, start_of}
 
 -- the contexts of calls, which of them are forked, and their groups
-pub record Beside : Type 0 where
+pub record Grouping : Type 0 where
   pub numbers : List ℕ
   pub forked : List Bool
   pub groups : List ℕ
 
-module _ (calls : List Call) (beside : Beside) where
+module _ (calls : List Call) (grouping : Grouping) where
   -- the call is forked, and the group that it is of
   abbrev pub forks : ℕ → Bool
-  forks i = slice_index_or beside.forked (slice_index beside.numbers i) false
+  forks i = slice_index_or grouping.forked (slice_index grouping.numbers i) false
 
   abbrev pub group_of : ℕ → ℕ
-  group_of i = slice_index beside.groups (slice_index beside.numbers i)
+  group_of i = slice_index grouping.groups (slice_index grouping.numbers i)
 
   -- both calls are forked, in one group
   abbrev pub fork_together : ℕ → ℕ → Bool
