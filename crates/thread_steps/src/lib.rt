@@ -1,4 +1,5 @@
-//! The steps of threads of control over calls: a stand-in until the crate itself is there.
+//! The steps of threads of control over calls: into each call that is not forked and back, and over
+//! calls that are forked together by a fork and a join.
 #![tactic(auto)]
 
 mod forking;
