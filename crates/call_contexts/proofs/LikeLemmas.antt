@@ -5,7 +5,7 @@ use Rattle.std.specs.List.{count_by}
 use Rattle.std.proofs.lemmas.List.{length-map, map-append}
 use Rattle.call_trees.specs.Ordinals.{ordinals_after, ordinals_of}
 use Rattle.span_calls.specs.declared.call.Call.{Call}
-use Rattle.call_contexts.specs.Contexts.{Like, like_eq, like_of, ordinals_among}
+use Rattle.call_contexts.specs.Contexts.{like_eq, like_of, ordinals_among}
 use Rattle.call_contexts.specs.declared.like_key.LikeKey.{LikeKey}
 use Rattle.call_contexts.specs.inner.LikeKeys.{like_of_key, likes_of_keys}
 

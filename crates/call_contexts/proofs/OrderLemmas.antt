@@ -1,13 +1,15 @@
 -- Contexts above stand before those below them, so that these are finitely deep.
-use Rattle.std.proofs.Common.{◌≡◌, ℕ, zero, suc, ◌+◌, ◌<◌, ◌≤◌, List, [], ◌∷◌, Option, Some, None, length, get_or, map, slice_get, refl, sym, ap, ◌∙◌, arith}
+use Rattle.std.proofs.Common.{◌≡◌, ℕ, zero, suc, ◌+◌, ◌<◌, ◌≤◌, List, [], ◌∷◌, Option, Some, None, length, get_or, map, slice_get, take, refl, sym, ap, ◌∙◌, arith}
 use Rattle.std.specs.Option.{option_and_then}
 use Rattle.std.specs.declared.cmp.Ordering.{Ordering}
-use Rattle.std.proofs.lemmas.List.{length-map}
+use Rattle.std.proofs.lemmas.List.{length-map, take_all}
+use Rattle.std.proofs.lemmas.Simd.{map-map}
 use Rattle.span_requests.specs.CallerNumbers.{AreCallers, HaveLastCallers, number_above}
 use Rattle.call_contexts.specs.ContextOrder.{all_above, title_cmp, title_of}
 use Rattle.call_contexts.specs.inner.TitleKeys.{title_of_key, titles_of_keys}
+use Rattle.call_contexts.specs.declared.context.Context.{Context}
 use Rattle.call_contexts.specs.declared.title_key.TitleKey.{TitleKey}
-use Rattle.call_contexts.specs.Contexts.{Frame, HaveAbove}
+use Rattle.call_contexts.specs.Contexts.{Frame, HaveAbove, frame_of, frames_of}
 use Rattle.call_contexts.proofs.ListLemmas.{some_inj}
 
 module _ (contexts : List Frame) (h : HaveAbove contexts) where
@@ -65,3 +67,10 @@ key_cmp k l = title_cmp (title_of_key k) (title_of_key l)
 pub titled_size : (frames : List Frame) (above : List (Option ℕ)) (keys lent : List TitleKey) → above ≡ all_above frames → lent ≡ keys → titles_of_keys keys ≡ map title_of frames → length above ≡ length lent
 titled_size frames above keys lent a k t =
     ap length a ∙ length-map frames (λ (f : Frame). f.above) ∙ sym (length-map frames title_of) ∙ sym (ap length t) ∙ length-map keys title_of_key ∙ sym (ap length k)
+
+-- what is listed of all contexts
+pub above_listed : (contexts : List Context) (i : ℕ) (above : List (Option ℕ)) → length contexts ≤ i → above ≡ map (λ (x : Context). x.above) (take i contexts) → above ≡ all_above (frames_of contexts)
+above_listed contexts i above le h = h ∙ ap (map (λ (x : Context). x.above)) (take_all i contexts le) ∙ sym (map-map (λ (f : Frame). f.above) frame_of contexts)
+
+pub titles_listed : (contexts : List Context) (i : ℕ) (keys : List TitleKey) → length contexts ≤ i → titles_of_keys keys ≡ map (λ (x : Context). title_of (frame_of x)) (take i contexts) → titles_of_keys keys ≡ map title_of (frames_of contexts)
+titles_listed contexts i keys le h = h ∙ ap (map (λ (x : Context). title_of (frame_of x))) (take_all i contexts le) ∙ sym (map-map title_of frame_of contexts)

@@ -1,5 +1,5 @@
 -- Threads of contexts, one after another.
-use Rattle.std.proofs.Common.{◌≡◌, ◌⊎◌, inl, inr, ℕ, ◌+◌, ◌<◌, ◌≤◌, List, [], ◌∷◌, ◌++◌, Bool, true, false, Option, Some, None, length, get_or, map, slice_get, refl, sym, ap, ◌∙◌, arith}
+use Rattle.std.proofs.Common.{◌≡◌, ◌⊎◌, inl, inr, ℕ, ◌+◌, ◌<◌, ◌≤◌, List, [], ◌∷◌, ◌++◌, Bool, true, false, Option, Some, None, length, get_or, slice_get, refl, sym, ap, ◌∙◌, arith}
 use Rattle.std.specs.Prelude.{IfSome}
 use Rattle.std.proofs.lemmas.Bool.{cases_order}
 use Rattle.std.proofs.lemmas.List.{get_or-map, get_or_append_left, get_or_push, length-append, length-map}
@@ -10,10 +10,10 @@ use Rattle.call_contexts.specs.Threads.{AreThreads, thread_by}
 use Rattle.call_contexts.proofs.ListLemmas.{some_inj}
 
 -- the frame of the context at an index
-pub frame_is : (contexts : List Context) (i : ℕ) (x : Context) → i < length contexts → x ≡ get_or contexts i x → slice_get (frames_of contexts) i ≡ Some (frame_of x)
-frame_is contexts i x lt is =
-    slice_get-get_or (frames_of contexts) i (frame_of x) (omega (arith, lt, length-map contexts frame_of))
-    ∙ ap (λ (f : Frame). Some f) (get_or-map frame_of contexts i x (frame_of x) lt ∙ ap frame_of (sym is))
+pub frame_is : (contexts : List Context) (i : ℕ) (d : Context) → i < length contexts → slice_get (frames_of contexts) i ≡ Some (frame_of (get_or contexts i d))
+frame_is contexts i d lt =
+    slice_get-get_or (frames_of contexts) i (frame_of d) (omega (arith, lt, length-map contexts frame_of))
+    ∙ ap (λ (f : Frame). Some f) (get_or-map frame_of contexts i d (frame_of d) lt)
 
 -- the threads of the first contexts
 pub record AreThreadsTo (contexts : List Frame) (forked : List Bool) (at : ℕ) (threads : List ℕ) : Type 0 where

@@ -34,6 +34,6 @@ first_of above numbers = filter (λ i. is_none (slice_index_or above i None)) nu
 pub record AreOrdered (contexts : List Frame) (order : List ℕ) (below : List (List ℕ)) : Type 0 where
   pub titled : List ℕ
   pub rise : AreInOrder title_cmp (map title_of contexts) titled
-  pub below : below ≡ below_all (all_above contexts) titled
-  pub order : order ≡ walk_through (below_all (all_above contexts) titled)
+  pub lists : below ≡ below_all (all_above contexts) titled
+  pub walk : order ≡ walk_through (below_all (all_above contexts) titled)
       (first_of (all_above contexts) titled)

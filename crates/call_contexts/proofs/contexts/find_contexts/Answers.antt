@@ -1,6 +1,6 @@
-use Rattle.std.proofs.Common.{◌≡◌, ◌∙◌, List, ℕ, ap, length, subst, sym}
+use Rattle.std.proofs.Common.{◌∙◌, List, ℕ, ap, length, subst}
 use Rattle.std.proofs.lemmas.Result.{IfOk-weaker}
-use Rattle.call_contexts.specs.Contexts.{AreContexts, frames_of, ordinals_among}
+use Rattle.call_contexts.specs.Contexts.{frames_of}
 use Rattle.call_contexts.specs.inner.Numbering.{AreSoFar}
 use Rattle.call_contexts.specs.declared.contexts.Contexts.{Contexts}
 use Rattle.call_contexts.proofs.FrameLemmas.{so_far_all}

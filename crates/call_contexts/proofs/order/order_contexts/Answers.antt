@@ -9,7 +9,7 @@ use Rattle.call_trees.proofs.GroupLemmas.{groups_length}
 use Rattle.call_trees.proofs.OrderLemmas.{order-map, order_within}
 use Rattle.span_requests.specs.CallerNumbers.{AreCallers, HaveLastCallers}
 use Rattle.span_calls.proofs.ShallowLemmas.{all_shallow}
-use Rattle.call_contexts.specs.ContextOrder.{all_above, first_of, title_cmp, title_of}
+use Rattle.call_contexts.specs.ContextOrder.{all_above, first_of, title_cmp}
 use Rattle.call_contexts.specs.Contexts.{Frame, frame_of, frames_of}
 use Rattle.call_contexts.specs.inner.TitleKeys.{title_of_key, titles_of_keys}
 use Rattle.call_contexts.specs.declared.title_key.TitleKey.{TitleKey}
@@ -51,8 +51,8 @@ returns-clause-ordered c =
     record {
       titled = titled;
       rise = subst (λ ts. AreInOrder title_cmp ts titled) (ap (λ (ks : List TitleKey). titles_of_keys ks) c.deref.ensures.value ∙ c.in_ok-keys.ensures) (order-map title_of_key title_cmp c.deref.result.now titled c.in_ok-titled.ensures);
-      below = below;
-      order = c.in_ok-order.ensures.walk ∙ ap (λ (ls : List (List ℕ)). walk_through ls c.deref-7.result.now) (c.deref-6.ensures.value ∙ below) ∙ ap (walk_through (below_all (all_above frames) titled)) (c.deref-7.ensures.value ∙ first);
+      lists = below;
+      walk = c.in_ok-order.ensures.walk ∙ ap (λ (ls : List (List ℕ)). walk_through ls c.deref-7.result.now) (c.deref-6.ensures.value ∙ below) ∙ ap (walk_through (below_all (all_above frames) titled)) (c.deref-7.ensures.value ∙ first);
     }
 
 pub returns-clause-within : goal.returns-clause-within
