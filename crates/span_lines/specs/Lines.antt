@@ -5,7 +5,7 @@ use Rattle.context_names.specs.Tasks.{task_name}
 use Rattle.span_names.specs.declared.piece.Piece.{Piece}
 use Rattle.thread_steps.specs.declared.step.Step.{Step}
 use Rattle.thread_steps.specs.declared.step.Step.TheVariants.{Starts, Ends, Forks, Joins}
-use Rattle.span_lines.specs.Mappings.{Mapping, context_of, head_label, label_of, machine_name}
+use Rattle.span_lines.specs.Mappings.{Mapping, context_of, head_label, label_of, name_of}
 use Rattle.span_lines.specs.Moments.{Moment, moment_of}
 
 module _ (m : Mapping) where
@@ -28,7 +28,7 @@ module _ (m : Mapping) where
   line_of request task step = record {
     line = 0;
     request = request;
-    machine = machine_name m (moment_of m step).machine;
+    machine = name_of m (moment_of m step).machine;
     task = task;
     event = event_of step;
     time = (moment_of m step).time;

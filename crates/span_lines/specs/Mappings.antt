@@ -1,9 +1,8 @@
 -- What the lines of calls are told from.
-use Rattle.std.specs.Prelude.{ℕ, ◌==◌, ◌++◌, List, [], Bool, Option, Some, None, codes, position}
-use Rattle.std.specs.Prelude.{slice_index, slice_index_or}
-use Rattle.std.specs.Str.{bytes_eq}
+use Rattle.std.specs.Prelude.{ℕ, ◌==◌, List, [], Bool, Option, slice_index, slice_index_or, unwrap_or}
 use Rattle.span_calls.specs.declared.call.Call.{Call}
 use Rattle.thread_steps.specs.declared.step.Step.{Step}
+use Rattle.context_names.specs.Machines.{MachineNames, machine_name}
 use Rattle.context_names.specs.Tasks.{TaskNames}
 
 pub record Mapping : Type 0 where
@@ -24,8 +23,7 @@ pub record Mapping : Type 0 where
   -- the names of the pieces of threads
   pub tasks : TaskNames
   -- machines, and their names
-  pub machines : List (List ℕ)
-  pub machine_names : List (List ℕ)
+  pub machines : MachineNames
 
 module _ (m : Mapping) where
   -- the context of a call
@@ -47,9 +45,5 @@ module _ (m : Mapping) where
   head_label i = slice_index_or m.labels (head_of i) []
 
   -- the name of a machine
-  abbrev pub name_at : Option ℕ → List ℕ
-  name_at None = []
-  name_at (Some n) = slice_index_or m.machine_names n []
-
-  abbrev pub machine_name : List ℕ → List ℕ
-  machine_name machine = name_at (position (bytes_eq machine) m.machines)
+  abbrev pub name_of : List ℕ → List ℕ
+  name_of machine = unwrap_or (machine_name m.machines machine) []

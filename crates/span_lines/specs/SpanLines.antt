@@ -16,7 +16,7 @@ use Rattle.call_contexts.specs.Threads.{AreThreads}
 use Rattle.context_forks.specs.Forks.{calls_below, context_pairs, forked_of}
 use Rattle.context_names.specs.Bases.{event_base, task_base}
 use Rattle.context_names.specs.Labels.{labels_of}
-use Rattle.context_names.specs.Machines.{AreNamed, machines_of}
+use Rattle.context_names.specs.Machines.{AreNamed, MachineNames, machines_of}
 use Rattle.context_names.specs.Pieces.{heads_by_group, numbers_by_group}
 use Rattle.context_names.specs.Tasks.{task_names}
 use Rattle.thread_steps.specs.Parts.{Grouping}
@@ -61,8 +61,8 @@ module _ (grace : ℕ) (calls : List Call) (p : Placing) where
     }) group_numbers) (length calls)
 
     -- what the lines of these calls are told from
-    abbrev pub mapping_of : (machines machine_names : List (List ℕ)) → Mapping
-    mapping_of machines machine_names = record {
+    abbrev pub mapping_of : MachineNames → Mapping
+    mapping_of machines = record {
       calls = calls;
       numbers = p.numbers;
       steps = call_steps;
@@ -74,7 +74,6 @@ module _ (grace : ℕ) (calls : List Call) (p : Placing) where
       heads = group_heads;
       tasks = task_names p.order threads (map task_base p.contexts);
       machines = machines;
-      machine_names = machine_names;
     }
 
 -- the lines of each request that is asked for of spans, each of which is there once; the grace is in
@@ -95,8 +94,8 @@ pub record AreRequestLines (spans : List Span) (grace : ℕ) (asked : Option (Li
   pub threads : List ℕ
   pub run : AreThreads placing.contexts (forked_contexts grace calls placing) threads
   -- the names of machines
-  pub machine_names : List (List ℕ)
-  pub named : AreNamed (machines_of spans) machine_names
+  pub names : List (List ℕ)
+  pub named : AreNamed (machines_of spans) names
   pub lines : requests ≡ lines_by_request
-      (mapping_of grace calls placing threads (machines_of spans) machine_names)
+      (mapping_of grace calls placing threads (record { machines = machines_of spans; names = names }))
       (map (span_at spans) entries)
