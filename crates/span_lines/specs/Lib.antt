@@ -6,3 +6,4 @@ pub mod Moments
 pub mod Requests
 pub mod SpanLines
 pub mod SpanTexts
+pub mod inner

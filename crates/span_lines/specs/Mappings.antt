@@ -25,6 +25,10 @@ pub record Mapping : Type 0 where
   -- machines, and their names
   pub machines : MachineNames
 
+-- the name of a machine
+abbrev pub name_of : MachineNames → List ℕ → List ℕ
+name_of machines machine = unwrap_or (machine_name machines machine) []
+
 module _ (m : Mapping) where
   -- the context of a call
   abbrev pub context_of : ℕ → ℕ
@@ -43,7 +47,3 @@ module _ (m : Mapping) where
 
   abbrev pub head_label : ℕ → List ℕ
   head_label i = slice_index_or m.labels (head_of i) []
-
-  -- the name of a machine
-  abbrev pub name_of : List ℕ → List ℕ
-  name_of machine = unwrap_or (machine_name m.machines machine) []

@@ -1,8 +1,8 @@
 -- The messages of calls. Where a caller makes calls to other machines, the first of them receives the
 -- message that the caller sends at its start, and the one that ends last sends the answer, which the
 -- caller receives at its end.
-use Rattle.std.specs.Prelude.{ℕ, List, [], ◌∷◌, Bool, true, false, Option, Some, None}
-use Rattle.std.specs.Prelude.{filter, if◌then◌else◌, length, map, slice_index_or}
+use Rattle.std.specs.Prelude.{ℕ, List, [], Bool, true, false, Option, None, filter, if◌then◌else◌}
+use Rattle.std.specs.Prelude.{length, map, slice_get, slice_index_or}
 use Rattle.span_types.specs.declared.span_kind.SpanKind.{SpanKind}
 use Rattle.span_types.specs.declared.span_kind.SpanKind.TheVariants.{Unspecified, Internal, Server}
 use Rattle.span_types.specs.declared.span_kind.SpanKind.TheVariants.{Client, Producer, Consumer}
@@ -20,11 +20,6 @@ sends_calls Server = false
 sends_calls Client = true
 sends_calls Producer = false
 sends_calls Consumer = false
-
--- the first of a list
-abbrev pub first_of : List ℕ → Option ℕ
-first_of [] = None
-first_of (i ∷ later) = Some i
 
 module _ (calls : List Call) where
   -- the span of a call
@@ -48,7 +43,7 @@ module _ (calls : List Call) where
     -- the call that receives what a call sends at its start, and the one whose answer it receives at
     -- its end
     abbrev pub first_far : ℕ → Option ℕ
-    first_far i = first_of (far_calls i)
+    first_far i = slice_get (far_calls i) 0
 
     abbrev pub last_far : ℕ → Option ℕ
     last_far i = last_to_end calls (far_calls i)

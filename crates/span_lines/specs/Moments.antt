@@ -25,17 +25,24 @@ abbrev pub if_said : Option ℕ → ℕ → Option ℕ
 if_said None i = None
 if_said (Some j) i = if j == i then Some i else None
 
+-- a time that a caller sees at a call: the call's own, or the caller's start or end where it lies
+-- outside of these
+abbrev pub moment_within : (caller call : Span) → (seen own : ℕ) → Moment
+moment_within c s seen own =
+    if nat_lt seen c.start then moment_on c c.start
+    else (if nat_lt c.end seen then moment_on c c.end else moment_on s own)
+
+-- the call, if its caller names it among these of each call
+abbrev pub said_by : List (Option ℕ) → Option ℕ → ℕ → Option ℕ
+said_by far None i = None
+said_by far (Some c) i = if_said (slice_index_or far c None) i
+
 module _ (calls : List Call) where
-  -- a moment that a caller sees at a call: the call's own, or the caller's start or end where it lies
-  -- outside of these
+  -- the same at a call with this caller, if it has one
   abbrev pub seen_moment : Option ℕ → ℕ → (seen own : ℕ) → Moment
   seen_moment None i seen own = moment_on (call_span calls i) own
   seen_moment (Some c) i seen own =
-      if nat_lt seen (call_span calls c).start
-      then moment_on (call_span calls c) (call_span calls c).start
-      else (if nat_lt (call_span calls c).end seen
-      then moment_on (call_span calls c) (call_span calls c).end
-      else moment_on (call_span calls i) own)
+      moment_within (call_span calls c) (call_span calls i) seen own
 
   -- the message to a call, or from it: its id with a sign for the way
   abbrev pub message_with : List ℕ → Option ℕ → Option (List ℕ)
@@ -43,11 +50,6 @@ module _ (calls : List Call) where
   message_with sign (Some i) = Some ((call_span calls i).id ++ sign)
 
 module _ (m : Mapping) where
-  -- the call, if its caller names it among these of each call
-  abbrev pub said_by : List (Option ℕ) → Option ℕ → ℕ → Option ℕ
-  said_by far None i = None
-  said_by far (Some c) i = if_said (slice_index_or far c None) i
-
   -- what a call sends and receives at its start, and at its end
   abbrev pub sent_at_start : ℕ → Option (List ℕ)
   sent_at_start i = message_with m.calls (codes ">") (slice_index_or m.first_far i None)

@@ -16,12 +16,15 @@ abbrev pub is_same : Option Span → Span → Bool
 is_same None e = false
 is_same (Some first) e = bytes_eq first.id e.id
 
--- the name of the request with this entry: its trace, where it is the first of these entries that is
--- in it; its trace, a point and its id otherwise
+-- it is the first of these entries that is in its trace
+abbrev pub is_first_entry : (entries : List Span) → Span → Bool
+is_first_entry entries e = is_same (find (λ (f : Span). bytes_eq f.trace e.trace) entries) e
+
+-- the name of the request with this entry: its trace, where it is the first entry of that, and
+-- otherwise its trace, a point and its id
 abbrev pub name_of_request : (entries : List Span) → Span → List ℕ
 name_of_request entries e =
-    if is_same (find (λ (f : Span). bytes_eq f.trace e.trace) entries) e then e.trace
-    else e.trace ++ codes "." ++ e.id
+    if is_first_entry entries e then e.trace else e.trace ++ codes "." ++ e.id
 
 module _ (calls : List Call) where
   -- the calls that begin requests: those without a caller
