@@ -3,8 +3,12 @@
 #![tactic(auto)]
 
 mod forking;
+mod gaps;
+mod parts;
+mod rows;
 mod step;
 mod step_table;
+mod walking;
 
 pub use forking::Forking;
 pub use step::Step;

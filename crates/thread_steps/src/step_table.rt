@@ -4,6 +4,8 @@ ghost use Rattle.span_calls.specs.Calls.{AreBefore};
 ghost use Rattle.thread_steps.specs.Parts.{grouping_of};
 ghost use Rattle.thread_steps.specs.Steps.{call_of, steps_from};
 
+use crate::rows::push_row;
+use crate::walking::walk_rows;
 use crate::{Forking, Step};
 use call_trees::NumberList;
 use span_calls::Call;
@@ -51,7 +53,21 @@ pub fn make_steps(
         → slice_index_or table call [] ≡ steps_from calls.now below.now
         (grouping_of forking.entry) group_numbers.now call) }
 {
-    Err(AllocError)
+    let mut steps = Vec::with_capacity(alloc, calls.len())?;
+    let mut firsts = Vec::with_capacity(alloc, calls.len())?;
+    'calls: for call in 0..calls.len() {
+        firsts.push(steps.len())?;
+        push_row(
+            alloc,
+            calls,
+            forking,
+            group_numbers,
+            below[call].items(),
+            call,
+            &mut steps,
+        )?;
+    }
+    Ok(StepTable { steps, firsts })
 }
 
 impl StepTable {
@@ -62,6 +78,6 @@ impl StepTable {
         ensures steps { IfOk result (λ steps. steps.items ≡ slice_index_or self.now call []) }
         ensures within { IfOk result (λ steps. All (λ s. call_of s < length self.now) steps.items) }
     {
-        Err(AllocError)
+        walk_rows(alloc, &self.steps, &self.firsts, call)
     }
 }

@@ -1,5 +1,5 @@
 -- The steps of calls in one list, each call's up to its end.
-use Rattle.std.specs.Prelude.{ℕ, zero, suc, ◌<◌, List, [], ◌∷◌, Bool, true, false, IsTrue, All}
+use Rattle.std.specs.Prelude.{ℕ, zero, suc, ◌≡◌, ◌+◌, ◌<◌, List, [], ◌∷◌, Bool, true, false, All}
 use Rattle.std.specs.Prelude.{length, drop, nat_lt, slice_index}
 use Rattle.std.specs.List.{flat_map, list_all}
 use Rattle.call_trees.specs.Tables.{table_of}
@@ -30,6 +30,13 @@ starts_behind i (Ends j) = true
 starts_behind i (Forks j) = true
 starts_behind i (Joins j piece) = true
 
+-- where a walk goes on behind the step at this index, the next place last
+abbrev pub next_of : List ℕ → ℕ → Step → List ℕ
+next_of firsts at (Starts i) = (at + 1) ∷ slice_index firsts i ∷ []
+next_of firsts at (Ends i) = []
+next_of firsts at (Forks i) = (at + 1) ∷ []
+next_of firsts at (Joins i piece) = (at + 1) ∷ []
+
 module _ (steps : List Step) (firsts : List ℕ) where
   -- the steps of a call itself, up to its end
   abbrev pub row_of : ℕ → List Step
@@ -38,8 +45,8 @@ module _ (steps : List Step) (firsts : List ℕ) where
   -- each call has its steps, which are of calls with steps, and start those behind it
   pub record AreRows : Type 0 where
     pub within : All (λ s. call_of s < length firsts) steps
-    pub ended : (i : ℕ) → i < length firsts → IsTrue (has_end (drop (slice_index firsts i) steps))
-    pub behind : (i : ℕ) → i < length firsts → IsTrue (list_all (starts_behind i) (row_of i))
+    pub ended : (i : ℕ) → i < length firsts → has_end (drop (slice_index firsts i) steps) ≡ true
+    pub behind : (i : ℕ) → i < length firsts → list_all (starts_behind i) (row_of i) ≡ true
 
   -- the steps of a thread that starts with a call, in calls so deep at most
   abbrev pub thread_within : ℕ → ℕ → List Step
