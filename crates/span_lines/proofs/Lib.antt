@@ -1,2 +1,6 @@
 pub mod CallLemmas
 pub mod FarLemmas
+pub mod EntryLemmas
+pub mod FoldLemmas
+pub mod LineLemmas
+pub mod RequestLemmas

@@ -17,7 +17,7 @@ use crate::messages::find_messages;
 use crate::naming::{ContextNames, make_names};
 use crate::placed_calls::PlacedCalls;
 use crate::printing::print_requests;
-use crate::span_names::{SpanNames, name_spans};
+use crate::input_names::{InputNames, name_input};
 use crate::threading::thread_contexts;
 use call_contexts::{find_contexts, order_contexts};
 use context_forks::calls_below;
@@ -32,7 +32,7 @@ use thread_steps::{Forking, make_steps};
 /// how many requests are long.
 fn print_named(
     alloc: Global,
-    spans: &SpanNames<'_>,
+    spans: &InputNames<'_>,
     placed: &PlacedCalls<'_, '_>,
     names: &ContextNames,
     groups: &GroupNumbers,
@@ -75,7 +75,7 @@ fn print_named(
 /// requests are long.
 fn print_placed(
     alloc: Global,
-    spans: &SpanNames<'_>,
+    spans: &InputNames<'_>,
     placed: &PlacedCalls<'_, '_>,
     text: &mut Vec<u8>,
 ) -> Result<usize, AllocError>
@@ -105,7 +105,7 @@ fn print_placed(
 /// gives how many requests are long.
 fn print_all(
     alloc: Global,
-    spans: &SpanNames<'_>,
+    spans: &InputNames<'_>,
     calls: &[Call<'_>],
     grace: u64,
     text: &mut Vec<u8>,
@@ -143,7 +143,7 @@ pub fn print_spans(
     ensures fault { IfErr result (λ fault. IsFaultOf spans.now fault) }
 {
     let requests = find_requests(alloc, spans)?;
-    let names = name_spans(alloc, &requests.spans, &requests.entries)?;
+    let names = name_input(alloc, &requests.spans, &requests.entries)?;
     let calls = find_calls(alloc, &requests, entry)?;
     let mut text = Vec::new(alloc);
     let long = print_all(alloc, &names, &calls, grace, &mut text)?;
