@@ -3,4 +3,6 @@ pub mod FarLemmas
 pub mod EntryLemmas
 pub mod FoldLemmas
 pub mod LineLemmas
+pub mod PrintLemmas
 pub mod RequestLemmas
+pub mod StepLemmas
