@@ -2,6 +2,7 @@ pub mod CallLemmas
 pub mod FarLemmas
 pub mod EntryLemmas
 pub mod FoldLemmas
+pub mod GroupLemmas
 pub mod LineLemmas
 pub mod PrintLemmas
 pub mod RequestLemmas

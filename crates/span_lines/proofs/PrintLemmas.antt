@@ -1,7 +1,10 @@
 -- Requests that are printed call by call.
-use Rattle.std.proofs.Common.{◌≡◌, ◌∙◌, ℕ, zero, suc, ◌+◌, ◌-◌, ◌<◌, ◌≤◌, List, [], ◌∷◌, ◌++◌, Bool, length, map, filter, min, ap, sym, refl, append-nil, append_assoc, arith}
+use Rattle.std.proofs.Common.{◌≡◌, ◌∙◌, ◌⊎◌, inl, inr, ℕ, zero, suc, ◌+◌, ◌-◌, ◌<◌, ◌≤◌, List, [], ◌∷◌, ◌++◌, Bool, cond, length, map, filter, min, ap, sym, refl, append-nil, append_assoc, arith}
+use Rattle.std.specs.Prelude.{nat_lt}
 use Rattle.std.specs.List.{count_by, flat_map, range_with_len}
+use Rattle.std.proofs.lemmas.Bool.{cases_lt, lt-ltb}
 use Rattle.std.proofs.lemmas.Grind.{flat_map-append}
+use Rattle.std.proofs.lemmas.List.Sums.{sum_by-append}
 use Rattle.std.proofs.lemmas.List.{length-append, map-append}
 use Rattle.std.proofs.lemmas.List.Elements.{filter-append}
 use Rattle.trace_types.specs.declared.event.Event.{Event}
@@ -41,3 +44,39 @@ module _ (m : Mapping) (request : List ℕ) (first i : ℕ) (le : first ≤ i) w
   calls_count count more new h g step =
       let both = ap length among_next ∙ length-append (lines_among m request (range_with_len first (i - first))) (lines_among m request (i ∷ [])) in
       omega (arith, h, g, step, both)
+
+-- ---- requests
+
+count_both : {X : Type 0} (p : X → Bool) (xs ys : List X) → count_by p (xs ++ ys) ≡ count_by p xs + count_by p ys
+count_both p xs ys = sum_by-append (λ x. cond (p x) 1 0) xs ys
+
+pub request_is : (m : Mapping) (request own : List ℕ) (call end size : ℕ) → request ≡ own → end ≡ call + size → lines_among m request (range_with_len call (end - call)) ≡ lines_among m own (range_with_len call size)
+request_is m request own call end size h e = let n : end - call ≡ size = omega (arith, e) in λ k. lines_among m (h k) (range_with_len call (n k))
+
+pub long_is : (lines : List Event) (count : ℕ) → count ≡ min 18446744073709551615 (length lines) → nat_lt 4096 count ≡ is_long lines
+long_is lines count h = by (cases_lt 18446744073709551615 (length lines))
+  where
+    by : (18446744073709551615 < length lines) ⊎ (length lines ≤ 18446744073709551615) → nat_lt 4096 count ≡ is_long lines
+    by (inl more) = lt-ltb 4096 count (omega (arith, h, more)) ∙ sym (lt-ltb 4096 (length lines) (omega (arith, more)))
+    by (inr le) = ap (nat_lt 4096) (let e : count ≡ length lines = omega (arith, h, le) in e)
+
+module _ (m : Mapping) (entries : List Span) (i : ℕ) where
+  requests_next : requests_among m entries (range_with_len 0 (i + 1)) ≡ requests_among m entries (range_with_len 0 i) ++ requests_among m entries (i ∷ [])
+  requests_next =
+      let f : ℕ → List Event = λ k. request_lines m (name_of_request entries (call_span m.calls k)) k in
+      ap (requests_among m entries) (range_more 0 i ∙ ap (λ k. range_with_len 0 i ++ k ∷ []) (let e : 0 + i ≡ i = omega arith in e))
+      ∙ ap (map f) (filter-append (begins_request m.calls) (range_with_len 0 i) (i ∷ []))
+      ∙ map-append f (filter (begins_request m.calls) (range_with_len 0 i)) (filter (begins_request m.calls) (i ∷ []))
+
+  pub requests_text_next : (old text new : List ℕ) → text ≡ old ++ requests_text (requests_among m entries (range_with_len 0 i)) → new ≡ text ++ requests_text (requests_among m entries (i ∷ []))
+      → new ≡ old ++ requests_text (requests_among m entries (range_with_len 0 (i + 1)))
+  requests_text_next old text new h step =
+      step ∙ ap (λ (xs : List ℕ). xs ++ requests_text (requests_among m entries (i ∷ []))) h
+      ∙ append_assoc old (requests_text (requests_among m entries (range_with_len 0 i))) (requests_text (requests_among m entries (i ∷ [])))
+      ∙ ap (λ (xs : List ℕ). old ++ xs) (sym (ap requests_text requests_next ∙ flat_map-append (flat_map event_text) (requests_among m entries (range_with_len 0 i)) (requests_among m entries (i ∷ []))))
+
+  pub requests_count_next : (long more : ℕ) → long ≡ count_by is_long (requests_among m entries (range_with_len 0 i)) → more ≡ count_by is_long (requests_among m entries (i ∷ []))
+      → long + more ≡ count_by is_long (requests_among m entries (range_with_len 0 (i + 1)))
+  requests_count_next long more h g =
+      let both = ap (count_by is_long) requests_next ∙ count_both is_long (requests_among m entries (range_with_len 0 i)) (requests_among m entries (i ∷ [])) in
+      omega (arith, h, g, both)

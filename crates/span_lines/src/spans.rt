@@ -1,6 +1,6 @@
 ghost use Rattle.std.specs.Prelude.{◌≡◌, ◌<◌, List, ℕ, length, option_copied, IfErr, IfOk};
 ghost use Rattle.call_contexts.specs.ContextOrder.{AreOrdered};
-ghost use Rattle.span_calls.specs.Calls.{AreBefore};
+ghost use Rattle.span_calls.specs.Calls.{AreBefore, StartInOrder};
 ghost use Rattle.span_lines.specs.Requests.{lines_by_request};
 ghost use Rattle.span_lines.specs.SpanLines.{mapping_of};
 ghost use Rattle.span_lines.specs.SpanTexts.{AreSpanLines};
@@ -110,7 +110,8 @@ fn print_all(
     grace: u64,
     text: &mut Vec<u8>,
 ) -> Result<usize, AllocError>
-    requires { AreBefore calls.now }
+    requires before { AreBefore calls.now }
+    requires rise { StartInOrder calls.now }
     ensures { IfOk result (λ long. (entries : List Span) → AreFirst entries spans.now.first
         → (requests : List (List Event))
         × HaveLines calls.now grace spans.now.machines entries requests
