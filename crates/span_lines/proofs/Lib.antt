@@ -4,6 +4,7 @@ pub mod EntryLemmas
 pub mod FoldLemmas
 pub mod GroupLemmas
 pub mod LineLemmas
+pub mod MappingLemmas
 pub mod PrintLemmas
 pub mod RequestLemmas
 pub mod StepLemmas

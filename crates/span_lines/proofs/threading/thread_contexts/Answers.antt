@@ -18,10 +18,10 @@ pub returns-clause-groups_size : goal.returns-clause-groups_size
 returns-clause-groups_size c =
     let contexts = c.args.contexts.now.contexts.items in
     let count : c.len-count.result ≡ length (frames_of contexts) = c.len-count.ensures ∙ sym c.deref-3.ensures.len ∙ ap length c.deref-3.ensures.value ∙ sym (length-map contexts frame_of) in
-    ap length c.in_ok-groups.ensures ∙ groups_size c.len-count.result _ ∙ count
+    ap length c.in_ok-groups.ensures ∙ groups_size c.len-count.result c.deref-2.result.now ∙ count
 
 pub returns-clause-grouped : goal.returns-clause-grouped
 returns-clause-grouped c =
     let contexts = c.args.contexts.now.contexts.items in
     let count : c.len-count.result ≡ length (frames_of contexts) = c.len-count.ensures ∙ sym c.deref-3.ensures.len ∙ ap length c.deref-3.ensures.value ∙ sym (length-map contexts frame_of) in
-    subst (λ n. All (λ g. g < n) c.in_ok-groups.groups.items) count (subst (All (λ g. g < c.len-count.result)) (sym c.in_ok-groups.ensures) (groups_low c.len-count.result _))
+    subst (λ n. All (λ g. g < n) c.in_ok-groups.groups.items) count (subst (All (λ g. g < c.len-count.result)) (sym c.in_ok-groups.ensures) (groups_low c.len-count.result c.deref-2.result.now))
