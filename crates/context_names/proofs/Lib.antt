@@ -1,1 +1,7 @@
+pub mod GroupLemmas
+pub mod MachineLemmas
+pub mod MemberLemmas
+pub mod NumberLemmas
+pub mod OrderLemmas
+pub mod OrdinalLemmas
 pub mod ValueLemmas
