@@ -1,4 +1,5 @@
 pub mod GroupLemmas
+pub mod LawLemmas
 pub mod MachineLemmas
 pub mod MemberLemmas
 pub mod NumberLemmas

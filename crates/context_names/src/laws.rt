@@ -1,0 +1,22 @@
+//! Laws over the definitions alone: each function does nothing, and its contract is the law.
+ghost use Rattle.context_names.specs.NameLaws.{GroupsDiffer, LabelsDiffer, MachinesDiffer, TasksDiffer};
+
+/// Two contexts of one thread have two names.
+pub fn labels_differ()
+    ensures { LabelsDiffer }
+{}
+
+/// Two threads have no piece of one name, and no thread has two.
+pub fn tasks_differ()
+    ensures { TasksDiffer }
+{}
+
+/// Two machines have two names.
+pub fn machines_differ()
+    ensures { MachinesDiffer }
+{}
+
+/// Two groups that one thread forks have two numbers.
+pub fn groups_differ()
+    ensures { GroupsDiffer }
+{}
