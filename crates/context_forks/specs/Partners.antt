@@ -6,6 +6,11 @@ use Rattle.std.specs.Prelude.{nat_lt, if◌then◌else◌, map, slice_index}
 use Rattle.std.specs.List.{flat_map}
 use Rattle.span_calls.specs.declared.call.Call.{Call}
 
+-- the pair of a call and its partner, if it has one
+abbrev pub pair_of : Option ℕ → ℕ → List (ℕ × ℕ)
+pair_of None i = []
+pair_of (Some j) i = (j, i) ∷ []
+
 module _ (calls : List Call) where
   -- when calls start and end as their callers see it, and by their own clocks
   abbrev pub start_of : ℕ → ℕ
@@ -23,6 +28,11 @@ module _ (calls : List Call) where
   -- of two calls the one that ends last; the first one where they end together
   abbrev pub later_of : ℕ → ℕ → ℕ
   later_of i j = if nat_lt (end_of i) (end_of j) then j else i
+
+  -- the one that ends last, where one more comes
+  abbrev pub last_with : Option ℕ → ℕ → ℕ
+  last_with None j = j
+  last_with (Some i) j = later_of i j
 
   -- of calls the one that ends last; of several the first
   abbrev pub last_after : ℕ → List ℕ → ℕ
@@ -58,12 +68,7 @@ module _ (calls : List Call) where
     abbrev pub partner : List ℕ → ℕ → Option ℕ
     partner earlier i = partner_of (last_to_end (filter (λ j. outlasts i j) earlier)) i
 
-    -- pairs of a call and its partner
-    abbrev pub pair_of : Option ℕ → ℕ → List (ℕ × ℕ)
-    pair_of None i = []
-    pair_of (Some j) i = (j, i) ∷ []
-
-    -- those of the calls of one caller, in order, behind these
+    -- the pairs of the calls of one caller, in order, behind these
     abbrev pub pairs_after : List ℕ → List ℕ → List (ℕ × ℕ)
     pairs_after earlier [] = []
     pairs_after earlier (i ∷ later) =

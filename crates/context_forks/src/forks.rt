@@ -1,4 +1,9 @@
-use crate::partners::{find_partner, last_so_far, reaches_out};
+ghost use Rattle.std.specs.Prelude.{◌≡◌, ◌<◌, ℕ, All, length, IfOk};
+ghost use Rattle.context_forks.specs.Forks.{calls_below, context_pairs, forked_of};
+ghost use Rattle.span_calls.specs.Calls.{AreBefore, StartInOrder};
+
+use crate::links::find_links;
+use crate::marks::find_forked;
 use call_trees::NumberList;
 use span_calls::Call;
 use std::alloc::{AllocError, Global};
@@ -12,31 +17,6 @@ pub struct Forks {
     pub links: Vec<(usize, usize)>,
 }
 
-/// Marks the contexts of the calls of one caller that are forked, and links those that overlap.
-fn fork_calls(
-    alloc: Global,
-    calls: &[Call<'_>],
-    numbers: &[usize],
-    below: &[usize],
-    grace: u64,
-    forks: &mut Forks,
-) -> Result<(), AllocError> {
-    let last = last_so_far(alloc, calls, below)?;
-    for index in 0..below.len() {
-        let number = numbers[below[index]];
-        if reaches_out(calls, below[index], grace) {
-            forks.forked[number] = true;
-        }
-        if let Some(partner) = find_partner(calls, below, &last, index, grace) {
-            let other = numbers[partner];
-            forks.forked[number] = true;
-            forks.forked[other] = true;
-            forks.links.push((other, number))?;
-        }
-    }
-    Ok(())
-}
-
 /// Finds which contexts are forked, and links those that run beside one another. The only error is
 /// out of memory.
 pub fn find_forks(
@@ -46,13 +26,20 @@ pub fn find_forks(
     numbers: &[usize],
     count: usize,
     grace: u64,
-) -> Result<Forks, AllocError> {
-    let mut forks = Forks {
-        forked: vec![in alloc; false; count]?,
-        links: Vec::new(alloc),
-    };
-    for list in below {
-        fork_calls(alloc, calls, numbers, list.items(), grace, &mut forks)?;
-    }
-    Ok(forks)
+) -> Result<Forks, AllocError>
+    requires below { below.now ≡ calls_below calls.now }
+    requires before { AreBefore calls.now }
+    requires rise { StartInOrder calls.now }
+    requires same { length numbers.now ≡ length calls.now }
+    requires within { All (λ n. n < count) numbers.now }
+    ensures forked { IfOk result
+        (λ forks. forks.forked.items ≡ forked_of grace calls.now numbers.now count) }
+    ensures links { IfOk result
+        (λ forks. forks.links.items ≡ context_pairs grace calls.now numbers.now) }
+    ensures within { IfOk result
+        (λ forks. All (λ (l : ℕ × ℕ). (l.0 < count) × (l.1 < count)) forks.links.items) }
+{
+    let links = find_links(alloc, calls, below, numbers, grace)?;
+    let forked = find_forked(alloc, calls, numbers, &links, count, grace)?;
+    Ok(Forks { forked, links })
 }

@@ -3,6 +3,9 @@
 
 mod below;
 mod forks;
+mod last;
+mod links;
+mod marks;
 mod partners;
 
 pub use below::calls_below;

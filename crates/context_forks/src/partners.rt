@@ -1,48 +1,51 @@
+ghost use Rattle.std.specs.Prelude.{◌≡◌, ◌<◌, ◌≤◌, ◌+◌, All, Some, filter, length, slice_index, take, IfSome};
+ghost use Rattle.context_forks.specs.Partners.{outlasts, partner, partner_of};
+ghost use Rattle.context_forks.specs.inner.Siblings.{AreLast, AreSiblings};
+
 use span_calls::Call;
-use std::alloc::{AllocError, Global};
 
-/// Tells whether a call begins before its caller or ends after it, by more than the grace.
-pub(crate) fn reaches_out(calls: &[Call<'_>], call: usize, grace: u64) -> bool {
-    let Some(caller) = calls[call].caller else {
-        return false;
-    };
-    let caller = calls[caller].span;
-    calls[call].end.saturating_sub(caller.end) > grace
-        || caller.start.saturating_sub(calls[call].start) > grace
+/// Tells whether a call ends by more than the grace after another one starts.
+fn outlasts(calls: &[Call<'_>], call: usize, other: usize, grace: u64) -> bool
+    requires call { call < length calls.now }
+    requires other { other < length calls.now }
+    ensures { result ≡ outlasts calls.now grace call other }
+{
+    let one = &calls[call];
+    let two = &calls[other];
+    one.end.saturating_sub(two.start) > grace
 }
 
-/// Gives which of these two calls ends last; of several the first.
-fn later(calls: &[Call<'_>], best: usize, call: usize) -> usize {
-    if calls[call].end > calls[best].end {
-        call
+/// Gives how many of the earlier calls of its caller a call outlasts: these are the first ones.
+fn count_outlasted(calls: &[Call<'_>], earlier: &[usize], call: usize, grace: u64) -> usize
+    requires siblings { AreSiblings calls.now earlier.now }
+    requires call { call < length calls.now }
+    ensures within { result ≤ length earlier.now }
+    ensures first { filter (λ j. outlasts calls.now grace call j) earlier.now ≡ take result earlier.now }
+{
+    let mut low = 0;
+    let mut high = earlier.len();
+    'halves: while low < high {
+        let middle = low + (high - low) / 2;
+        if outlasts(calls, call, earlier[middle], grace) {
+            low = middle + 1;
+        } else {
+            high = middle;
+        }
+    }
+    low
+}
+
+/// Gives this call, if it outlasts that one.
+fn if_outlasts(calls: &[Call<'_>], call: usize, other: usize, grace: u64) -> Option<usize>
+    requires call { call < length calls.now }
+    requires other { other < length calls.now }
+    ensures { result ≡ partner_of calls.now grace (Some call) other }
+{
+    if outlasts(calls, call, other, grace) {
+        Some(call)
     } else {
-        best
+        None
     }
-}
-
-/// Gives for each call of one caller the one that ends last of those up to it. The only error is
-/// out of memory.
-pub(crate) fn last_so_far(
-    alloc: Global,
-    calls: &[Call<'_>],
-    below: &[usize],
-) -> Result<Vec<usize>, AllocError> {
-    let mut last = Vec::with_capacity(alloc, below.len())?;
-    let mut best = None;
-    for call in below {
-        let new = match best {
-            Some(best) => later(calls, best, *call),
-            None => *call,
-        };
-        best = Some(new);
-        last.push(new)?;
-    }
-    Ok(last)
-}
-
-/// Gives how many of the first calls of one caller start by more than the grace before this time.
-fn count_started(calls: &[Call<'_>], below: &[usize], grace: u64, time: u64) -> usize {
-    below.partition_point(|call| time.saturating_sub(calls[*call].start) > grace)
 }
 
 /// Finds the earlier call of the same caller that this one overlaps and that ends last.
@@ -52,16 +55,16 @@ pub(crate) fn find_partner(
     last: &[usize],
     index: usize,
     grace: u64,
-) -> Option<usize> {
-    let call = calls[below[index]];
-    let count = count_started(calls, &below[..index], grace, call.end);
+) -> Option<usize>
+    requires index { index < length below.now }
+    requires siblings { AreSiblings calls.now below.now }
+    requires last { AreLast calls.now below.now last.now }
+    ensures { result ≡ partner calls.now grace (take index below.now) (slice_index below.now index) }
+{
+    let call = below[index];
+    let count = count_outlasted(calls, &below[..index], call, grace);
     if count == 0 {
         return None;
     }
-    let partner = last[count - 1];
-    if calls[partner].end.saturating_sub(call.start) > grace {
-        Some(partner)
-    } else {
-        None
-    }
+    if_outlasts(calls, last[count - 1], call, grace)
 }

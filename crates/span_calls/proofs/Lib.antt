@@ -1,4 +1,6 @@
 pub mod CallLemmas
+pub mod PairLemmas
 pub mod PlaceLemmas
+pub mod RiseLemmas
 pub mod SeenLemmas
 pub mod ShallowLemmas

@@ -1,6 +1,6 @@
 -- The calls of requests: their spans, each caller before what it calls, which stand in the order in
 -- which their caller sees them start.
-use Rattle.std.specs.Prelude.{ℕ, ◌≡◌, ◌==◌, ◌++◌, ◌<◌, List, Bool, true, Option, Some, None, codes}
+use Rattle.std.specs.Prelude.{ℕ, ◌≡◌, ◌==◌, ◌++◌, ◌<◌, ◌≤◌, List, Bool, true, Option, Some, None, codes}
 use Rattle.std.specs.Prelude.{filter, length, map, position, slice_get, slice_index, slice_index_or, take}
 use Rattle.std.specs.Cmp.Lexicographic.{slice_cmp}
 use Rattle.std.specs.declared.cmp.Ordering.{Ordering}
@@ -75,3 +75,8 @@ module _ (spans : List Span) (callers : List (Option ℕ)) where
 abbrev pub AreBefore : List Call → Type 0
 AreBefore calls = (i : ℕ) (call : Call) (c : ℕ)
     → slice_get calls i ≡ Some call → call.caller ≡ Some c → c < i
+
+-- what a call calls stands in the order in which the call sees it start
+abbrev pub StartInOrder : List Call → Type 0
+StartInOrder calls = (i j : ℕ) (a b : Call) (c : ℕ) → i < j → slice_get calls i ≡ Some a
+    → slice_get calls j ≡ Some b → a.caller ≡ Some c → b.caller ≡ Some c → a.start ≤ b.start

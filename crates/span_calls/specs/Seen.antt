@@ -2,7 +2,7 @@
 -- whose clocks differ: a call on another machine that does not lie within its caller is put in its
 -- middle, as Jaeger does. Times are in nanoseconds, and none is greater than 64 bits hold.
 use Rattle.std.specs.Prelude.{ℕ, ◌+◌, ◌-◌, ◌/◌, ◌^◌, ◌&&◌, List, [], Bool, not, Option, Some, None, min}
-use Rattle.std.specs.Prelude.{nat_le, if◌then◌else◌, slice_get, slice_index_or}
+use Rattle.std.specs.Prelude.{nat_le, if◌then◌else◌, slice_index_or}
 use Rattle.std.specs.Str.{bytes_eq}
 use Rattle.span_types.specs.declared.span.Span.{Span}
 use Rattle.span_types.specs.declared.span_kind.SpanKind.TheVariants.{Unspecified}

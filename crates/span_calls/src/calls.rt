@@ -1,8 +1,9 @@
 ghost use Rattle.std.specs.Prelude.{◌≡◌, ◌<◌, All, length, option_copied, take, IfOk};
 ghost use Rattle.call_trees.specs.Tables.{table_of};
-ghost use Rattle.span_calls.specs.Calls.{AreBefore, AreCalls, AreCallsAt, moments_at, position_at};
+ghost use Rattle.span_calls.specs.Calls.{AreBefore, AreCalls, AreCallsAt, StartInOrder, moments_at};
+ghost use Rattle.span_calls.specs.Calls.{position_at};
 ghost use Rattle.span_calls.specs.inner.CallKeys.{all_moments};
-ghost use Rattle.span_requests.specs.CallerNumbers.{AreCallers, HaveLastCallers};
+ghost use Rattle.span_requests.specs.CallerNumbers.{AreCallers, AreRoots, HaveLastCallers};
 ghost use Rattle.span_requests.specs.SpansOnce.{lent_spans};
 
 use crate::Call;
@@ -80,6 +81,8 @@ pub fn find_calls<'a>(
     ensures calls { IfOk result (λ calls. AreCalls (lent_spans requests.now.spans.items)
         requests.now.callers.items (option_copied asked.entry) requests.now.entries.items calls.items) }
     ensures before { IfOk result (λ calls. AreBefore calls.items) }
+    ensures rise { IfOk result (λ calls. AreRoots requests.now.callers.items requests.now.entries.items
+        → StartInOrder calls.items) }
 {
     let callers = as_indexes(alloc, &requests.callers)?;
     let keys = see_all(alloc, &requests.spans, &callers)?;

@@ -1,7 +1,7 @@
 -- Entries by their keys.
-use Rattle.std.proofs.Common.{◌≡◌, ℕ, zero, suc, ◌+◌, ◌<◌, ◌≤◌, List, [], ◌∷◌, ◌++◌, All, Bool, true, false, cond, filter, length, get_or, map, take, slice_get, Option, Some, None, Bor, refl, sym, ap, ◌∙◌, subst, arith}
+use Rattle.std.proofs.Common.{◌≡◌, ℕ, zero, suc, ◌+◌, ◌<◌, ◌≤◌, List, [], ◌∷◌, ◌++◌, All, Bool, true, false, cond, filter, length, get_or, map, take, slice_get, Option, Some, None, Bor, refl, sym, ap, ◌∙◌, subst, arith, ◌≢◌, true≢false}
 use Rattle.std.specs.Prelude.{is_none, not, is_some, IsPermutation, IsSorted}
-use Rattle.std.specs.List.{position_or_len, range_with_len}
+use Rattle.std.specs.List.{AllPairs, position_or_len, range_with_len}
 use Rattle.std.specs.Cmp.Lexicographic.{slice_cmp}
 use Rattle.std.specs.Ordering.{bool_cmp, is_lt, nat_cmp, ordering_then}
 use Rattle.std.specs.Str.{bytes_eq}
@@ -9,19 +9,22 @@ use Rattle.std.specs.declared.cmp.Ordering.{Ordering}
 use Rattle.std.specs.declared.cmp.Ordering.TheVariants.{Less, Equal, Greater}
 use Rattle.std.proofs.lemmas.List.{get_or-map, length-map, map-append, take_more}
 use Rattle.std.proofs.lemmas.Simd.{map-map}
-use Rattle.std.proofs.lemmas.List.Elements.{All-filter, All-from_get_or, All-get_or, All-map, All-push, filter-append}
+use Rattle.std.proofs.lemmas.List.Elements.{All-filter, All-from_get_or, All-get_or, All-map, All-push, All-weaker, filter-append, filter_passes}
 use Rattle.std.proofs.lemmas.List.FromFn.{get_or-range_with_len, length-range_with_len}
+use Rattle.std.proofs.lemmas.List.Kept.{AllPairs-filter}
 use Rattle.std.proofs.lemmas.List.Sorted.{All-permutation, IsPermutation-map}
 use Rattle.std.proofs.lemmas.Option.{slice_get-get_or}
 use Rattle.std.proofs.Math.Seq.{take-length}
 use Rattle.span_types.specs.declared.span.Span.{Span}
 use Rattle.trace_types.specs.Firsts.{firsts_of}
+use Rattle.span_requests.specs.CallerNumbers.{AreRoots}
 use Rattle.span_requests.specs.Callers.{is_caller, is_consumer}
 use Rattle.span_requests.specs.Entries.{AreEntries, first_sight, is_entry, request_cmp, spans_at, traces_of}
 use Rattle.span_requests.specs.declared.entry_key.EntryKey.{EntryKey}
 use Rattle.span_requests.specs.inner.EntryKeys.{AreKeys, IsKeyOf, entry_numbers, indexes_of}
 use Rattle.span_requests.specs.inner.Ids.{lent_spans}
 use Rattle.span_requests.specs.inner.Numbering.{caller_number, caller_numbers}
+use Rattle.span_requests.proofs.ApartLemmas.{apart_from_rising, apart_permutation, range_rises}
 use Rattle.span_requests.proofs.CallerLemmas.{is_none-position, lent_size}
 use Rattle.span_requests.proofs.ListLemmas.{is_none-find, some_inj}
 
@@ -141,6 +144,22 @@ module _ (spans : List Span) (callers : List (Option ℕ)) (keys order : List En
 
   pub entries_within : All (λ n. n < length spans) (indexes_of order)
   entries_within = All-map (λ n. n < length spans) (λ (k : EntryKey). k.index) order order_within
+
+  -- they are numbers of spans that no span calls, each once
+  pub entries_roots : AreRoots callers (indexes_of order)
+  entries_roots = record {
+    first = All-permutation (λ e. get_or callers e None ≡ None) (indexes_of keys) (indexes_of order) moved_indexes
+        (subst (All (λ e. get_or callers e None ≡ None)) (sym indexes) (All-weaker (λ i. is_none (get_or callers i None) ≡ true) (λ e. get_or callers e None ≡ None) (λ e h. none_from (get_or callers e None) h) (entry_numbers callers (length spans)) (filter_passes (λ i. is_none (get_or callers i None)) (range_with_len 0 (length spans)))));
+    apart = apart_permutation (indexes_of keys) (indexes_of order) moved_indexes
+        (subst (AllPairs (λ d e. d ≢ e)) (sym indexes) (apart_from_rising (entry_numbers callers (length spans)) (AllPairs-filter (λ i j. i < j) (λ i. is_none (get_or callers i None)) (range_with_len 0 (length spans)) (range_rises (length spans)))));
+  }
+    where
+      moved_indexes : IsPermutation (indexes_of keys) (indexes_of order)
+      moved_indexes = IsPermutation-map (λ (k : EntryKey). k.index) keys order moved
+
+      none_from : (o : Option ℕ) → is_none o ≡ true → o ≡ None
+      none_from None h = refl
+      none_from (Some n) h = absurd (true≢false (sym h))
 
   of_order : AreKeys spans order
   of_order = All-permutation (λ (key : EntryKey). (s : Span) → slice_get spans key.index ≡ Some s → IsKeyOf spans s key) keys order moved of_spans

@@ -1,3 +1,4 @@
+pub mod ApartLemmas
 pub mod CallerLemmas
 pub mod CircleLemmas
 pub mod FirstLemmas

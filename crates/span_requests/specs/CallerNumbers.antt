@@ -1,5 +1,6 @@
 -- Callers by number.
-use Rattle.std.specs.Prelude.{ℕ, zero, suc, ◌≡◌, ◌<◌, List, Option, Some, None, length, slice_index_or}
+use Rattle.std.specs.Prelude.{ℕ, zero, suc, ◌≡◌, ◌≢◌, ◌<◌, List, All, Option, Some, None, length, slice_index_or}
+use Rattle.std.specs.List.{AllPairs}
 use Rattle.std.specs.Option.{option_and_then}
 
 -- the number of the caller so many calls above, by the numbers of callers
@@ -17,3 +18,8 @@ AreCallers callers =
 abbrev pub HaveLastCallers : List (Option ℕ) → Type 0
 HaveLastCallers callers =
     (k : ℕ) → k < length callers → number_above callers (length callers) k ≡ None
+
+-- these are spans that no span calls, each once
+pub record AreRoots (callers : List (Option ℕ)) (entries : List ℕ) : Type 0 where
+  pub first : All (λ e. slice_index_or callers e None ≡ None) entries
+  pub apart : AllPairs (λ d e. d ≢ e) entries

@@ -2,6 +2,7 @@ ghost use Rattle.std.specs.Prelude.{◌≡◌, ◌<◌, All, is_some, length, If
 ghost use Rattle.std.specs.List.{position_or_len};
 ghost use Rattle.span_types.specs.declared.span.Span.{Span};
 ghost use Rattle.std.specs.Str.{bytes_eq};
+ghost use Rattle.span_requests.specs.CallerNumbers.{AreRoots};
 ghost use Rattle.span_requests.specs.Callers.{is_consumer};
 ghost use Rattle.span_requests.specs.Entries.{AreEntries, spans_at, traces_of};
 ghost use Rattle.span_requests.specs.inner.EntryKeys.{AreKeys, entry_numbers, indexes_of};
@@ -81,6 +82,7 @@ pub(crate) fn find_entries(
     ensures entries { IfOk result (λ entries. (d : Span) →
         AreEntries (lent_spans spans.now) (spans_at (lent_spans spans.now) d entries.items)) }
     ensures within { IfOk result (λ entries. All (λ n. n < length spans.now) entries.items) }
+    ensures roots { IfOk result (λ entries. AreRoots callers.now entries.items) }
 {
     let mut traces = IndexSet::new(alloc);
     put_traces(spans, &mut traces)?;

@@ -6,13 +6,15 @@ use Rattle.std.proofs.lemmas.Result.{IfOk-weaker}
 use Rattle.call_trees.specs.Tables.{table_of}
 use Rattle.call_trees.proofs.TableLemmas.{length_from_table}
 use Rattle.span_types.specs.declared.span.Span.{Span}
+use Rattle.span_requests.specs.CallerNumbers.{AreRoots}
 use Rattle.span_requests.specs.SpansOnce.{lent_spans}
-use Rattle.span_calls.specs.Calls.{AreCallsAt, is_asked, moments_at}
+use Rattle.span_calls.specs.Calls.{AreCalls, AreCallsAt, is_asked, moments_at}
 use Rattle.span_calls.specs.Seen.{span_at}
 use Rattle.span_calls.specs.declared.call.Call.{Call}
 use Rattle.span_calls.specs.declared.call_key.CallKey.{CallKey}
 use Rattle.span_calls.specs.inner.CallKeys.{all_moments, moments_of}
 use Rattle.span_calls.proofs.CallLemmas.{before_from, listed_is}
+use Rattle.span_calls.proofs.RiseLemmas.{calls_rise}
 use Rattle.span_calls.proofs.calls.find_calls.Goals as goal
 
 pub list_calls-requires-clause-same : goal.list_calls-requires-clause-same
@@ -52,6 +54,15 @@ returns-clause-calls c =
           (subst (λ (cs : List (Option ℕ)). AreCallsAt (lent_spans c.deref-9.result.now) cs numbers v.items) (c.deref-10.ensures.value ∙ own)
           (subst (λ (ns : List ℕ). AreCallsAt (lent_spans c.deref-9.result.now) c.deref-10.result.now ns v.items) c.deref-12.ensures.value h));
     }) c.make_calls.ensures
+
+pub returns-clause-rise : goal.returns-clause-rise
+returns-clause-rise c =
+    let spans = lent_spans c.args.requests.now.spans.items in
+    let callers = c.args.requests.now.callers.items in
+    let asked = option_copied c.args.asked in
+    let entries = c.args.requests.now.entries.items in
+    IfOk-weaker c.make_calls.result _ _ (λ (v : Vec Call Global) (h : AreCalls spans callers asked entries v.items) (roots : AreRoots callers entries).
+    calls_rise spans callers asked entries v.items c.requires.ends roots h) (returns-clause-calls c)
 
 pub returns-clause-before : goal.returns-clause-before
 returns-clause-before c = IfOk-weaker c.make_calls.result _ _ (λ (v : Vec Call Global) (h : AreCallsAt (lent_spans c.deref-9.result.now) c.deref-10.result.now c.deref-12.result.now v.items).

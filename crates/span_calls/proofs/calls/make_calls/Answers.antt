@@ -1,4 +1,4 @@
-use Rattle.std.proofs.Common.{◌≡◌, ◌∙◌, ◌<◌, All, List, Option, None, ℕ, ap, arith, get_or, length, rules, sym, subst}
+use Rattle.std.proofs.Common.{◌≡◌, ◌∙◌, ◌<◌, All, List, Option, ℕ, ap, arith, get_or, length, sym, subst}
 use Rattle.call_trees.proofs.TableLemmas.{get_or-table, length-table}
 use Rattle.span_requests.specs.SpansOnce.{lent_spans}
 use Rattle.span_calls.specs.Calls.{position_at}

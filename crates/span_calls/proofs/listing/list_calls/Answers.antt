@@ -1,6 +1,5 @@
 use Rattle.std.proofs.Common.{◌≡◌, ◌∙◌, ◌<◌, All, List, ℕ, Vec, Global, ap, length, sym, subst}
 use Rattle.std.proofs.lemmas.Result.{IfOk-weaker}
-use Rattle.call_trees.specs.Below.{below_all}
 use Rattle.call_trees.specs.Orders.{AreInOrder}
 use Rattle.call_trees.specs.Walks.{IsShallow, walk_through}
 use Rattle.call_trees.proofs.GroupLemmas.{groups_length}

@@ -1,4 +1,4 @@
-use Rattle.std.proofs.Common.{◌≡◌, ◌∙◌, ◌<◌, None, ap, arith, get_or, length, sym}
+use Rattle.std.proofs.Common.{◌∙◌, None, ap, arith, get_or, length, sym}
 use Rattle.call_trees.proofs.TableLemmas.{table_all, table_more}
 use Rattle.span_calls.specs.Calls.{moments_at, moments_by}
 use Rattle.span_calls.specs.Seen.{caller_in}
