@@ -1,14 +1,15 @@
 -- Names differ.
-use Rattle.std.proofs.Common.{◌≡◌, inl, inr, ℕ, ◌+◌, ◌^◌, ◌<◌, ◌≤◌, List, [], ◌∷◌, All, Bool, true, false, None, length, get_or, map, filter, refl, sym, ap, ◌∙◌, subst, true≢false, arith, eq-eqb, eqb}
+use Rattle.std.proofs.Common.{◌≡◌, inl, inr, ℕ, ◌+◌, ◌^◌, ◌<◌, ◌≤◌, List, [], ◌∷◌, All, Bool, true, false, None, length, get_or, map, filter, refl, sym, ap, ◌∙◌, subst, true≢false, arith, eq-eqb, eqb, ◌⊎◌, Option, Some, slice_get}
 use Rattle.std.specs.Prelude.{nat_eq, not, slice_index}
-use Rattle.std.specs.List.{position_or_len, range_with_len}
+use Rattle.std.specs.List.{list_any, position_or_len, range_with_len}
 use Rattle.std.specs.Str.{bytes_eq}
-use Rattle.std.proofs.lemmas.Bool.{eqb-true}
-use Rattle.std.proofs.lemmas.List.{get_or-map, length-map}
-use Rattle.std.proofs.lemmas.List.Elements.{All-filter, All-head, All-tail, All-weaker, Contains-get_or, filter_passes}
+use Rattle.std.proofs.lemmas.Bool.{cases_lt, eqb-true}
+use Rattle.std.proofs.lemmas.List.{get_or-map, get_or_past, length-map}
+use Rattle.std.proofs.lemmas.List.Elements.{All-filter, All-get_or, All-head, All-nil, All-tail, All-weaker, Contains-get_or, filter_passes}
 use Rattle.std.proofs.lemmas.List.FromFn.{length-range_with_len}
 use Rattle.std.proofs.lemmas.List.Sorted.{length_permutation}
 use Rattle.std.proofs.lemmas.List.Sums.{passes_at_first}
+use Rattle.std.proofs.lemmas.Option.{slice_get-get_or, slice_get_within}
 use Rattle.std.proofs.lemmas.Slice.Eq.{bytes_eq-Decides}
 use Rattle.span_names.specs.Names.{base_of, most_of_event, numbered}
 use Rattle.span_names.proofs.NumberingLemmas.{numbered_once}
@@ -17,15 +18,17 @@ use Rattle.call_trees.proofs.TableLemmas.{get_or-table}
 use Rattle.call_contexts.proofs.ListLemmas.{any-map, place_short}
 use Rattle.trace_types.specs.Firsts.{firsts_of}
 use Rattle.trace_types.proofs.ShortLemmas.{filter-short}
-use Rattle.context_names.specs.Bases.{event_base, frame_of_number, task_base}
+use Rattle.context_names.specs.Bases.{event_base, frame_of_number, no_frame, task_base}
 use Rattle.context_names.specs.Labels.{Label, label_at, label_eq, label_numbers}
-use Rattle.context_names.specs.NameLaws.{GroupsDiffer, LabelsDiffer, MachinesDiffer, TasksDiffer}
+use Rattle.context_names.specs.NameLaws.{AreInOrder, GroupsDiffer, HaveOneAbove, IsForkedBelow, LabelsDiffer, MachinesDiffer, TasksDiffer}
+use Rattle.call_contexts.specs.Contexts.{Frame}
 use Rattle.context_names.specs.Numbers.{base_at, base_numbers, numbered_names}
-use Rattle.context_names.specs.Pieces.{are_of_one_group, forked_in_order, head_numbers, heads, thread_above}
+use Rattle.context_names.specs.Pieces.{are_of_one_group, forked_among, forked_in_order, head_numbers, heads, numbers_by_group, thread_above}
 use Rattle.context_names.specs.Scattering.{value_of}
 use Rattle.context_names.specs.Tasks.{first_of_threads}
-use Rattle.context_names.proofs.MemberLemmas.{In, any_in, in-filter, in-permutation, in_from_contains}
-use Rattle.context_names.proofs.OrderLemmas.{order_has}
+use Rattle.context_names.proofs.MachineLemmas.{any-firsts}
+use Rattle.context_names.proofs.MemberLemmas.{In, any_in, filter-in, flat-in, in-filter, in-permutation, in_from_contains}
+use Rattle.context_names.proofs.OrderLemmas.{below_low, forked_has, order_has}
 use Rattle.context_names.proofs.OrdinalLemmas.{length-ordinals, ordinal_few, ordinal_once}
 use Rattle.context_names.proofs.ValueLemmas.{get_or-scattered}
 
@@ -236,13 +239,88 @@ module _ (groups hs : List ℕ) (apart : AreApart (are_of_one_group groups) hs) 
       (omega (arith, number_is x g, number_is y h, e)) in
       sym (head_is x g) ∙ ap (λ k. get_or hs k 0) places ∙ head_is y h
 
-pub groups_once : GroupsDiffer
-groups_once contexts order below threads forked groups x y g h low also thread e =
-    group_once groups hs (firsts_apart (are_of_one_group groups) (forked_in_order contexts order below threads forked groups)) (λ z. thread_above threads (frame_of_number contexts z).above z) x y (in_from_contains hs x g) (in_from_contains hs y h) thread
-    (sym (get_or-scattered (length groups) (map (slice_index groups) hs) ns (get_or groups x 0) 0 low) ∙ e ∙ get_or-scattered (length groups) (map (slice_index groups) hs) ns (get_or groups y 0) 0 also)
-  where
-    hs : List ℕ
-    hs = heads contexts order below threads forked groups
+firsts_in : (same : ℕ → ℕ → Bool) (xs : List ℕ) (x : ℕ) → In x (firsts_of same xs) → In x xs
+firsts_in same [] x h = h
+firsts_in same (z ∷ xs) x (inl e) = inl e
+firsts_in same (z ∷ xs) x (inr g) = inr (firsts_in same xs x (filter-in (λ y. not (same z y)) (firsts_of same xs) x g).0)
 
-    ns : List ℕ
-    ns = head_numbers contexts order below threads forked groups
+module _ (contexts : List Frame) (order : List ℕ) (below : List (List ℕ)) (threads : List ℕ) (forked : List Bool) (groups : List ℕ) (h : AreInOrder contexts order below) (size : length groups ≡ length contexts)
+    (grouped : All (λ g. g < length groups) groups) (one : HaveOneAbove contexts groups) where
+  abbrev key : ℕ → ℕ
+  key z = thread_above threads (frame_of_number contexts z).above z
+
+  -- what is forked in order is a context that is forked
+  forked_is : (z : ℕ) → In z (forked_in_order contexts order below threads forked groups) → z < length contexts
+  forked_is z g =
+      let w = flat-in (λ y. forked_among forked (get_or below y [])) order z g in
+      let v = filter-in (λ k. get_or forked k false) (get_or below w.0 []) z w.2 in
+      all_in (λ k. k < length contexts) (get_or below w.0 []) z (low w.0) v.0
+    where
+      low : (y : ℕ) → All (λ k. k < length contexts) (get_or below y [])
+      low y = by (cases_lt y (length below))
+        where
+          by : (y < length below) ⊎ (length below ≤ y) → All (λ k. k < length contexts) (get_or below y [])
+          by (inl lt) = below_low contexts order below h.ordered y [] lt
+          by (inr ge) = subst (All (λ k. k < length contexts)) (sym (get_or_past below y [] ge)) (All-nil (λ k. k < length contexts))
+
+  module _ (x a : ℕ) (f : IsForkedBelow contexts forked x a) where
+    low : x < length contexts
+    low = slice_get_within contexts x f.frame f.there
+
+    group_low : get_or groups x 0 < length groups
+    group_low = All-get_or (λ g. g < length groups) groups x 0 (omega (arith, slice_get_within contexts x f.frame f.there, size)) grouped
+
+    here : In x (forked_in_order contexts order below threads forked groups)
+    here = forked_has contexts order below h.ordered h.above forked x a f.frame f.there f.above f.forks
+
+    abbrev at : ℕ
+    at = position_or_len (λ n. eqb n (get_or groups x 0)) (map (slice_index groups) (heads contexts order below threads forked groups))
+
+    near-head : position_or_len (λ n. eqb n (get_or groups x 0)) (map (slice_index groups) (heads contexts order below threads forked groups)) < length (heads contexts order below threads forked groups)
+    near-head = omega (arith, place_short (λ k. eqb k (get_or groups x 0)) (map (slice_index groups) (heads contexts order below threads forked groups)) some, length-map (heads contexts order below threads forked groups) (slice_index groups))
+      where
+        some : list_any (λ k. eqb k (get_or groups x 0)) (map (slice_index groups) (heads contexts order below threads forked groups)) ≡ true
+        some = any-map (slice_index groups) (λ k. eqb k (get_or groups x 0)) (heads contexts order below threads forked groups)
+            ∙ any-firsts (are_of_one_group groups) (λ y. eqb (get_or groups y 0) (get_or groups x 0)) (λ y z e g. ap (eqb (get_or groups y 0)) (eqb-true (get_or groups z 0) (get_or groups x 0) g) ∙ e) (forked_in_order contexts order below threads forked groups)
+            (any_in (λ y. eqb (get_or groups y 0) (get_or groups x 0)) (forked_in_order contexts order below threads forked groups) x here (eq-eqb (get_or groups x 0) (get_or groups x 0) refl))
+
+    abbrev head : ℕ
+    head = get_or (heads contexts order below threads forked groups) at 0
+
+    head_in : In (get_or (heads contexts order below threads forked groups) at 0) (heads contexts order below threads forked groups)
+    head_in = in_at (heads contexts order below threads forked groups) at near-head
+
+    head_group : get_or groups (get_or (heads contexts order below threads forked groups) at 0) 0 ≡ get_or groups x 0
+    head_group =
+        let hs = heads contexts order below threads forked groups in
+        sym (get_or-map (slice_index groups) hs at 0 0 near-head) ∙ eqb-true (get_or (map (slice_index groups) hs) at 0) (get_or groups x 0)
+        (passes_at_first (λ n. eqb n (get_or groups x 0)) (map (slice_index groups) hs) 0 (omega (arith, near-head, length-map hs (slice_index groups))))
+
+    head_thread : thread_above threads (frame_of_number contexts (get_or (heads contexts order below threads forked groups) at 0)).above (get_or (heads contexts order below threads forked groups) at 0) ≡ get_or threads a 0
+    head_thread = ap (λ (o : Option ℕ). thread_above threads o (get_or (heads contexts order below threads forked groups) at 0)) up
+      where
+        z : ℕ
+        z = get_or (heads contexts order below threads forked groups) at 0
+
+        there : slice_get contexts (get_or (heads contexts order below threads forked groups) at 0) ≡ Some (frame_of_number contexts (get_or (heads contexts order below threads forked groups) at 0))
+        there = slice_get-get_or contexts (get_or (heads contexts order below threads forked groups) at 0) no_frame
+            (forked_is (get_or (heads contexts order below threads forked groups) at 0) (firsts_in (are_of_one_group groups) (forked_in_order contexts order below threads forked groups) (get_or (heads contexts order below threads forked groups) at 0) head_in))
+
+        up : (frame_of_number contexts (get_or (heads contexts order below threads forked groups) at 0)).above ≡ Some a
+        up = one (get_or (heads contexts order below threads forked groups) at 0) x (frame_of_number contexts (get_or (heads contexts order below threads forked groups) at 0)) f.frame there f.there head_group ∙ f.above
+
+    -- the number of the group is that of its head
+    head_number : get_or (numbers_by_group contexts order below threads forked groups) (get_or groups x 0) 0
+        ≡ value_of (map (slice_index groups) (heads contexts order below threads forked groups)) (head_numbers contexts order below threads forked groups) (get_or groups (get_or (heads contexts order below threads forked groups) at 0) 0)
+    head_number =
+        get_or-scattered (length groups) (map (slice_index groups) (heads contexts order below threads forked groups)) (head_numbers contexts order below threads forked groups) (get_or groups x 0) 0 group_low
+        ∙ ap (value_of (map (slice_index groups) (heads contexts order below threads forked groups)) (head_numbers contexts order below threads forked groups)) (sym head_group)
+
+  pub groups_apart : (x a y b : ℕ) → IsForkedBelow contexts forked x a → IsForkedBelow contexts forked y b → get_or threads a 0 ≡ get_or threads b 0
+      → get_or (numbers_by_group contexts order below threads forked groups) (get_or groups x 0) 0 ≡ get_or (numbers_by_group contexts order below threads forked groups) (get_or groups y 0) 0 → get_or groups x 0 ≡ get_or groups y 0
+  groups_apart x a y b f g thread e =
+      sym (head_group x a f) ∙ ap (λ z. get_or groups z 0) (group_once groups (heads contexts order below threads forked groups) (firsts_apart (are_of_one_group groups) (forked_in_order contexts order below threads forked groups)) key (head x a f) (head y b g)
+      (head_in x a f) (head_in y b g) (head_thread x a f ∙ thread ∙ sym (head_thread y b g)) (sym (head_number x a f) ∙ e ∙ head_number y b g)) ∙ head_group y b g
+
+pub groups_once : GroupsDiffer
+groups_once contexts order below threads forked groups h size grouped one x a y b f g thread e = groups_apart contexts order below threads forked groups h size grouped one x a y b f g thread e

@@ -1,14 +1,14 @@
 -- Names differ: statements that laws prove.
-use Rattle.std.specs.Prelude.{ℕ, ◌≡◌, ◌<◌, ◌^◌, List, [], Bool, Option, Contains, length, map}
-use Rattle.std.specs.Prelude.{slice_index, slice_index_or}
+use Rattle.std.specs.Prelude.{ℕ, ◌≡◌, ◌<◌, ◌^◌, List, [], Bool, All, Option, Some, true, false}
+use Rattle.std.specs.Prelude.{length, map, slice_get, slice_index, slice_index_or}
 use Rattle.span_names.specs.NameLaws.{HasSize}
 use Rattle.span_names.specs.declared.piece.Piece.{Piece}
 use Rattle.call_contexts.specs.ContextOrder.{AreOrdered}
 use Rattle.call_contexts.specs.Contexts.{Frame, HaveAbove}
-use Rattle.context_names.specs.Bases.{event_base, frame_of_number, task_base}
+use Rattle.context_names.specs.Bases.{event_base, task_base}
 use Rattle.context_names.specs.Labels.{labels_of}
 use Rattle.context_names.specs.Machines.{AreNamed}
-use Rattle.context_names.specs.Pieces.{heads, numbers_by_group, thread_above}
+use Rattle.context_names.specs.Pieces.{numbers_by_group}
 use Rattle.context_names.specs.Tasks.{task_name, task_names}
 
 -- these contexts are in order, and their numbers have 64 bits
@@ -42,15 +42,26 @@ MachinesDiffer = (machines names : List (List ℕ)) → AreNamed machines names
     → length machines < 2 ^ 64 → (i j : ℕ) → i < length machines → j < length machines
     → slice_index_or names i [] ≡ slice_index_or names j [] → i ≡ j
 
--- two groups that one thread forks have two numbers; a group is that of its first context
+-- the contexts of a group are below one context
+abbrev pub HaveOneAbove : List Frame → List ℕ → Type 0
+HaveOneAbove contexts groups = (x y : ℕ) (f g : Frame) → slice_get contexts x ≡ Some f
+    → slice_get contexts y ≡ Some g → slice_index groups x ≡ slice_index groups y → f.above ≡ g.above
+
+-- the context with this number is forked below the one with that number
+pub record IsForkedBelow (contexts : List Frame) (forked : List Bool) (x a : ℕ) : Type 0 where
+  pub frame : Frame
+  pub there : slice_get contexts x ≡ Some frame
+  pub above : frame.above ≡ Some a
+  pub forks : slice_index_or forked x false ≡ true
+
+-- of contexts that one thread forks, those of two groups have two numbers
 abbrev pub GroupsDiffer : Type 0
 GroupsDiffer = (contexts : List Frame) (order : List ℕ) (below : List (List ℕ)) (threads : List ℕ)
-    (forked : List Bool) (groups : List ℕ) → (x y : ℕ)
-    → Contains (heads contexts order below threads forked groups) x
-    → Contains (heads contexts order below threads forked groups) y
-    → slice_index groups x < length groups → slice_index groups y < length groups
-    → thread_above threads (frame_of_number contexts x).above x
-    ≡ thread_above threads (frame_of_number contexts y).above y
+    (forked : List Bool) (groups : List ℕ) → AreInOrder contexts order below
+    → length groups ≡ length contexts → All (λ g. g < length groups) groups
+    → HaveOneAbove contexts groups → (x a y b : ℕ)
+    → IsForkedBelow contexts forked x a → IsForkedBelow contexts forked y b
+    → slice_index threads a ≡ slice_index threads b
     → slice_index (numbers_by_group contexts order below threads forked groups) (slice_index groups x)
     ≡ slice_index (numbers_by_group contexts order below threads forked groups) (slice_index groups y)
-    → x ≡ y
+    → slice_index groups x ≡ slice_index groups y

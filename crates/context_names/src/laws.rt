@@ -16,7 +16,7 @@ pub fn machines_differ()
     ensures { MachinesDiffer }
 {}
 
-/// Two groups that one thread forks have two numbers.
+/// Of contexts that one thread forks, those of two groups have two numbers.
 pub fn groups_differ()
     ensures { GroupsDiffer }
 {}
