@@ -1,7 +1,7 @@
 -- The names that spans give are texts that event lines may have: statements that laws prove.
 use Rattle.std.specs.Prelude.{ℕ, ◌≡◌, ◌<◌, ◌^◌, ◌++◌, false, List, [], ◌∷◌, Option, Some, None, IfSome, ⊤}
 use Rattle.std.specs.Prelude.{codes, length, map, slice_index_or}
-use Rattle.std.specs.List.{All}
+use Rattle.std.specs.List.{All, Contains}
 use Rattle.std.specs.Str.{IsUtf8}
 use Rattle.event_lines.specs.EventFaults.{is_bad_text}
 use Rattle.span_names.specs.declared.piece.Piece.{Piece}
@@ -19,6 +19,11 @@ pub record IsLineText (text : List ℕ) : Type 0 where
 -- what stands behind the name of a context in the names of events
 abbrev pub endings : List (List ℕ)
 endings = codes " start" ∷ codes " end" ∷ codes " forks" ∷ codes " joined" ∷ []
+
+-- the name of an event tells that of its context, and its ending
+abbrev pub EventsTellEndings : Type 0
+EventsTellEndings = (name other ending end : List ℕ) → Contains endings ending → Contains endings end
+    → name ++ ending ≡ other ++ end → (name ≡ other) × (ending ≡ end)
 
 -- the services and the operations of contexts are UTF-8
 abbrev pub HaveTexts : List Frame → Type 0
