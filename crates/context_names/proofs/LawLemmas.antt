@@ -1,11 +1,11 @@
 -- Names differ.
 use Rattle.std.proofs.Common.{◌≡◌, inl, inr, ℕ, ◌+◌, ◌^◌, ◌<◌, ◌≤◌, List, [], ◌∷◌, All, Bool, true, false, None, length, get_or, map, filter, refl, sym, ap, ◌∙◌, subst, true≢false, arith, eq-eqb, eqb, ◌⊎◌, Option, Some, slice_get}
 use Rattle.std.specs.Prelude.{nat_eq, not, slice_index}
-use Rattle.std.specs.List.{list_any, position_or_len, range_with_len}
+use Rattle.std.specs.List.{list_any, position_or_len, range_with_len, flat_map}
 use Rattle.std.specs.Str.{bytes_eq}
 use Rattle.std.proofs.lemmas.Bool.{cases_lt, eqb-true}
-use Rattle.std.proofs.lemmas.List.{get_or-map, get_or_past, length-map}
-use Rattle.std.proofs.lemmas.List.Elements.{All-filter, All-get_or, All-head, All-nil, All-tail, All-weaker, Contains-get_or, filter_passes}
+use Rattle.std.proofs.lemmas.List.{get_or-map, get_or_past, length-map, nil_from_length}
+use Rattle.std.proofs.lemmas.List.Elements.{All-filter, All-get_or, All-head, All-nil, All-tail, All-weaker, Contains-get_or, filter_passes, All-from_get_or}
 use Rattle.std.proofs.lemmas.List.FromFn.{length-range_with_len}
 use Rattle.std.proofs.lemmas.List.Sorted.{length_permutation}
 use Rattle.std.proofs.lemmas.List.Sums.{passes_at_first}
@@ -17,20 +17,21 @@ use Rattle.call_trees.specs.Ordinals.{ordinals_of}
 use Rattle.call_trees.proofs.TableLemmas.{get_or-table}
 use Rattle.call_contexts.proofs.ListLemmas.{any-map, place_short}
 use Rattle.trace_types.specs.Firsts.{firsts_of}
-use Rattle.trace_types.proofs.ShortLemmas.{filter-short}
+use Rattle.trace_types.proofs.ShortLemmas.{filter-short, firsts-short}
 use Rattle.context_names.specs.Bases.{event_base, frame_of_number, no_frame, task_base}
 use Rattle.context_names.specs.Labels.{Label, label_at, label_eq, label_numbers}
-use Rattle.context_names.specs.NameLaws.{AreInOrder, GroupsDiffer, HaveOneAbove, IsForkedBelow, LabelsDiffer, MachinesDiffer, TasksDiffer}
+use Rattle.context_names.specs.NameLaws.{AreInOrder, ContextsStandOnce, GroupsDiffer, HaveOneAbove, IsForkedBelow, LabelsDiffer, MachinesDiffer, TasksDiffer, NumbersAreFew}
 use Rattle.call_contexts.specs.Contexts.{Frame}
 use Rattle.context_names.specs.Numbers.{base_at, base_numbers, numbered_names}
 use Rattle.context_names.specs.Pieces.{are_of_one_group, forked_among, forked_in_order, head_numbers, heads, numbers_by_group, thread_above}
-use Rattle.context_names.specs.Scattering.{value_of}
+use Rattle.context_names.specs.Scattering.{value_of, scattered}
 use Rattle.context_names.specs.Tasks.{first_of_threads}
 use Rattle.context_names.proofs.MachineLemmas.{any-firsts}
 use Rattle.context_names.proofs.MemberLemmas.{In, any_in, filter-in, flat-in, in-filter, in-permutation, in_from_contains}
+use Rattle.context_names.proofs.OnceLemmas.{order_low, order_once, order_size, under_few}
 use Rattle.context_names.proofs.OrderLemmas.{below_low, forked_has, order_has}
 use Rattle.context_names.proofs.OrdinalLemmas.{length-ordinals, ordinal_few, ordinal_once}
-use Rattle.context_names.proofs.ValueLemmas.{get_or-scattered}
+use Rattle.context_names.proofs.ValueLemmas.{get_or-scattered, length-scattered}
 
 -- ---- where a number stands
 
@@ -76,6 +77,15 @@ module _ (bases : List (List ℕ)) (numbers : List ℕ) (x y : ℕ) (low : x < l
       let one = numbered_once (base_at bases x) (base_at bases y) (get_or numbers x 0) (get_or numbers y 0) None None few less tt tt (sym (get_or-table f (length bases) x [] low) ∙ e ∙ get_or-table f (length bases) y [] also) in
       (one.0, one.1)
 
+-- ---- the order
+
+pub stand_once : ContextsStandOnce
+stand_once contexts order below above ordered = record {
+  size = order_size contexts order below ordered above;
+  within = order_low contexts order below ordered above;
+  once = order_once contexts order below ordered above;
+}
+
 -- ---- labels
 
 pub labels_once : LabelsDiffer
@@ -94,7 +104,7 @@ labels_once contexts order below threads h x y low also thread e = number_once l
     at z lt = get_or-scattered (length (map event_base contexts)) order (ordinals_of label_eq (map (label_at threads (map event_base contexts)) order)) z 0 (omega (arith, lt, size))
 
     few : (z : ℕ) → z < length contexts → get_or (label_numbers order threads (map event_base contexts)) z 0 < 2 ^ 64
-    few z lt = omega (arith, at z lt, number_few label_eq label_own (label_at threads (map event_base contexts)) order z (here z lt), h.size)
+    few z lt = omega (arith, at z lt, number_few label_eq label_own (label_at threads (map event_base contexts)) order z (here z lt), order_size contexts order below h.ordered h.above, h.size)
 
     parts : (base_at (map event_base contexts) x ≡ base_at (map event_base contexts) y) × (get_or (label_numbers order threads (map event_base contexts)) x 0 ≡ get_or (label_numbers order threads (map event_base contexts)) y 0)
     parts = named_once (map event_base contexts) (label_numbers order threads (map event_base contexts)) x y (omega (arith, low, size)) (omega (arith, also, size)) (few x low) (few y also) e
@@ -122,7 +132,7 @@ tasks_once contexts order below threads h x y low also begins starts p q g k e =
 
     few : (z : ℕ) → z < length contexts → get_or threads z 0 ≡ z → get_or (base_numbers (map task_base contexts) (first_of_threads order threads)) z 0 < 2 ^ 64
     few z lt first =
-        omega (arith, at z lt, number_few bytes_eq text_own (base_at (map task_base contexts)) (first_of_threads order threads) z (here z lt first), filter-short (λ n. eqb (get_or threads n 0) n) order, h.size)
+        omega (arith, at z lt, number_few bytes_eq text_own (base_at (map task_base contexts)) (first_of_threads order threads) z (here z lt first), filter-short (λ n. eqb (get_or threads n 0) n) order, order_size contexts order below h.ordered h.above, h.size)
 
     parts : (base_at (map task_base contexts) x ≡ base_at (map task_base contexts) y)
         × (get_or (base_numbers (map task_base contexts) (first_of_threads order threads)) x 0 ≡ get_or (base_numbers (map task_base contexts) (first_of_threads order threads)) y 0) × (p ≡ q)
@@ -324,3 +334,53 @@ module _ (contexts : List Frame) (order : List ℕ) (below : List (List ℕ)) (t
 
 pub groups_once : GroupsDiffer
 groups_once contexts order below threads forked groups h size grouped one x a y b f g thread e = groups_apart contexts order below threads forked groups h size grouped one x a y b f g thread e
+
+-- ---- numbers of groups are few
+
+pub numbers_few : NumbersAreFew
+numbers_few contexts order below threads forked groups before ordered = All-from_get_or (λ n. n ≤ length contexts) (scattered (length groups) (map (slice_index groups) hs) ns) 0
+    (λ i lt. subst (λ n. n ≤ length contexts) (sym (get_or-scattered (length groups) (map (slice_index groups) hs) ns i 0 (omega (arith, lt, length-scattered (length groups) (map (slice_index groups) hs) ns)))) (at i))
+  where
+    hs : List ℕ
+    hs = heads contexts order below threads forked groups
+
+    keys : List ℕ
+    keys = map (λ x. thread_above threads (frame_of_number contexts x).above x) (heads contexts order below threads forked groups)
+
+    ns : List ℕ
+    ns = head_numbers contexts order below threads forked groups
+
+    size : length (ordinals_of nat_eq (map (λ x. thread_above threads (frame_of_number contexts x).above x) (heads contexts order below threads forked groups))) ≡ length (heads contexts order below threads forked groups)
+    size = length-ordinals nat_eq keys ∙ length-map (heads contexts order below threads forked groups) (λ x. thread_above threads (frame_of_number contexts x).above x)
+
+    few : length (heads contexts order below threads forked groups) ≤ length (forked_in_order contexts order below threads forked groups)
+    few = firsts-short (are_of_one_group groups) (forked_in_order contexts order below threads forked groups)
+
+    low : length (heads contexts order below threads forked groups) ≡ 0 ⊎ (length (heads contexts order below threads forked groups) + 1 ≤ length contexts)
+    low = by (cases_lt 0 (length contexts))
+      where
+        by : (0 < length contexts) ⊎ (length contexts ≤ 0) → length (heads contexts order below threads forked groups) ≡ 0 ⊎ (length (heads contexts order below threads forked groups) + 1 ≤ length contexts)
+        by (inl some) = inr (omega (arith, few, under_few contexts order below ordered before forked some))
+        by (inr none) = inl (omega (arith, few, empty))
+          where
+            empty : length (forked_in_order contexts order below threads forked groups) ≡ 0
+            empty = ap (λ (os : List ℕ). length (flat_map (λ y. forked_among forked (get_or below y [])) os)) (nil_from_length order (omega (arith, order_size contexts order below ordered before, none)))
+
+    at : (i : ℕ) → value_of (map (slice_index groups) (heads contexts order below threads forked groups)) (head_numbers contexts order below threads forked groups) i ≤ length contexts
+    at i = by (cases_lt place (length (ordinals_of nat_eq keys))) low
+      where
+        place : ℕ
+        place = position_or_len (λ n. eqb n i) (map (slice_index groups) (heads contexts order below threads forked groups))
+
+        by : (position_or_len (λ n. eqb n i) (map (slice_index groups) hs) < length (ordinals_of nat_eq keys)) ⊎ (length (ordinals_of nat_eq keys) ≤ position_or_len (λ n. eqb n i) (map (slice_index groups) hs))
+            → length hs ≡ 0 ⊎ (length hs + 1 ≤ length contexts) → value_of (map (slice_index groups) hs) ns i ≤ length contexts
+        by (inr ge) q = omega (arith, get_or_past ns (position_or_len (λ n. eqb n i) (map (slice_index groups) hs)) 0 (omega (arith, ge, length-map (ordinals_of nat_eq keys) (λ n. n + 1))))
+        by (inl lt) (inl none) = absurd (omega (arith, lt, size, none))
+        by (inl lt) (inr some) = omega (
+          arith,
+          get_or-map (λ n. n + 1) (ordinals_of nat_eq keys) (position_or_len (λ n. eqb n i) (map (slice_index groups) hs)) 0 0 lt,
+          ordinal_few nat_eq keys (position_or_len (λ n. eqb n i) (map (slice_index groups) hs)) 0 (omega (arith, lt, length-ordinals nat_eq keys)),
+          lt,
+          size,
+          some,
+        )

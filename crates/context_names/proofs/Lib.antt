@@ -3,6 +3,7 @@ pub mod LawLemmas
 pub mod MachineLemmas
 pub mod MemberLemmas
 pub mod NumberLemmas
+pub mod OnceLemmas
 pub mod OrderLemmas
 pub mod OrdinalLemmas
 pub mod ValueLemmas

@@ -1,6 +1,7 @@
 -- Names differ: statements that laws prove.
-use Rattle.std.specs.Prelude.{ℕ, ◌≡◌, ◌<◌, ◌^◌, List, [], Bool, All, Option, Some, true, false}
+use Rattle.std.specs.Prelude.{ℕ, ◌≡◌, ◌≤◌, ◌<◌, ◌^◌, ◌==◌, List, [], Bool, All, Option, Some, true, false}
 use Rattle.std.specs.Prelude.{length, map, slice_get, slice_index, slice_index_or}
+use Rattle.std.specs.List.{count_by}
 use Rattle.span_names.specs.NameLaws.{HasSize}
 use Rattle.span_names.specs.declared.piece.Piece.{Piece}
 use Rattle.call_contexts.specs.ContextOrder.{AreOrdered}
@@ -15,7 +16,18 @@ use Rattle.context_names.specs.Tasks.{task_name, task_names}
 pub record AreInOrder (contexts : List Frame) (order : List ℕ) (below : List (List ℕ)) : Type 0 where
   pub above : HaveAbove contexts
   pub ordered : AreOrdered contexts order below
-  pub size : length order < 2 ^ 64
+  pub size : length contexts < 2 ^ 64
+
+-- each context stands once in an order, and nothing else does
+pub record StandOnce (contexts : List Frame) (order : List ℕ) : Type 0 where
+  pub size : length order ≡ length contexts
+  pub within : All (λ x. x < length contexts) order
+  pub once : (x : ℕ) → x < length contexts → count_by (λ n. n == x) order ≡ 1
+
+-- contexts stand once in their order
+abbrev pub ContextsStandOnce : Type 0
+ContextsStandOnce = (contexts : List Frame) (order : List ℕ) (below : List (List ℕ))
+    → HaveAbove contexts → AreOrdered contexts order below → StandOnce contexts order
 
 -- two contexts of one thread have two names
 abbrev pub LabelsDiffer : Type 0
@@ -65,3 +77,10 @@ GroupsDiffer = (contexts : List Frame) (order : List ℕ) (below : List (List �
     → slice_index (numbers_by_group contexts order below threads forked groups) (slice_index groups x)
     ≡ slice_index (numbers_by_group contexts order below threads forked groups) (slice_index groups y)
     → slice_index groups x ≡ slice_index groups y
+
+-- no group has a number above that of contexts
+abbrev pub NumbersAreFew : Type 0
+NumbersAreFew = (contexts : List Frame) (order : List ℕ) (below : List (List ℕ)) (threads : List ℕ)
+    (forked : List Bool) (groups : List ℕ) → HaveAbove contexts → AreOrdered contexts order below
+    → All (λ n. n ≤ length contexts)
+    (numbers_by_group contexts order below threads forked groups)

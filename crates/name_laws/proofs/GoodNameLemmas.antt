@@ -26,6 +26,7 @@ use Rattle.context_names.specs.Labels.{label_at, label_eq, label_numbers}
 use Rattle.context_names.specs.Numbers.{base_at, base_numbers}
 use Rattle.context_names.specs.Scattering.{value_of}
 use Rattle.context_names.specs.Tasks.{first_of_threads}
+use Rattle.context_names.proofs.OnceLemmas.{order_size}
 use Rattle.context_names.proofs.OrdinalLemmas.{length-ordinals, ordinal_few}
 use Rattle.context_names.proofs.ValueLemmas.{get_or-scattered}
 use Rattle.name_laws.specs.GoodNames.{EventsAreGood, HaveTexts, IsLineText, IsShortPiece, MachinesAreGood, TasksAreGood, endings}
@@ -164,7 +165,7 @@ ending_good label h =
     one ending k some = good_of 63 (label ++ ending) (omega arith) (both_pieces 56 7 label ending h k) some
 
 pub events_good : EventsAreGood
-events_good contexts order threads h few x lt = ending_good (get_or (table_of f (length bases)) x []) (subst (IsPiece 56) (sym is) (numbered_piece 48 (base_at bases x) (get_or numbers x 0) None (context_piece contexts h x lt most_of_event (omega arith)) low tt))
+events_good contexts order below threads above ordered h few x lt = ending_good (get_or (table_of f (length bases)) x []) (subst (IsPiece 56) (sym is) (numbered_piece 48 (base_at bases x) (get_or numbers x 0) None (context_piece contexts h x lt most_of_event (omega arith)) low tt))
   where
     bases : List (List ℕ)
     bases = map event_base contexts
@@ -182,12 +183,12 @@ events_good contexts order threads h few x lt = ending_good (get_or (table_of f 
     is = get_or-table f (length (map event_base contexts)) x [] (omega (arith, lt, size))
 
     low : get_or (label_numbers order threads (map event_base contexts)) x 0 < 10 ^ 7
-    low = omega (arith, get_or-scattered (length (map event_base contexts)) order (ordinals_of label_eq (map (label_at threads (map event_base contexts)) order)) x 0 (omega (arith, lt, size)), number_low label_eq (label_at threads (map event_base contexts)) order x, few)
+    low = omega (arith, get_or-scattered (length (map event_base contexts)) order (ordinals_of label_eq (map (label_at threads (map event_base contexts)) order)) x 0 (omega (arith, lt, size)), number_low label_eq (label_at threads (map event_base contexts)) order x, order_size contexts order below ordered above, few)
 
 -- ---- tasks
 
 pub tasks_good : TasksAreGood
-tasks_good contexts order threads h few x lt p short =
+tasks_good contexts order below threads above ordered h few x lt p short =
     good_of (40 + 1 + 7 + room p) (numbered (base_at (map task_base contexts) x) (get_or (base_numbers (map task_base contexts) (first_of_threads order threads)) x 0) p) (most p)
     (numbered_piece 40 (base_at (map task_base contexts) x) (get_or (base_numbers (map task_base contexts) (first_of_threads order threads)) x 0) p (context_piece contexts h x lt most_of_task (omega arith)) low short)
     (numbered_some 40 (base_at (map task_base contexts) x) (get_or (base_numbers (map task_base contexts) (first_of_threads order threads)) x 0) p (context_some contexts h x lt most_of_task (omega arith)))
@@ -205,6 +206,7 @@ tasks_good contexts order threads h few x lt p short =
       get_or-scattered (length (map task_base contexts)) (first_of_threads order threads) (ordinals_of bytes_eq (map (base_at (map task_base contexts)) (first_of_threads order threads))) x 0 (omega (arith, lt, size)),
       number_low bytes_eq (base_at (map task_base contexts)) (first_of_threads order threads) x,
       filter-short (λ n. eqb (get_or threads n 0) n) order,
+      order_size contexts order below ordered above,
       few,
     )
 

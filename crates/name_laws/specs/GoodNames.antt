@@ -5,7 +5,8 @@ use Rattle.std.specs.List.{All, Contains}
 use Rattle.std.specs.Str.{IsUtf8}
 use Rattle.event_lines.specs.EventFaults.{is_bad_text}
 use Rattle.span_names.specs.declared.piece.Piece.{Piece}
-use Rattle.call_contexts.specs.Contexts.{Frame}
+use Rattle.call_contexts.specs.ContextOrder.{AreOrdered}
+use Rattle.call_contexts.specs.Contexts.{Frame, HaveAbove}
 use Rattle.context_names.specs.Bases.{event_base, task_base}
 use Rattle.context_names.specs.Labels.{labels_of}
 use Rattle.context_names.specs.Machines.{AreNamed}
@@ -36,15 +37,17 @@ IsShortPiece (Some piece) = (piece.number < 10 ^ 7) × IfSome piece.gap (λ gap.
 
 -- the events of each context have good names
 abbrev pub EventsAreGood : Type 0
-EventsAreGood = (contexts : List Frame) (order threads : List ℕ) → HaveTexts contexts
-    → length order < 10 ^ 7 → (x : ℕ) → x < length contexts
+EventsAreGood = (contexts : List Frame) (order : List ℕ) (below : List (List ℕ)) (threads : List ℕ)
+    → HaveAbove contexts → AreOrdered contexts order below → HaveTexts contexts
+    → length contexts < 10 ^ 7 → (x : ℕ) → x < length contexts
     → All (λ (ending : List ℕ). IsLineText
     (slice_index_or (labels_of order threads (map event_base contexts)) x [] ++ ending)) endings
 
 -- each piece of a thread has a good name
 abbrev pub TasksAreGood : Type 0
-TasksAreGood = (contexts : List Frame) (order threads : List ℕ) → HaveTexts contexts
-    → length order < 10 ^ 7 → (x : ℕ) → x < length contexts → (p : Option Piece) → IsShortPiece p
+TasksAreGood = (contexts : List Frame) (order : List ℕ) (below : List (List ℕ)) (threads : List ℕ)
+    → HaveAbove contexts → AreOrdered contexts order below → HaveTexts contexts
+    → length contexts < 10 ^ 7 → (x : ℕ) → x < length contexts → (p : Option Piece) → IsShortPiece p
     → IsLineText (task_name (task_names order threads (map task_base contexts)) x p)
 
 -- each machine has a good name
