@@ -1,10 +1,12 @@
 pub mod ApartLemmas
 pub mod BoundLemmas
+pub mod EntryLemmas
 pub mod FarLemmas
 pub mod GroupLemmas
 pub mod HeadLemmas
 pub mod MessageLemmas
 pub mod NamedLemmas
+pub mod OrderLemmas
 pub mod RangeLemmas
 pub mod RequestLemmas
 pub mod SentLemmas

@@ -1,9 +1,8 @@
 -- The steps of a thread, each with the piece that it is logged in: no two are logged alike.
-use Rattle.std.proofs.Common.{◌≡◌, ◌⊎◌, inl, inr, ⊎_elim, ℕ, suc, ◌+◌, ◌<◌, ◌≤◌, List, [], ◌∷◌, ◌++◌, length, map, Option, Some, None, get_or, slice_get, slice_index, slice_index_or, reverse, codes, refl, sym, ap, subst, ◌∙◌, arith}
+use Rattle.std.proofs.Common.{◌≡◌, inl, inr, ℕ, suc, ◌<◌, List, [], ◌∷◌, length, map, Option, Some, None, get_or, slice_get, slice_index, slice_index_or, reverse, codes, refl, sym, ap, subst, ◌∙◌, arith}
 use Rattle.std.specs.Prelude.{⊤}
 use Rattle.std.proofs.lemmas.List.{append_cancel_right, reverse-append}
 use Rattle.std.proofs.lemmas.Option.{slice_get-get_or}
-use Rattle.trace_types.specs.declared.event.Event.{Event}
 use Rattle.context_names.specs.Tasks.{task_name}
 use Rattle.span_names.specs.declared.piece.Piece.{Piece}
 use Rattle.thread_steps.specs.Parts.{Grouping}
@@ -12,7 +11,7 @@ use Rattle.thread_steps.specs.declared.step.Step.{Step}
 use Rattle.thread_steps.specs.declared.step.Step.TheVariants.{Starts, Ends, Forks, Joins}
 use Rattle.span_lines.specs.Lines.{event_of, line_of, lines_from, piece_after}
 use Rattle.span_lines.specs.Mappings.{Mapping, head_label, label_of}
-use Rattle.span_laws.proofs.ApartLemmas.{In, Every, Pairs, Once, every_in, every_from_in, in_to_map, pairs_both, pairs_weaker}
+use Rattle.span_laws.proofs.ApartLemmas.{In, Pairs, Once, every_in, every_from_in, in_to_map, pairs_weaker}
 
 -- a step and the piece that it is logged in
 abbrev pub Stamp : Type 0

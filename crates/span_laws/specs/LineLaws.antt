@@ -1,5 +1,5 @@
 -- What the event lines of requests are: statements that laws prove.
-use Rattle.std.specs.Prelude.{ℕ, ◌≡◌, ◌≢◌, ◌<◌, ◌^◌, List, Option, Some, length, ⊤}
+use Rattle.std.specs.Prelude.{ℕ, ◌≡◌, ◌≢◌, ◌<◌, ◌^◌, List, [], ◌∷◌, Option, Some, None, length, slice_index_or, ⊤}
 use Rattle.std.specs.List.{All, Contains}
 use Rattle.trace_types.specs.Events.{named_events, receipts_of, sends_of}
 use Rattle.trace_types.specs.Repeats.{AreDistinct}
@@ -11,8 +11,10 @@ use Rattle.segment_cut.specs.declared.trace_fault.TraceFault.TheVariants.{Repeat
 use Rattle.segment_cut.specs.declared.trace_fault.TraceFault.TheVariants.{RepeatedSend}
 use Rattle.segment_cut.specs.declared.trace_fault.TraceFault.TheVariants.{RepeatedRecv, ClockRange}
 use Rattle.span_types.specs.declared.span.Span.{Span}
+use Rattle.span_requests.specs.Callers.{caller_numbers}
 use Rattle.span_requests.specs.Faults.{HaveEntries}
 use Rattle.span_requests.specs.SpansOnce.{spans_once}
+use Rattle.span_calls.specs.Seen.{span_at}
 use Rattle.span_lines.specs.SpanLines.{AreRequestLines}
 
 -- what an event sends another one receives, on another machine
@@ -60,3 +62,31 @@ IsOfSizeOrClock (ClockRange line) = ⊤
 abbrev pub SoundLinesAreTaken : Type 0
 SoundLinesAreTaken = (lines : List Event) (fault : TraceFault) → AreSound lines
     → IsTraceFault lines fault → IsOfSizeOrClock fault
+
+-- no point stands in the ids of traces, which are digits
+abbrev pub HavePlainTraces : List Span → Type 0
+HavePlainTraces spans = All (λ (s : Span). All (λ c. c ≢ 46) s.trace) spans
+
+-- two lines under one name of a request are of one request
+abbrev pub RequestsHaveOwnNames : Type 0
+RequestsHaveOwnNames = (input : List Span) (grace : ℕ) (asked : Option (List ℕ))
+    (requests : List (List Event)) → HaveEntries input → HavePlainTraces (spans_once input)
+    → AreRequestLines (spans_once input) grace asked requests
+    → (k l : ℕ) → k < length requests → l < length requests → (e f : Event)
+    → Contains (slice_index_or requests k []) e → Contains (slice_index_or requests l []) f
+    → e.request ≡ f.request → k ≡ l
+
+-- the line is the start of the span with this number, which nothing called
+pub record IsStartOfEntry (spans : List Span) (e : Event) : Type 0 where
+  pub number : ℕ
+  pub first : slice_index_or (caller_numbers spans) number None ≡ None
+  pub there : number < length spans
+  pub time : e.time ≡ (span_at spans number).start
+
+-- the first line of a request is the start of its entry
+abbrev pub RequestsBeginWithEntries : Type 0
+RequestsBeginWithEntries = (input : List Span) (grace : ℕ) (asked : Option (List ℕ))
+    (requests : List (List Event)) → HaveEntries input
+    → AreRequestLines (spans_once input) grace asked requests → (k : ℕ) → k < length requests
+    → (e : Event) × (later : List Event) × (slice_index_or requests k [] ≡ e ∷ later)
+    × IsStartOfEntry (spans_once input) e
