@@ -6,6 +6,7 @@ pub mod GroupLemmas
 pub mod HeadLemmas
 pub mod MessageLemmas
 pub mod NamedLemmas
+pub mod OneLemmas
 pub mod OrderLemmas
 pub mod RangeLemmas
 pub mod RequestLemmas
@@ -13,4 +14,5 @@ pub mod SentLemmas
 pub mod SizeLemmas
 pub mod SoundLemmas
 pub mod StampLemmas
+pub mod ToldLemmas
 pub mod TraceLemmas

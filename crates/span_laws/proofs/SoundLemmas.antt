@@ -44,7 +44,7 @@ at_in (x ∷ xs) (suc i) d l = inr (at_in xs i d (omega (arith, l)))
 pub contains_in : {X : Type 0} (xs : List X) (x : X) → Contains xs x → In xs x
 contains_in xs x (k, l, e) = subst (In xs) e (at_in xs k x l)
 
-in_contains : {X : Type 0} (xs : List X) (x : X) → In xs x → Contains xs x
+pub in_contains : {X : Type 0} (xs : List X) (x : X) → In xs x → Contains xs x
 in_contains [] x h = absurd h
 in_contains (y ∷ xs) x (inl e) = (0, omega arith, e)
 in_contains (y ∷ xs) x (inr h) = let p = in_contains xs x h in let l = p.1 in (suc p.0, omega (arith, l), p.2)

@@ -89,13 +89,13 @@ began piece (step ∷ later) z (inr h) = more_began step later z (began (piece_a
 -- ---- events
 
 -- the last byte but one of the name of a step's event
-abbrev mark : Step → ℕ
+abbrev pub mark : Step → ℕ
 mark (Starts i) = 114
 mark (Ends i) = 110
 mark (Forks i) = 107
 mark (Joins i piece) = 101
 
-marked : (m : Mapping) (step : Step) → slice_index_or (reverse (event_of m step)) 1 0 ≡ mark step
+pub marked : (m : Mapping) (step : Step) → slice_index_or (reverse (event_of m step)) 1 0 ≡ mark step
 marked m (Starts i) = ap (λ xs. slice_index_or xs 1 0) (reverse-append (label_of m i) (codes " start"))
 marked m (Ends i) = ap (λ xs. slice_index_or xs 1 0) (reverse-append (label_of m i) (codes " end"))
 marked m (Forks i) = ap (λ xs. slice_index_or xs 1 0) (reverse-append (head_label m i) (codes " forks"))

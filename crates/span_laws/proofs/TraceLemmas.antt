@@ -83,7 +83,7 @@ module _ (input : List Span) (asked : Option (List ℕ)) (entries : List ℕ) (c
   abbrev pub number : ℕ → ℕ
   number i = get_or h.are.numbers i 0
 
-  size : length h.are.numbers ≡ length calls
+  pub size : length h.are.numbers ≡ length calls
   size = sym (length-map h.are.numbers (span_at spans)) ∙ ap length (sym h.are.are.told) ∙ length-map calls (λ (c : Call). c.span.now)
 
   pub number_within : (i : ℕ) → i < length calls → number i < length spans
