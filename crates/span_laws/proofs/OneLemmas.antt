@@ -1,7 +1,6 @@
 -- Each span of the requests that are asked for starts and ends on one line.
-use Rattle.std.proofs.Common.{◌≡◌, ◌≢◌, ◌⊎◌, inl, inr, ⊎_elim, ℕ, zero, suc, ◌+◌, ◌^◌, ◌<◌, ◌≤◌, List, [], ◌∷◌, ◌++◌, Bool, true, false, length, map, filter, flat_map, Option, Some, None, IsSome, is_none, get_or, slice_get, refl, sym, ap, subst, ◌∙◌, arith, eqb-true, eq-eqb}
-use Rattle.std.specs.List.{All, AllPairs, Contains, range_with_len}
-use Rattle.std.proofs.lemmas.List.{get_or-map, length-map}
+use Rattle.std.proofs.Common.{◌≡◌, ◌⊎◌, inl, inr, ⊎_elim, ℕ, zero, suc, ◌+◌, ◌<◌, ◌≤◌, List, [], ◌∷◌, length, map, filter, flat_map, Option, Some, None, IsSome, is_none, get_or, slice_get, refl, sym, ap, subst, ◌∙◌, arith}
+use Rattle.std.specs.List.{range_with_len}
 use Rattle.std.proofs.lemmas.List.Folds.{flat_map-map}
 use Rattle.trace_types.specs.declared.event.Event.{Event}
 use Rattle.span_types.specs.declared.span.Span.{Span}
@@ -10,7 +9,7 @@ use Rattle.span_requests.specs.Faults.{HaveEntries}
 use Rattle.span_requests.specs.SpansOnce.{spans_once}
 use Rattle.span_calls.proofs.CallLemmas.{before_from}
 use Rattle.span_calls.specs.Calls.{AreBefore}
-use Rattle.span_calls.specs.Seen.{no_span, span_at}
+use Rattle.span_calls.specs.Seen.{span_at}
 use Rattle.span_calls.specs.declared.call.Call.{Call}
 use Rattle.call_laws.specs.CallLaws.{AreAskedFor, AreCallsOf, IsAskedFor}
 use Rattle.context_forks.specs.Forks.{callers_of}
@@ -22,13 +21,13 @@ use Rattle.span_lines.specs.Mappings.{Mapping, begins_thread, context_of}
 use Rattle.span_lines.specs.Messages.{call_span}
 use Rattle.span_lines.specs.Requests.{begins_request, name_of_request, request_calls, request_lines, request_size, request_starts}
 use Rattle.span_lines.specs.SpanLines.{AreRequestLines, mapping_of}
-use Rattle.span_laws.specs.LineLaws.{AreFew, AreToldOnce, Place, SpansAreToldOnce, end_place, is_end_line, is_start_line, place_of, start_place}
-use Rattle.span_laws.proofs.ApartLemmas.{Every, In, Once, Pairs, every_from_in, every_in, in_filter, in_flat, in_map, in_range, in_to_filter, in_to_flat, in_to_map, in_to_range, once_range, pairs_filter, pairs_flat, pairs_map, pairs_weaker}
+use Rattle.span_laws.specs.LineLaws.{AreFew, AreToldOnce, SpansAreToldOnce, end_place, is_end_line, is_start_line, place_of, start_place}
+use Rattle.span_laws.proofs.ApartLemmas.{In, Once, Pairs, every_from_in, every_in, in_filter, in_flat, in_map, in_range, in_to_filter, in_to_flat, in_to_map, in_to_range, once_range, pairs_filter, pairs_flat, pairs_map, pairs_weaker}
 use Rattle.span_laws.proofs.HeadLemmas.{flat_agree_in, same_or}
 use Rattle.span_laws.proofs.NamedLemmas.{map_flat, map_map}
 use Rattle.span_laws.proofs.RangeLemmas.{closed, has_caller}
 use Rattle.span_laws.proofs.RequestLemmas as request
-use Rattle.span_laws.proofs.SoundLemmas.{AllLaws, a_call, at_in, contains_in, in_contains, none_is}
+use Rattle.span_laws.proofs.SoundLemmas.{AllLaws, a_call, at_in, in_contains, none_is}
 use Rattle.span_laws.proofs.StampLemmas.{ends_of, starts_of}
 use Rattle.span_laws.proofs.ToldLemmas.{ends_flat, filtered_flat, starts_flat, thread_ends, thread_starts}
 use Rattle.span_laws.proofs.TraceLemmas as trace

@@ -1,19 +1,17 @@
 -- The lines at which spans start and end.
-use Rattle.std.proofs.Common.{◌≡◌, ◌≢◌, ◌⊎◌, inl, inr, ⊎_elim, ℕ, zero, suc, ◌+◌, ◌-◌, ◌<◌, ◌≤◌, List, [], ◌∷◌, ◌++◌, Bool, true, false, cond, codes, drop, take, reverse, length, map, filter, flat_map, Option, Some, None, get_or, refl, sym, ap, subst, ◌∙◌, arith}
-use Rattle.std.specs.Str.{bytes_eq}
-use Rattle.std.proofs.lemmas.List.{drop-append-le, length-append, map-append, reverse-append, take-append-drop}
+use Rattle.std.proofs.Common.{◌≡◌, ℕ, ◌-◌, List, [], ◌∷◌, ◌++◌, Bool, true, false, cond, codes, drop, take, reverse, length, map, filter, flat_map, Option, Some, get_or, refl, sym, ap, ◌∙◌, arith}
+use Rattle.std.proofs.lemmas.List.{length-append, map-append, reverse-append, take-append-drop}
 use Rattle.std.proofs.lemmas.List.Elements.{filter-append}
 use Rattle.std.proofs.lemmas.Slice.Eq.{bytes_eq-Decides}
 use Rattle.std.proofs.Math.Seq.{drop-append_seam}
-use Rattle.trace_types.specs.declared.event.Event.{Event}
 use Rattle.span_names.specs.declared.piece.Piece.{Piece}
 use Rattle.context_names.specs.Tasks.{task_name}
 use Rattle.thread_steps.specs.declared.step.Step.{Step}
 use Rattle.thread_steps.specs.declared.step.Step.TheVariants.{Starts, Ends, Forks, Joins}
-use Rattle.span_lines.specs.Lines.{event_of, line_of, lines_from, piece_after}
-use Rattle.span_lines.specs.Mappings.{Mapping, head_label, label_of}
+use Rattle.span_lines.specs.Lines.{event_of, line_of, lines_from}
+use Rattle.span_lines.specs.Mappings.{Mapping, label_of}
 use Rattle.span_lines.specs.Messages.{call_span}
-use Rattle.span_laws.specs.LineLaws.{Place, end_place, ends_with, is_end_line, is_start_line, place_of, start_place}
+use Rattle.span_laws.specs.LineLaws.{end_place, ends_with, is_end_line, is_start_line, place_of, start_place}
 use Rattle.span_laws.proofs.StampLemmas.{ends_of, marked, starts_of}
 
 unlike : (b : Bool) → (b ≡ true → ⊥) → b ≡ false
