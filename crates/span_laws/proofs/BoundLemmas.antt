@@ -4,6 +4,8 @@ use Rattle.std.specs.Prelude.{⊤}
 use Rattle.std.specs.List.{All}
 use Rattle.span_calls.specs.Calls.{AreBefore}
 use Rattle.span_calls.specs.declared.call.Call.{Call}
+use Rattle.std.proofs.lemmas.List.Elements.{All-cons}
+use Rattle.context_forks.proofs.PartnerLemmas.{last_after_is}
 use Rattle.context_forks.specs.Forks.{calls_below}
 use Rattle.context_forks.specs.Partners.{end_of, last_after, start_of}
 use Rattle.thread_steps.proofs.GapLemmas.{count-cons}
@@ -95,36 +97,36 @@ ends_once (Joins i r ∷ later) f = ends_once later (λ j h. let c = count-cons 
 
 -- ---- calls
 
--- P holds of each call that starts or ends in these steps
+-- P holds of the call of each of these steps
 abbrev pub Told : (ℕ → Type 0) → List Step → Type 0
 Told P [] = ⊤
 Told P (Starts i ∷ later) = P i × Told P later
 Told P (Ends i ∷ later) = P i × Told P later
-Told P (Forks i ∷ later) = Told P later
-Told P (Joins i r ∷ later) = Told P later
+Told P (Forks i ∷ later) = P i × Told P later
+Told P (Joins i r ∷ later) = P i × Told P later
 
 pub told_start : (P : ℕ → Type 0) (steps : List Step) → Told P steps → (i : ℕ) → In (starts_of steps) i → P i
 told_start P [] t i h = absurd h
 told_start P (Starts j ∷ later) t i (inl e) = subst P e t.0
 told_start P (Starts j ∷ later) t i (inr h) = told_start P later t.1 i h
 told_start P (Ends j ∷ later) t i h = told_start P later t.1 i h
-told_start P (Forks j ∷ later) t i h = told_start P later t i h
-told_start P (Joins j r ∷ later) t i h = told_start P later t i h
+told_start P (Forks j ∷ later) t i h = told_start P later t.1 i h
+told_start P (Joins j r ∷ later) t i h = told_start P later t.1 i h
 
 pub told_end : (P : ℕ → Type 0) (steps : List Step) → Told P steps → (i : ℕ) → In (ends_of steps) i → P i
 told_end P [] t i h = absurd h
 told_end P (Ends j ∷ later) t i (inl e) = subst P e t.0
 told_end P (Ends j ∷ later) t i (inr h) = told_end P later t.1 i h
 told_end P (Starts j ∷ later) t i h = told_end P later t.1 i h
-told_end P (Forks j ∷ later) t i h = told_end P later t i h
-told_end P (Joins j r ∷ later) t i h = told_end P later t i h
+told_end P (Forks j ∷ later) t i h = told_end P later t.1 i h
+told_end P (Joins j r ∷ later) t i h = told_end P later t.1 i h
 
 pub told_append : (P : ℕ → Type 0) (xs ys : List Step) → Told P xs → Told P ys → Told P (xs ++ ys)
 told_append P [] ys s t = t
 told_append P (Starts i ∷ xs) ys s t = (s.0, told_append P xs ys s.1 t)
 told_append P (Ends i ∷ xs) ys s t = (s.0, told_append P xs ys s.1 t)
-told_append P (Forks i ∷ xs) ys s t = told_append P xs ys s t
-told_append P (Joins i r ∷ xs) ys s t = told_append P xs ys s t
+told_append P (Forks i ∷ xs) ys s t = (s.0, told_append P xs ys s.1 t)
+told_append P (Joins i r ∷ xs) ys s t = (s.0, told_append P xs ys s.1 t)
 
 every_join : (P : ℕ → Type 0) (xs ys : List ℕ) → Every P xs → Every P ys → Every P (xs ++ ys)
 every_join P [] ys s t = t
@@ -133,6 +135,10 @@ every_join P (x ∷ xs) ys s t = (s.0, every_join P xs ys s.1 t)
 pub every_of_all : (P : ℕ → Type 0) (xs : List ℕ) → All P xs → Every P xs
 every_of_all P [] h = tt
 every_of_all P (x ∷ xs) h = (h 0 0 (omega arith), every_of_all P xs (λ k d l. h (suc k) d (omega (arith, l))))
+
+all_of_every : (P : ℕ → Type 0) (xs : List ℕ) → Every P xs → All P xs
+all_of_every P [] h = λ k d l. absurd (omega (arith, l))
+all_of_every P (x ∷ xs) h = All-cons P x xs h.0 (all_of_every P xs h.1)
 
 module _ (P : ℕ → Type 0) (calls : List Call) (grouping : Grouping) (numbers : List ℕ) where
   cut_told : (first : ℕ) (part : List ℕ) (end : ℕ) (later : List ℕ) → Every P part → Every P later → Every (λ (xs : List ℕ). Every P xs) (cut_from calls grouping first part end later)
@@ -156,7 +162,7 @@ module _ (P : ℕ → Type 0) (calls : List Call) (grouping : Grouping) (numbers
   part_told before later (i ∷ more) h = by (forks grouping i)
     where
       by : (b : Bool) → Told P (cond b (Forks i ∷ Joins (last_after calls i more) (piece_after calls grouping numbers before later i) ∷ []) (Starts i ∷ []))
-      by true = tt
+      by true = (h.0, (last_after_is calls P i more h.0 (all_of_every P more h.1), tt))
       by false = (h.0, tt)
 
   over_told : (before parts : List (List ℕ)) → Every (λ (xs : List ℕ). Every P xs) parts → Told P (steps_over calls grouping numbers before parts)
@@ -167,8 +173,8 @@ module _ (P : ℕ → Type 0) (calls : List Call) (grouping : Grouping) (numbers
   into_told within f [] h = tt
   into_told within f (Starts i ∷ steps) h = told_append P (within i) (flat_map (gone_into within) steps) (f i h.0) (into_told within f steps h.1)
   into_told within f (Ends i ∷ steps) h = (h.0, into_told within f steps h.1)
-  into_told within f (Forks i ∷ steps) h = into_told within f steps h
-  into_told within f (Joins i r ∷ steps) h = into_told within f steps h
+  into_told within f (Forks i ∷ steps) h = (h.0, into_told within f steps h.1)
+  into_told within f (Joins i r ∷ steps) h = (h.0, into_told within f steps h.1)
 
   pub steps_told : (below : List (List ℕ)) → ((i : ℕ) → P i → Every P (get_or below i [])) → (n i : ℕ) → P i → Told P (steps_within calls below grouping numbers n i)
   steps_told below f zero i h = tt

@@ -77,7 +77,7 @@ last_far_is calls i k lt e = far_is calls i k lt (last_in calls (far_calls calls
 -- ---- machines
 
 module _ (machines : MachineNames) (named : AreNamed machines.machines machines.names) (few : length machines.machines < 2 ^ 64) (differ : MachinesDiffer) where
-  place : (x : List ℕ) → list_any (bytes_eq x) machines.machines ≡ true
+  pub place : (x : List ℕ) → list_any (bytes_eq x) machines.machines ≡ true
       → (a : ℕ) × (a < length machines.machines) × (x ≡ get_or machines.machines a []) × (name_of machines x ≡ get_or machines.names a [])
   place x e =
       let q = position_some (bytes_eq x) machines.machines e in

@@ -2,6 +2,8 @@ pub mod ApartLemmas
 pub mod BoundLemmas
 pub mod EntryLemmas
 pub mod FarLemmas
+pub mod GoodLemmas
+pub mod GoodLineLemmas
 pub mod GroupLemmas
 pub mod HeadLemmas
 pub mod MessageLemmas
@@ -14,5 +16,6 @@ pub mod SentLemmas
 pub mod SizeLemmas
 pub mod SoundLemmas
 pub mod StampLemmas
+pub mod TextLemmas
 pub mod ToldLemmas
 pub mod TraceLemmas

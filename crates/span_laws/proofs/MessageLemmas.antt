@@ -129,7 +129,7 @@ steps_apart (Joins i r ∷ later) s e = (every_from_in (λ b. StepClash (Joins i
 -- ---- moments
 
 -- a moment within a caller, by how its time lies
-abbrev picked : (c call : Span) → ℕ → Bool → Bool → Moment
+abbrev pub picked : (c call : Span) → ℕ → Bool → Bool → Moment
 picked c call own before behind = cond before (moment_on c c.start) (cond behind (moment_on c c.end) (moment_on call own))
 
 picked_send : (c call : Span) (own : ℕ) (before behind : Bool) → (picked c call own before behind).send ≡ None
@@ -173,7 +173,7 @@ if_said_is (Some j) i k e = by (j == i) refl e
 if_said_self : (i : ℕ) → if_said (Some i) i ≡ Some i
 if_said_self i = ap (λ b. cond b (Some i) None) (eq-eqb i i refl)
 
-said_is : (far : List (Option ℕ)) (o : Option ℕ) (i k : ℕ) → said_by far o i ≡ Some k → (c : ℕ) × (o ≡ Some c) × (slice_index_or far c None ≡ Some i) × (k ≡ i)
+pub said_is : (far : List (Option ℕ)) (o : Option ℕ) (i k : ℕ) → said_by far o i ≡ Some k → (c : ℕ) × (o ≡ Some c) × (slice_index_or far c None ≡ Some i) × (k ≡ i)
 said_is far None i k e = let w : ◌≡◌ {A = Option ℕ} None (Some k) = e in cc
 said_is far (Some c) i k e = let p = if_said_is (slice_index_or far c None) i k e in (c, refl, p.0, p.1)
 

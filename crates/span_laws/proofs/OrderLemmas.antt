@@ -39,7 +39,7 @@ no_point (x ∷ a) (y ∷ b) t p e = no_point a b t p.1 (ap rest e)
     rest [] = []
     rest (z ∷ xs) = xs
 
-dotted : (a b : List ℕ) → a ++ codes "." ++ b ≡ a ++ 46 ∷ b
+pub dotted : (a b : List ℕ) → a ++ codes "." ++ b ≡ a ++ 46 ∷ b
 dotted a b = append_assoc a (codes ".") b
 
 -- ---- names

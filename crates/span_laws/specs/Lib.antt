@@ -1,1 +1,2 @@
+pub mod GoodLines
 pub mod LineLaws

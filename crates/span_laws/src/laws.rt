@@ -1,4 +1,5 @@
 //! Laws over the definitions alone: each function does nothing, and its contract is the law.
+ghost use Rattle.span_laws.specs.GoodLines.{LinesAreGood};
 ghost use Rattle.span_laws.specs.LineLaws.{RequestsAreSound, RequestsBeginWithEntries};
 ghost use Rattle.span_laws.specs.LineLaws.{RequestsHaveOwnNames, SoundLinesAreTaken};
 ghost use Rattle.span_laws.specs.LineLaws.{SpansAreToldOnce};
@@ -10,6 +11,7 @@ use call_laws::laws::{
 use context_names::laws::{
     groups_differ, labels_differ, machines_differ, numbers_are_few, tasks_differ,
 };
+use name_laws::laws::{events_are_good, machines_are_good, tasks_are_good};
 use thread_steps::laws::{
     calls_stand_with_callers, each_stands_once, no_other_stands, steps_differ,
 };
@@ -63,6 +65,29 @@ pub fn requests_begin_with_entries()
 pub fn spans_are_told_once()
     ensures { SpansAreToldOnce }
 {
+    labels_differ();
+    tasks_differ();
+    groups_differ();
+    machines_differ();
+    numbers_are_few();
+    steps_differ();
+    each_stands_once();
+    no_other_stands();
+    calls_stand_with_callers();
+    contexts_are_of_one_call();
+    groups_have_one_above();
+    inputs_have_calls();
+    spans_are_called_once();
+    calls_are_together();
+}
+
+/// Each line of spans as readers give them is one that an event line may be.
+pub fn lines_are_good()
+    ensures { LinesAreGood }
+{
+    events_are_good();
+    tasks_are_good();
+    machines_are_good();
     labels_differ();
     tasks_differ();
     groups_differ();
