@@ -163,7 +163,7 @@ fn are_worked(
     Ok(placed && forked)
 }
 
-// Two calls `y` run beside the first call `x`, and the second call `x` begins as the first one ends.
+// Two calls `y` run beside the first call `x`; the second call `x` begins as the first one ends.
 #[test]
 fn calls_that_overlap_are_forked(rt: HostRuntime) -> Result<(), AllocError> {
     let spans = all_made(
