@@ -1,1 +1,2 @@
+pub mod NestedCalls
 pub mod OwnTimes
