@@ -1,4 +1,5 @@
--- Where spans lie within one another on one machine, so do their calls. A statement that a law proves.
+-- Where spans lie within one another on one machine, so do their calls. A statement that a law
+-- proves.
 use Rattle.std.specs.Prelude.{ℕ, ◌≡◌, ◌<◌, ◌≤◌, ◌^◌, false, List, None, Option, Some, length}
 use Rattle.std.specs.Prelude.{slice_index_or}
 use Rattle.span_types.specs.declared.span.Span.{Span}
