@@ -1,10 +1,10 @@
 -- Calls to other machines.
-use Rattle.std.proofs.Common.{◌≡◌, ◌∙◌, ℕ, zero, suc, ◌+◌, ◌<◌, ◌≤◌, List, [], ◌∷◌, ◌++◌, All, Bool, true, false, cond, Option, Some, None, filter, length, get_or, take, slice_get, ltb, ap, sym, refl, subst, append-nil, arith}
+use Rattle.std.proofs.Common.{◌≡◌, ◌∙◌, ℕ, ◌+◌, ◌<◌, ◌≤◌, List, [], ◌∷◌, ◌++◌, Bool, true, false, cond, Option, Some, None, filter, length, get_or, take, slice_get, ap, sym, subst, append-nil, arith}
 use Rattle.std.specs.Prelude.{IfSome, nat_lt, if◌then◌else◌}
 use Rattle.std.proofs.lemmas.Bool.{le-ltb, lt-ltb}
 use Rattle.std.proofs.lemmas.List.Elements.{filter_more}
 use Rattle.span_calls.specs.declared.call.Call.{Call}
-use Rattle.context_forks.specs.Partners.{end_of, last_to_end, last_with}
+use Rattle.context_forks.specs.Partners.{end_of, last_with}
 use Rattle.context_forks.proofs.PartnerLemmas.{last_push}
 use Rattle.span_lines.specs.inner.FarCalls.{AreFar}
 use Rattle.span_lines.specs.declared.messages.FarCalls.{FarCalls}

@@ -13,12 +13,12 @@ ghost use Rattle.span_requests.specs.Faults.{IsFaultOf};
 ghost use Rattle.span_types.specs.declared.span.Span.{Span};
 
 use crate::SpanText;
+use crate::input_names::{InputNames, name_input};
 use crate::lent_mapping::LentMapping;
 use crate::messages::find_messages;
 use crate::naming::{ContextNames, make_names};
 use crate::placed_calls::PlacedCalls;
 use crate::printing::print_requests;
-use crate::input_names::{InputNames, name_input};
 use crate::threading::thread_contexts;
 use call_contexts::{find_contexts, order_contexts};
 use context_forks::calls_below;

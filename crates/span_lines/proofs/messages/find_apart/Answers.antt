@@ -1,8 +1,7 @@
-use Rattle.std.proofs.Common.{◌≡◌, ◌∙◌, ◌<◌, ◌+◌, Bool, refl, ℕ, Option, ap, get_or, length, subst, sym, All}
-use Rattle.std.specs.Prelude.{IfSome, Some}
+use Rattle.std.proofs.Common.{◌∙◌, ◌<◌, ◌+◌, Bool, refl, ℕ, Option, ap, get_or, length, subst, sym}
+use Rattle.std.specs.Prelude.{Some}
 use Rattle.std.proofs.lemmas.List.Elements.{All-get_or}
 use Rattle.span_calls.specs.Seen.{are_apart}
-use Rattle.context_forks.specs.Partners.{last_with}
 use Rattle.span_lines.specs.Messages.{call_span}
 use Rattle.span_lines.specs.declared.messages.FarCalls.{FarCalls}
 use Rattle.span_lines.proofs.FarLemmas.{AreFarTo, far_more, far_same}
