@@ -1,22 +1,24 @@
-ghost use Rattle.std.specs.Prelude.{◌≡◌, ◌<◌, All, length, IfOk};
-ghost use Rattle.context_names.specs.Scattering.{scattered, with_values};
+ghost use Rattle.std.specs.Prelude.{◌≡◌, ◌<◌, [], All, length, IfOk};
+ghost use Rattle.context_names.specs.Scattering.{scattered};
 
 use std::alloc::{AllocError, Global};
 
-/// Writes the values of numbers.
+/// Writes the values of numbers, from the last one on.
 fn write_values(all: &mut [usize], numbers: &[usize], values: &[usize])
     requires same { length values.now ≡ length numbers.now }
     requires within { All (λ n. n < length all.old) numbers.now }
-    ensures { all.new ≡ with_values all.old numbers.now values.now }
+    requires none { all.old ≡ scattered (length all.old) [] [] }
+    ensures { all.new ≡ scattered (length all.old) numbers.now values.now }
 {
-    for at in 0..numbers.len() {
+    for left in 0..numbers.len() {
+        let at = numbers.len() - 1 - left;
         all[numbers[at]] = values[at];
     }
 }
 
 /// Gives the value of each number below a bound, where these numbers have these values, and any
-/// other 0. The only error is out of memory.
-pub fn scatter(
+/// other 0; of a number that comes twice the first counts. The only error is out of memory.
+pub(crate) fn scatter(
     alloc: Global,
     numbers: &[usize],
     values: &[usize],

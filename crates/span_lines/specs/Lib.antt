@@ -1,5 +1,9 @@
+pub mod FoldedSpans
 pub mod Lines
+pub mod Mappings
 pub mod Messages
-pub mod Parts
+pub mod Moments
+pub mod Requests
 pub mod SpanLines
-pub mod Steps
+pub mod SpanTexts
+pub mod inner

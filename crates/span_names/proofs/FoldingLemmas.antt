@@ -1,12 +1,11 @@
 -- Names that are folded, character by character.
-use Rattle.std.proofs.Common.{◌≡◌, ℕ, ◌+◌, ◌*◌, ◌/◌, ◌%◌, ◌<◌, ◌≤◌, ◌⊎◌, inl, inr, List, [], ◌∷◌, ◌++◌, Bool, true, false, cond, ltb, eqb, drop, length, get_or, refl, sym, ap, ◌∙◌, arith, append-nil, append_assoc}
-use Rattle.std.specs.Prelude.{if◌then◌else◌}
+use Rattle.std.proofs.Common.{◌≡◌, ℕ, ◌+◌, ◌/◌, ◌%◌, ◌<◌, ◌≤◌, ◌⊎◌, inl, inr, List, [], ◌∷◌, ◌++◌, Bool, true, false, cond, ltb, eqb, drop, length, get_or, refl, sym, ap, ◌∙◌, arith, append_assoc}
 use Rattle.std.specs.Char.{encode_utf8}
 use Rattle.std.proofs.lemmas.Bool.{cases_lt, false≢true, le-ltb, ne_eqb}
 use Rattle.std.proofs.lemmas.List.{drop_all, drop_more}
 use Rattle.std.proofs.lemmas.Str.{encode_ascii}
 use lib.Utf8.{encodes}
-use Rattle.span_names.specs.Folding.{folded_from, folded_name, folded_word, is_between}
+use Rattle.span_names.specs.Folding.{folded_from, folded_word, is_between}
 
 within : (b : ℕ) → 128 ≤ b → is_between b ≡ false
 within b h = let p : eqb b 32 ≡ false = ne_eqb b 32 (λ e. omega (arith, e, h)) in let q : eqb b 47 ≡ false = ne_eqb b 47 (λ e. omega (arith, e, h)) in rw (p, q) refl

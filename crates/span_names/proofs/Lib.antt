@@ -3,3 +3,4 @@ pub mod CutLemmas
 pub mod NumberedLemmas
 pub mod FoldingLemmas
 pub mod EscapeLemmas
+pub mod NumberingLemmas

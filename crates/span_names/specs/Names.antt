@@ -1,6 +1,6 @@
 -- The names that spans give to tasks, events and machines.
 use Rattle.std.specs.Prelude.{ℕ, ◌==◌, ◌+◌, ◌/◌, ◌%◌, ◌&&◌, ◌||◌, ◌++◌, List, [], ◌∷◌}
-use Rattle.std.specs.Prelude.{Bool, true, false, not, Option, Some, None, codes, decimal, length}
+use Rattle.std.specs.Prelude.{Bool, false, not, Option, Some, None, codes, decimal, length}
 use Rattle.std.specs.Prelude.{nat_lt, take, drop, if◌then◌else◌}
 use Rattle.std.specs.Char.{is_ascii_digit}
 use Rattle.std.specs.List.{flat_map, list_all, position_or_len}

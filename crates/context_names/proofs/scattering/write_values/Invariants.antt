@@ -1,10 +1,10 @@
-use Rattle.std.proofs.Common.{◌≡◌, drop, length}
-use Rattle.context_names.specs.Scattering.{with_values}
+use Rattle.std.proofs.Common.{◌≡◌, ◌-◌, drop, length}
+use Rattle.context_names.specs.Scattering.{scattered}
 use Rattle.context_names.proofs.scattering.write_values.Given as goal
 
--- the values so far are written
-abbrev pub invariant-loop-at : goal.invariant-loop-at
-invariant-loop-at l = record {
+-- the values of the last numbers so far are written
+abbrev pub invariant-loop-left : goal.invariant-loop-left
+invariant-loop-left l = record {
   size : length l.all ≡ length l.initial.all;
-  left : with_values l.initial.all l.numbers l.values ≡ with_values l.all (drop l.at l.numbers) (drop l.at l.values);
+  written : l.all ≡ scattered (length l.initial.all) (drop (length l.numbers - l.left) l.numbers) (drop (length l.numbers - l.left) l.values);
 }

@@ -1,6 +1,6 @@
-use Rattle.std.proofs.Common.{◌≡◌, ◌∙◌, ◌++◌, List, ℕ, false, ap, sym}
+use Rattle.std.proofs.Common.{◌∙◌, ◌++◌, List, ℕ, ap, sym}
 use Rattle.std.specs.Prelude.{string_bytes}
-use Rattle.span_names.specs.Folding.{folded_from, is_between}
+use Rattle.span_names.specs.Folding.{folded_from}
 use Rattle.span_names.proofs.FoldingLemmas.{in_word}
 use Rattle.span_names.proofs.folding.take_character.Goals as goal
 

@@ -1,0 +1,5 @@
+pub mod CutLemmas
+pub mod GapLemmas
+pub mod RowLemmas
+pub mod TableLemmas
+pub mod ThreadLemmas
