@@ -48,22 +48,27 @@ module _ (calls : List Call) (grace : ℕ) (numbers : List ℕ) where
 abbrev pub BothAre : (ℕ → Type 0) → (ℕ × ℕ) → Type 0
 BothAre P p = P p.0 × P p.1
 
+-- what holds of the pairs of each caller holds of all pairs
+pub lists_are : (calls : List Call) (grace : ℕ) (T : (ℕ × ℕ) → Type 0) (below : List (List ℕ)) → All (λ (xs : List ℕ). All T (pairs_after calls grace [] xs)) below → All T (pairs_of calls grace below)
+lists_are calls grace T [] h = All-nil T
+lists_are calls grace T (xs ∷ below) h =
+    All-append T (pairs_after calls grace [] xs) (pairs_of calls grace below) (All-head (λ (ys : List ℕ). All T (pairs_after calls grace [] ys)) xs below h)
+    (lists_are calls grace T below (All-tail (λ (ys : List ℕ). All T (pairs_after calls grace [] ys)) xs below h))
+
 module _ (calls : List Call) (grace : ℕ) (P : ℕ → Type 0) where
   pair_are : (o : Option ℕ) (i : ℕ) → IfSome o P → P i → All (BothAre P) (pair_of o i)
   pair_are None i h q = All-nil (BothAre P)
   pair_are (Some j) i h q = All-cons (BothAre P) (j, i) [] (h, q) (All-nil (BothAre P))
 
-  after_are : (earlier later : List ℕ) → All P earlier → All P later → All (BothAre P) (pairs_after calls grace earlier later)
+  -- the pairs of calls that pass do so
+  pub after_are : (earlier later : List ℕ) → All P earlier → All P later → All (BothAre P) (pairs_after calls grace earlier later)
   after_are earlier [] h k = All-nil (BothAre P)
   after_are earlier (i ∷ later) h k =
-      All-append (BothAre P) (pair_of (partner calls grace earlier i) i) (pairs_after calls grace (earlier ++ i ∷ []) later) (pair_are (partner calls grace earlier i) i (partner_within calls P grace earlier i h) (All-head P i later k))
-      (after_are (earlier ++ i ∷ []) later (All-push P earlier i h (All-head P i later k)) (All-tail P i later k))
+      All-append (BothAre P) (pair_of (partner calls grace earlier i) i) (pairs_after calls grace (earlier ++ i ∷ []) later)
+      (pair_are (partner calls grace earlier i) i (partner_within calls P grace earlier i h) (All-head P i later k)) (after_are (earlier ++ i ∷ []) later (All-push P earlier i h (All-head P i later k)) (All-tail P i later k))
 
   pub pairs_are : (below : List (List ℕ)) → All (λ (xs : List ℕ). All P xs) below → All (BothAre P) (pairs_of calls grace below)
-  pairs_are [] h = All-nil (BothAre P)
-  pairs_are (xs ∷ below) h =
-      All-append (BothAre P) (pairs_after calls grace [] xs) (pairs_of calls grace below) (after_are [] xs (All-nil P) (All-head (λ (ys : List ℕ). All P ys) xs below h))
-      (pairs_are below (All-tail (λ (ys : List ℕ). All P ys) xs below h))
+  pairs_are below h = lists_are calls grace (BothAre P) below (All-weaker (λ (xs : List ℕ). All P xs) (λ (xs : List ℕ). All (BothAre P) (pairs_after calls grace [] xs)) (λ (xs : List ℕ) (k : All P xs). after_are [] xs (All-nil P) k) below h)
 
 -- linked contexts are within
 pub contexts_within : (calls : List Call) (grace : ℕ) (numbers : List ℕ) (count : ℕ) → StartInOrder calls → length numbers ≡ length calls → All (λ n. n < count) numbers

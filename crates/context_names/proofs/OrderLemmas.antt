@@ -44,13 +44,13 @@ module _ (below : List (List ℕ)) where
 -- ---- contexts in order
 
 module _ (contexts : List Frame) (order : List ℕ) (below : List (List ℕ)) (h : AreOrdered contexts order below) where
-  above_length : length (all_above contexts) ≡ length contexts
+  pub above_length : length (all_above contexts) ≡ length contexts
   above_length = length-map contexts (λ (f : Frame). f.above)
 
   pub below_length : length below ≡ length contexts
   below_length = ap length h.lists ∙ groups_length (all_above contexts) h.titled ∙ above_length
 
-  titled_within : All (λ j. j < length contexts) h.titled
+  pub titled_within : All (λ j. j < length contexts) h.titled
   titled_within = order_within title_cmp (map title_of contexts) h.titled (length contexts) (sym (length-map contexts title_of)) h.rise
 
   pub below_low : AreBelow (length contexts) below
@@ -67,7 +67,7 @@ module _ (contexts : List Frame) (order : List ℕ) (below : List (List ℕ)) (h
       (in-filter (λ j. is_number a (get_or (all_above contexts) j None)) h.titled x (titled_all x lt) (ap (is_number a) e ∙ eq-eqb a a refl))
 
   module _ (before : HaveAbove contexts) where
-    above_less : (x a : ℕ) → get_or (all_above contexts) x None ≡ Some a → x < length contexts → a < x
+    pub above_less : (x a : ℕ) → get_or (all_above contexts) x None ≡ Some a → x < length contexts → a < x
     above_less x a e lt = by (slice_get contexts x) refl
       where
         none_some : {y : Frame} → None ≡ Some y → ⊥

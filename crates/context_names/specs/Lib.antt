@@ -1,6 +1,7 @@
 pub mod Bases
 pub mod Labels
 pub mod Machines
+pub mod NameLaws
 pub mod Numbers
 pub mod Pieces
 pub mod Scattering

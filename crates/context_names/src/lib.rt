@@ -4,6 +4,7 @@
 mod bases;
 mod label_key;
 mod labels;
+pub mod laws;
 mod machines;
 mod numbers;
 mod pieces;

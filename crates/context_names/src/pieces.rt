@@ -1,13 +1,13 @@
 ghost use Rattle.std.specs.Prelude.{◌≡◌, ◌<◌, ◌+◌, ◌++◌, ◌∷◌, [], All, List, ℕ, false, true, length, map};
-ghost use Rattle.std.specs.Prelude.{if◌then◌else◌, nat_eq, slice_get, slice_index, slice_index_or, slice_set};
-ghost use Rattle.std.specs.Prelude.{replicate, Some, IfOk, IfSome, OnOk};
+ghost use Rattle.std.specs.Prelude.{if◌then◌else◌, nat_eq, slice_index, slice_index_or, slice_set};
+ghost use Rattle.std.specs.Prelude.{replicate, IfOk, IfSome, OnOk};
 ghost use Rattle.trace_types.specs.Firsts.{firsts_of};
 ghost use Rattle.call_trees.specs.Ordinals.{ordinals_of};
 ghost use Rattle.call_contexts.specs.ContextOrder.{AreOrdered};
 ghost use Rattle.call_contexts.specs.Contexts.{Frame, HaveAbove, frames_of};
 ghost use Rattle.context_names.specs.Bases.{frame_of_number};
 ghost use Rattle.context_names.specs.Pieces.{AreNumbered, are_of_one_group, forked_among};
-ghost use Rattle.context_names.specs.Pieces.{forked_in_order, head_numbers, heads, heads_by_group};
+ghost use Rattle.context_names.specs.Pieces.{forked_in_order, heads, heads_by_group};
 ghost use Rattle.context_names.specs.Pieces.{numbers_by_group, thread_above};
 ghost use Rattle.context_names.specs.Scattering.{scattered};
 ghost use Rattle.context_names.specs.inner.Groups.{AreBelow};

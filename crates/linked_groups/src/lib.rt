@@ -2,5 +2,6 @@
 #![tactic(auto)]
 
 mod groups;
+pub mod laws;
 
 pub use groups::find_groups;

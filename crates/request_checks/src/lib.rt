@@ -5,3 +5,5 @@
 mod names;
 #[cfg(test)]
 mod requests;
+#[cfg(test)]
+mod rows;

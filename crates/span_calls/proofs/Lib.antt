@@ -4,3 +4,4 @@ pub mod PlaceLemmas
 pub mod RiseLemmas
 pub mod SeenLemmas
 pub mod ShallowLemmas
+pub mod UnderLemmas

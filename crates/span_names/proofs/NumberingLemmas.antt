@@ -9,7 +9,7 @@ use Rattle.std.proofs.lemmas.List.{drop_at, length-append, take_at}
 use Rattle.std.proofs.lemmas.List.Folds.{list_any-append}
 use Rattle.task_pieces.specs.PieceNames.{is_number_sign}
 use Rattle.trace_types.proofs.DecimalLemmas.{decimal_numerals}
-use Rattle.span_names.specs.NameLaws.{HaveSize, NumberingIsOneToOne}
+use Rattle.span_names.specs.NameLaws.{HasSize, NumberingIsOneToOne}
 use Rattle.span_names.specs.Names.{are_parts_at, gap_text, is_number, is_numbering, is_piece, looks_numbered, piece_text, place_of, stands_alone}
 use Rattle.span_names.specs.declared.piece.Piece.{Piece}
 
@@ -84,29 +84,25 @@ gap_once None (Some n) p q same = absurd (none_some same)
 gap_once (Some m) None p q same = absurd (none_some (sym same))
 gap_once (Some m) (Some n) p q same = ap (λ k. Some k) (decimal_injective m n p q (rest_same same))
 
-piece_once : (p q : Option Piece) (m n : ℕ) → HaveSize m p → HaveSize n q → piece_text p ≡ piece_text q → p ≡ q
-piece_once None None m n g h same = refl
-piece_once None (Some r) m n g h same = absurd (none_some same)
-piece_once (Some r) None m n g h same = absurd (none_some (sym same))
-piece_once (Some r) (Some s) m n g h same =
-    let one = split_digits (decimal r.number) (decimal s.number) (gap_text r.gap) (gap_text s.gap) (digits_of r.number g.1) (digits_of s.number h.1) (gap_ends r.gap) (gap_ends s.gap) (rest_same same) in
-    let number = decimal_injective r.number s.number g.1 h.1 one.0 in
-    let gap = gap_once r.gap s.gap g.2 h.2 one.1 in
+piece_once : (p q : Option Piece) → HasSize p → HasSize q → piece_text p ≡ piece_text q → p ≡ q
+piece_once None None g h same = refl
+piece_once None (Some r) g h same = absurd (none_some same)
+piece_once (Some r) None g h same = absurd (none_some (sym same))
+piece_once (Some r) (Some s) g h same =
+    let one = split_digits (decimal r.number) (decimal s.number) (gap_text r.gap) (gap_text s.gap) (digits_of r.number g.0) (digits_of s.number h.0) (gap_ends r.gap) (gap_ends s.gap) (rest_same same) in
+    let number = decimal_injective r.number s.number g.0 h.0 one.0 in
+    let gap = gap_once r.gap s.gap g.1 h.1 one.1 in
     λ i. Some record { number = number i; gap = gap i }
-
-size_of : (m : ℕ) (p : Option Piece) → HaveSize m p → m < 2 ^ 64
-size_of m None h = h
-size_of m (Some piece) h = h.0
 
 -- ---- what follows a number sign
 
 abbrev numbering : ℕ → Option Piece → List ℕ
 numbering m p = decimal m ++ piece_text p
 
-numbering_once : (m n : ℕ) (p q : Option Piece) → HaveSize m p → HaveSize n q → numbering m p ≡ numbering n q → (m ≡ n) × (p ≡ q)
-numbering_once m n p q g h same =
-    let one = split_digits (decimal m) (decimal n) (piece_text p) (piece_text q) (digits_of m (size_of m p g)) (digits_of n (size_of n q h)) (piece_ends p) (piece_ends q) same in
-    (decimal_injective m n (size_of m p g) (size_of n q h) one.0, piece_once p q m n g h one.1)
+numbering_once : (m n : ℕ) (p q : Option Piece) → m < 2 ^ 64 → n < 2 ^ 64 → HasSize p → HasSize q → numbering m p ≡ numbering n q → (m ≡ n) × (p ≡ q)
+numbering_once m n p q k l g h same =
+    let one = split_digits (decimal m) (decimal n) (piece_text p) (piece_text q) (digits_of m k) (digits_of n l) (piece_ends p) (piece_ends q) same in
+    (decimal_injective m n k l one.0, piece_once p q g h one.1)
 
 abbrev HasNoSign : List ℕ → Type 0
 HasNoSign text = list_any is_number_sign text ≡ false
@@ -125,12 +121,12 @@ no_sign_gap : (gap : Option ℕ) → IfSome gap (λ n. n < 2 ^ 64) → HasNoSign
 no_sign_gap None h = refl
 no_sign_gap (Some g) h = no_sign_digits (decimal g) (digits_of g h)
 
-no_sign_piece : (m : ℕ) (p : Option Piece) → HaveSize m p → HasNoSign (piece_text p)
-no_sign_piece m None h = refl
-no_sign_piece m (Some piece) h = no_sign_both (decimal piece.number) (gap_text piece.gap) (no_sign_digits (decimal piece.number) (digits_of piece.number h.1)) (no_sign_gap piece.gap h.2)
+no_sign_piece : (p : Option Piece) → HasSize p → HasNoSign (piece_text p)
+no_sign_piece None h = refl
+no_sign_piece (Some piece) h = no_sign_both (decimal piece.number) (gap_text piece.gap) (no_sign_digits (decimal piece.number) (digits_of piece.number h.0)) (no_sign_gap piece.gap h.1)
 
-no_sign : (m : ℕ) (p : Option Piece) → HaveSize m p → HasNoSign (numbering m p)
-no_sign m p h = no_sign_both (decimal m) (piece_text p) (no_sign_digits (decimal m) (digits_of m (size_of m p h))) (no_sign_piece m p h)
+no_sign : (m : ℕ) (p : Option Piece) → m < 2 ^ 64 → HasSize p → HasNoSign (numbering m p)
+no_sign m p k h = no_sign_both (decimal m) (piece_text p) (no_sign_digits (decimal m) (digits_of m k)) (no_sign_piece p h)
 
 sign_there : (x y : List ℕ) → list_any is_number_sign (x ++ 35 ∷ y) ≡ true
 sign_there [] y = refl
@@ -174,12 +170,12 @@ is_piece-text piece h g = by piece.gap g
         or_right (is_number (decimal piece.number ++ 46 ∷ decimal n)) (are_parts_at (place_of 46 (decimal piece.number ++ 46 ∷ decimal n)) is_number is_number (decimal piece.number ++ 46 ∷ decimal n))
         (parts_of 46 (decimal piece.number) (decimal n) is_number refl (digits_of piece.number h) (is_number-decimal piece.number h) (is_number-decimal n g))
 
-is_numbering-text : (m : ℕ) (p : Option Piece) → HaveSize m p → is_numbering (numbering m p) ≡ true
-is_numbering-text m None h = ap is_numbering (append-nil (decimal m)) ∙ ap (λ b. b || are_parts_at (place_of 47 (decimal m)) is_number is_piece (decimal m)) (is_number-decimal m h)
-is_numbering-text m (Some piece) h =
+is_numbering-text : (m : ℕ) (p : Option Piece) → m < 2 ^ 64 → HasSize p → is_numbering (numbering m p) ≡ true
+is_numbering-text m None k h = ap is_numbering (append-nil (decimal m)) ∙ ap (λ b. b || are_parts_at (place_of 47 (decimal m)) is_number is_piece (decimal m)) (is_number-decimal m k)
+is_numbering-text m (Some piece) k h =
     or_right (is_number (decimal m ++ 47 ∷ (decimal piece.number ++ gap_text piece.gap)))
     (are_parts_at (place_of 47 (decimal m ++ 47 ∷ (decimal piece.number ++ gap_text piece.gap))) is_number is_piece (decimal m ++ 47 ∷ (decimal piece.number ++ gap_text piece.gap)))
-    (parts_of 47 (decimal m) (decimal piece.number ++ gap_text piece.gap) is_piece refl (digits_of m h.0) (is_number-decimal m h.0) (is_piece-text piece h.1 h.2))
+    (parts_of 47 (decimal m) (decimal piece.number ++ gap_text piece.gap) is_piece refl (digits_of m k) (is_number-decimal m k) (is_piece-text piece h.0 h.1))
 
 looks : (base x : List ℕ) → is_numbering x ≡ true → looks_numbered (base ++ 35 ∷ x) ≡ true
 looks [] x h = ap (λ b. b || looks_numbered x) h
@@ -199,19 +195,19 @@ behind_sign : (base : List ℕ) (m : ℕ) (p : Option Piece) → base ++ codes "
 behind_sign base m p = append_assoc (base ++ codes "#") (decimal m) (piece_text p) ∙ append_assoc base (codes "#") (decimal m ++ piece_text p)
 
 pub numbered_once : NumberingIsOneToOne
-numbered_once base other m n p q g h same = by (stands_alone base m p) (stands_alone other n q) refl refl same
+numbered_once base other m n p q k l g h same = by (stands_alone base m p) (stands_alone other n q) refl refl same
   where
     Form : List ℕ → ℕ → Option Piece → Bool → List ℕ
-    Form b k r x = cond x b (b ++ codes "#" ++ decimal k ++ piece_text r)
+    Form b i r x = cond x b (b ++ codes "#" ++ decimal i ++ piece_text r)
 
-    clash : (b c : List ℕ) (k : ℕ) (r : Option Piece) → HaveSize k r → looks_numbered b ≡ false → b ≡ c ++ codes "#" ++ decimal k ++ piece_text r → ⊥
-    clash b c k r size plain e = true≢false (sym (looks c (numbering k r) (is_numbering-text k r size)) ∙ ap looks_numbered (sym (e ∙ behind_sign c k r)) ∙ plain)
+    clash : (b c : List ℕ) (i : ℕ) (r : Option Piece) → i < 2 ^ 64 → HasSize r → looks_numbered b ≡ false → b ≡ c ++ codes "#" ++ decimal i ++ piece_text r → ⊥
+    clash b c i r low size plain e = true≢false (sym (looks c (numbering i r) (is_numbering-text i r low size)) ∙ ap looks_numbered (sym (e ∙ behind_sign c i r)) ∙ plain)
 
     by : (x y : Bool) → stands_alone base m p ≡ x → stands_alone other n q ≡ y → Form base m p x ≡ Form other n q y → (base ≡ other) × (m ≡ n) × (p ≡ q)
     by true true e f s = let one = alone base m p e in let two = alone other n q f in (s, one.1 ∙ sym two.1, one.0 ∙ sym two.0)
-    by true false e f s = absurd (clash base other n q h (alone base m p e).2 s)
-    by false true e f s = absurd (clash other base m p g (alone other n q f).2 (sym s))
+    by true false e f s = absurd (clash base other n q l h (alone base m p e).2 s)
+    by false true e f s = absurd (clash other base m p k g (alone other n q f).2 (sym s))
     by false false e f s =
-        let one = split_sign base other (numbering m p) (numbering n q) (no_sign m p g) (no_sign n q h) (sym (behind_sign base m p) ∙ s ∙ behind_sign other n q) in
-        let two = numbering_once m n p q g h one.1 in
+        let one = split_sign base other (numbering m p) (numbering n q) (no_sign m p k g) (no_sign n q l h) (sym (behind_sign base m p) ∙ s ∙ behind_sign other n q) in
+        let two = numbering_once m n p q k l g h one.1 in
         (one.0, two.0, two.1)

@@ -7,14 +7,13 @@ use Rattle.span_names.specs.declared.piece.Piece.{Piece}
 abbrev pub EscapingIsOneToOne : Type 0
 EscapingIsOneToOne = (first second : List ℕ) → escaped first ≡ escaped second → first ≡ second
 
--- the number of a name and those of its piece have 64 bits
-abbrev pub HaveSize : ℕ → Option Piece → Type 0
-HaveSize number None = number < 2 ^ 64
-HaveSize number (Some piece) = (number < 2 ^ 64)
-    × (piece.number < 2 ^ 64) × IfSome piece.gap (λ gap. gap < 2 ^ 64)
+-- the numbers of a piece have 64 bits
+abbrev pub HasSize : Option Piece → Type 0
+HasSize None = Unit {0}
+HasSize (Some piece) = (piece.number < 2 ^ 64) × IfSome piece.gap (λ gap. gap < 2 ^ 64)
 
 -- a name tells its base, its number and its piece
 abbrev pub NumberingIsOneToOne : Type 0
 NumberingIsOneToOne = (base other : List ℕ) (m n : ℕ) (p q : Option Piece)
-    → HaveSize m p → HaveSize n q → numbered base m p ≡ numbered other n q
+    → m < 2 ^ 64 → n < 2 ^ 64 → HasSize p → HasSize q → numbered base m p ≡ numbered other n q
     → (base ≡ other) × (m ≡ n) × (p ≡ q)

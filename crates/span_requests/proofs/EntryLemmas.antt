@@ -1,7 +1,7 @@
 -- Entries by their keys.
 use Rattle.std.proofs.Common.{◌≡◌, ℕ, zero, suc, ◌+◌, ◌<◌, ◌≤◌, List, [], ◌∷◌, ◌++◌, All, Bool, true, false, cond, filter, length, get_or, map, take, slice_get, Option, Some, None, Bor, refl, sym, ap, ◌∙◌, subst, arith, ◌≢◌, true≢false}
 use Rattle.std.specs.Prelude.{is_none, not, is_some, IsPermutation, IsSorted}
-use Rattle.std.specs.List.{AllPairs, position_or_len, range_with_len}
+use Rattle.std.specs.List.{AllPairs, Contains, position_or_len, range_with_len}
 use Rattle.std.specs.Cmp.Lexicographic.{slice_cmp}
 use Rattle.std.specs.Ordering.{bool_cmp, is_lt, nat_cmp, ordering_then}
 use Rattle.std.specs.Str.{bytes_eq}
@@ -12,7 +12,7 @@ use Rattle.std.proofs.lemmas.Simd.{map-map}
 use Rattle.std.proofs.lemmas.List.Elements.{All-filter, All-from_get_or, All-get_or, All-map, All-push, All-weaker, filter-append, filter_passes}
 use Rattle.std.proofs.lemmas.List.FromFn.{get_or-range_with_len, length-range_with_len}
 use Rattle.std.proofs.lemmas.List.Kept.{AllPairs-filter}
-use Rattle.std.proofs.lemmas.List.Sorted.{All-permutation, IsPermutation-map}
+use Rattle.std.proofs.lemmas.List.Sorted.{All-permutation, Contains-permutation, IsPermutation-map}
 use Rattle.std.proofs.lemmas.Option.{slice_get-get_or}
 use Rattle.std.proofs.Math.Seq.{take-length}
 use Rattle.span_types.specs.declared.span.Span.{Span}
@@ -24,6 +24,7 @@ use Rattle.span_requests.specs.declared.entry_key.EntryKey.{EntryKey}
 use Rattle.span_requests.specs.inner.EntryKeys.{AreKeys, IsKeyOf, entry_numbers, indexes_of}
 use Rattle.span_requests.specs.inner.Ids.{lent_spans}
 use Rattle.span_requests.specs.inner.Numbering.{caller_number, caller_numbers}
+use Rattle.span_requests.proofs.ContainsLemmas.{contains_filter, contains_range}
 use Rattle.span_requests.proofs.ApartLemmas.{apart_from_rising, apart_permutation, range_rises}
 use Rattle.span_requests.proofs.CallerLemmas.{is_none-position, lent_size}
 use Rattle.span_requests.proofs.ListLemmas.{is_none-find, some_inj}
@@ -152,6 +153,9 @@ module _ (spans : List Span) (callers : List (Option ℕ)) (keys order : List En
         (subst (All (λ e. get_or callers e None ≡ None)) (sym indexes) (All-weaker (λ i. is_none (get_or callers i None) ≡ true) (λ e. get_or callers e None ≡ None) (λ e h. none_from (get_or callers e None) h) (entry_numbers callers (length spans)) (filter_passes (λ i. is_none (get_or callers i None)) (range_with_len 0 (length spans)))));
     apart = apart_permutation (indexes_of keys) (indexes_of order) moved_indexes
         (subst (AllPairs (λ d e. d ≢ e)) (sym indexes) (apart_from_rising (entry_numbers callers (length spans)) (AllPairs-filter (λ i j. i < j) (λ i. is_none (get_or callers i None)) (range_with_len 0 (length spans)) (range_rises (length spans)))));
+    all = λ e lt none. Contains-permutation (indexes_of keys) (indexes_of order) e moved_indexes
+        (subst (λ (ns : List ℕ). Contains ns e) (sym indexes) (contains_filter (λ i. is_none (get_or callers i None)) (range_with_len 0 (length spans)) e
+        (contains_range (length spans) e (omega (arith, lt, ap length are, length-map spans (caller_number spans)))) (ap is_none none)));
   }
     where
       moved_indexes : IsPermutation (indexes_of keys) (indexes_of order)

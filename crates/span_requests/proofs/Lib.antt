@@ -1,6 +1,7 @@
 pub mod ApartLemmas
 pub mod CallerLemmas
 pub mod CircleLemmas
+pub mod ContainsLemmas
 pub mod FirstLemmas
 pub mod ListLemmas
 pub mod NumberingLemmas

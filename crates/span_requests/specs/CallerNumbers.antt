@@ -1,5 +1,5 @@
 -- Callers by number.
-use Rattle.std.specs.Prelude.{ℕ, zero, suc, ◌≡◌, ◌≢◌, ◌<◌, List, All, Option, Some, None, length, slice_index_or}
+use Rattle.std.specs.Prelude.{ℕ, zero, suc, ◌≡◌, ◌≢◌, ◌<◌, List, All, Contains, Option, Some, None, length, slice_index_or}
 use Rattle.std.specs.List.{AllPairs}
 use Rattle.std.specs.Option.{option_and_then}
 
@@ -19,7 +19,9 @@ abbrev pub HaveLastCallers : List (Option ℕ) → Type 0
 HaveLastCallers callers =
     (k : ℕ) → k < length callers → number_above callers (length callers) k ≡ None
 
--- these are spans that no span calls, each once
+-- these are the spans that no span calls, each once
 pub record AreRoots (callers : List (Option ℕ)) (entries : List ℕ) : Type 0 where
   pub first : All (λ e. slice_index_or callers e None ≡ None) entries
   pub apart : AllPairs (λ d e. d ≢ e) entries
+  pub all : (e : ℕ) → e < length callers → slice_index_or callers e None ≡ None
+      → Contains entries e

@@ -1,0 +1,6 @@
+pub mod ContextLemmas
+pub mod OnceLemmas
+pub mod OrderLemmas
+pub mod OverlapLemmas
+pub mod RootLemmas
+pub mod TogetherLemmas
