@@ -1,5 +1,6 @@
 -- Which of its group each part is.
-use Rattle.std.proofs.Common.{◌≡◌, ℕ, zero, suc, ◌+◌, ◌-◌, ◌<◌, ◌≤◌, List, [], ◌∷◌, ◌++◌, Bool, true, false, cond, ◌||◌, Option, Some, None, length, get_or, nat_eq, drop, reverse, take, refl, sym, ap, ◌∙◌, append-nil, append_assoc, arith}
+use Rattle.std.proofs.Common.{◌≡◌, ℕ, zero, suc, ◌+◌, ◌-◌, ◌<◌, ◌≤◌, List, [], ◌∷◌, ◌++◌, Bool, true, false, cond, ◌||◌, Option, Some, None, length, get_or, nat_eq, drop, replicate, reverse, take, refl, sym, ap, ◌∙◌, append-nil, append_assoc, arith}
+use Rattle.std.specs.Prelude.{is_some}
 use Rattle.std.specs.List.{count_by, list_any}
 use Rattle.std.specs.Option.{option_eq}
 use Rattle.std.proofs.lemmas.Bool.{eq-eqb, false≢true, ne_eqb}
@@ -35,10 +36,10 @@ module _ {X : Type 0} (p : X → Bool) where
       by false rest h = omega (arith, rest h)
 
   -- the gap by what is left
-  pub gap_any : (xs : List X) (n : ℕ) → gap_of n (count_by p xs + 1) ≡ cond (list_any p xs) (Some n) None
-  gap_any xs n = by (list_any p xs) refl
+  pub gap_any : (xs : List X) (g n : ℕ) → gap_of (Some g) n (count_by p xs + 1) ≡ cond (list_any p xs) (Some n) None
+  gap_any xs g n = by (list_any p xs) refl
     where
-      by : (b : Bool) → list_any p xs ≡ b → gap_of n (count_by p xs + 1) ≡ cond b (Some n) None
+      by : (b : Bool) → list_any p xs ≡ b → gap_of (Some g) n (count_by p xs + 1) ≡ cond b (Some n) None
       by true h = ap (λ b. cond b None (Some n)) (ne_eqb (count_by p xs + 1) 1 (λ e. let none : ⊥ = omega (arith, any_some xs h, e) in none))
       by false h = ap (λ b. cond b None (Some n)) (eq-eqb (count_by p xs + 1) 1 (let e : count_by p xs + 1 ≡ 1 = omega (arith, any_none xs h) in e))
 
@@ -79,8 +80,8 @@ length-gaps before [] = refl
 length-gaps before (g ∷ later) = ap suc (length-gaps (before ++ g ∷ []) later)
 
 module _ (groups gaps : List (Option ℕ)) (at : ℕ) where
-  pub gaps_more : (new : List (Option ℕ)) (ordinal left : ℕ) (v : Option ℕ) → at < length groups → ordinal ≡ get_or (ordinals_of (option_eq nat_eq) groups) at 0 → left ≡ get_or (ordinals_of (option_eq nat_eq) (reverse groups)) (length groups - 1 - at) 0 → v ≡ gap_of ordinal left → new ≡ gaps ++ v ∷ [] → gaps ++ gaps_over (take at groups) (drop at groups) ≡ gaps_over [] groups → new ++ gaps_over (take (at + 1) groups) (drop (at + 1) groups) ≡ gaps_over [] groups
-  gaps_more new ordinal left v lt first last is step h =
+  pub gaps_more : (new : List (Option ℕ)) (group : Option ℕ) (ordinal left : ℕ) (v : Option ℕ) → at < length groups → group ≡ get_or groups at None → ordinal ≡ get_or (ordinals_of (option_eq nat_eq) groups) at 0 → left ≡ get_or (ordinals_of (option_eq nat_eq) (reverse groups)) (length groups - 1 - at) 0 → v ≡ gap_of group ordinal left → new ≡ gaps ++ v ∷ [] → gaps ++ gaps_over (take at groups) (drop at groups) ≡ gaps_over [] groups → new ++ gaps_over (take (at + 1) groups) (drop (at + 1) groups) ≡ gaps_over [] groups
+  gaps_more new group ordinal left v lt here first last is step h =
       ap (λ (vs : List (Option ℕ)). vs ++ gaps_over (take (at + 1) groups) (drop (at + 1) groups)) step
       ∙ append_assoc gaps (v ∷ []) (gaps_over (take (at + 1) groups) (drop (at + 1) groups))
       ∙ ap (λ (vs : List (Option ℕ)). gaps ++ v ∷ gaps_over vs (drop (at + 1) groups)) (take_more groups at None lt)
@@ -88,13 +89,19 @@ module _ (groups gaps : List (Option ℕ)) (at : ℕ) where
       ∙ ap (λ (vs : List (Option ℕ)). gaps ++ gaps_over (take at groups) vs) (sym (drop_more groups at None lt))
       ∙ h
     where
-      value : v ≡ gap_of (count_by (option_eq nat_eq (get_or groups at None)) (take at groups) + 1) (count_by (option_eq nat_eq (get_or groups at None)) (drop (at + 1) groups) + 1)
+      value : v ≡ gap_of (get_or groups at None) (count_by (option_eq nat_eq (get_or groups at None)) (take at groups) + 1) (count_by (option_eq nat_eq (get_or groups at None)) (drop (at + 1) groups) + 1)
       value =
-          is ∙ ap (λ n. gap_of n left) (first ∙ first_at (option_eq nat_eq) groups at None lt)
-          ∙ ap (gap_of (count_by (option_eq nat_eq (get_or groups at None)) (take at groups) + 1)) (last ∙ left_at (option_eq nat_eq) groups at None lt)
+          is ∙ ap (λ (g : Option ℕ). gap_of g ordinal left) here ∙ ap (λ n. gap_of (get_or groups at None) n left) (first ∙ first_at (option_eq nat_eq) groups at None lt)
+          ∙ ap (gap_of (get_or groups at None) (count_by (option_eq nat_eq (get_or groups at None)) (take at groups) + 1)) (last ∙ left_at (option_eq nat_eq) groups at None lt)
 
   pub gaps_all : length groups ≤ at → gaps ++ gaps_over (take at groups) (drop at groups) ≡ gaps_over [] groups → gaps ≡ gaps_over [] groups
   gaps_all le h = sym (ap (λ (vs : List (Option ℕ)). gaps ++ gaps_over (take at groups) vs) (drop_all at groups le) ∙ append-nil gaps) ∙ h
 
 pub read_same : (items xs : List ℕ) (i v : ℕ) → v ≡ get_or items i v → items ≡ xs → i < length xs → v ≡ get_or xs i 0
 read_same items xs i v is same lt = is ∙ ap (λ (ys : List ℕ). get_or ys i v) same ∙ get_or_default xs i v 0 lt
+
+-- no gaps where there are no groups
+pub none_over : (before groups gaps : List (Option ℕ)) → list_any is_some groups ≡ false → gaps ≡ replicate (length groups) None → gaps ≡ gaps_over before groups
+none_over before [] gaps h is = is
+none_over before (None ∷ groups) gaps h is = is ∙ ap (λ (gs : List (Option ℕ)). None ∷ gs) (none_over (before ++ None ∷ []) groups (replicate (length groups) None) h refl)
+none_over before (Some g ∷ groups) gaps h is = absurd (false≢true (sym h))

@@ -64,15 +64,15 @@ module _ (grouping : Grouping) (group_numbers : List ℕ) where
           ap (λ b. b || list_any (is_part_with grouping i) parts) (fork_same part (All-head (IsFilled calls grouping) part parts h))
           ∙ ap (λ b. option_eq nat_eq (Some (group_of grouping i)) (key part) || b) (any_same parts (All-tail (IsFilled calls grouping) part parts h))
 
-      gap_same : (before later : List (List ℕ)) → All (IsFilled calls grouping) before → All (IsFilled calls grouping) later → (piece_after calls grouping group_numbers before later i).gap ≡ gap_of (count_by (option_eq nat_eq (Some (group_of grouping i))) (map key before) + 1) (count_by (option_eq nat_eq (Some (group_of grouping i))) (map key later) + 1)
+      gap_same : (before later : List (List ℕ)) → All (IsFilled calls grouping) before → All (IsFilled calls grouping) later → (piece_after calls grouping group_numbers before later i).gap ≡ gap_of (Some (group_of grouping i)) (count_by (option_eq nat_eq (Some (group_of grouping i))) (map key before) + 1) (count_by (option_eq nat_eq (Some (group_of grouping i))) (map key later) + 1)
       gap_same before later hb hl =
           ap (λ b. cond b (Some (1 + count_by (is_part_with grouping i) before)) None) (any_same later hl)
           ∙ ap (λ n. cond (list_any (option_eq nat_eq (Some (group_of grouping i))) (map key later)) (Some n) None) (let e : 1 + count_by (is_part_with grouping i) before ≡ count_by (option_eq nat_eq (Some (group_of grouping i))) (map key before) + 1 = omega (arith, count_same before hb) in e)
-          ∙ sym (gap_any (option_eq nat_eq (Some (group_of grouping i))) (map key later) (count_by (option_eq nat_eq (Some (group_of grouping i))) (map key before) + 1))
+          ∙ sym (gap_any (option_eq nat_eq (Some (group_of grouping i))) (map key later) (group_of grouping i) (count_by (option_eq nat_eq (Some (group_of grouping i))) (map key before) + 1))
 
     -- the gap of a part with this key
     abbrev gap_at : (before later : List (List ℕ)) → Option ℕ → Option ℕ
-    gap_at before later k = gap_of (count_by (option_eq nat_eq k) (map key before) + 1) (count_by (option_eq nat_eq k) (map key later) + 1)
+    gap_at before later k = gap_of k (count_by (option_eq nat_eq k) (map key before) + 1) (count_by (option_eq nat_eq k) (map key later) + 1)
 
     part_same : (before later : List (List ℕ)) (i : ℕ) (more : List ℕ) → All (IsFilled calls grouping) before → All (IsFilled calls grouping) later → part_steps calls grouping group_numbers before later (i ∷ more) ≡ steps_of_part grouping group_numbers (part_of calls (i ∷ more)) (gap_at before later (key (i ∷ more)))
     part_same before later i more hb hl = by (forks grouping i) refl

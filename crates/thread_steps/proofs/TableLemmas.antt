@@ -30,7 +30,7 @@ is_some_number n (Some m) h = ap (λ k. Some k) (eqb-true m n h)
 pub below_length : (calls : List Call) (below : List (List ℕ)) → below ≡ calls_below calls → length below ≡ length calls
 below_length calls below is = ap length is ∙ groups_length (callers_of calls) (range_with_len 0 (length calls)) ∙ length-map calls (λ (c : Call). c.caller)
 
-caller_before : (calls : List Call) → AreBefore calls → (i j : ℕ) → get_or (callers_of calls) j None ≡ Some i → i < j
+pub caller_before : (calls : List Call) → AreBefore calls → (i j : ℕ) → get_or (callers_of calls) j None ≡ Some i → i < j
 caller_before calls before i j is = let found = by calls j is in before j found.0 i found.1 found.2
   where
     by : (cs : List Call) (k : ℕ) → get_or (callers_of cs) k None ≡ Some i → (c : Call) × (slice_get cs k ≡ Some c) × (c.caller ≡ Some i)
@@ -38,19 +38,33 @@ caller_before calls before i j is = let found = by calls j is in before j found.
     by (c ∷ cs) zero e = (c, refl, e)
     by (c ∷ cs) (suc k) e = by cs k e
 
+pub range_within : (a n : ℕ) → All (λ j. j < a + n) (range_with_len a n)
+range_within a n = All-from_get_or (λ j. j < a + n) (range_with_len a n) 0 (λ k small. omega (arith, small, length-range_with_len a n, get_or-range_with_len a n k 0 (omega (arith, small, length-range_with_len a n))))
+
+pub range_below : (n : ℕ) → All (λ j. j < n) (range_with_len 0 n)
+range_below n = All-from_get_or (λ j. j < n) (range_with_len 0 n) 0 (λ k small. omega (arith, small, length-range_with_len 0 n, get_or-range_with_len 0 n k 0 (omega (arith, small, length-range_with_len 0 n))))
+
 pub below_behind : (calls : List Call) (below : List (List ℕ)) → AreBefore calls → below ≡ calls_below calls → (i : ℕ) → i < length calls → All (λ j. (i < j) × (j < length calls)) (get_or below i [])
 below_behind calls below before is i lt =
     let callers = callers_of calls in
     let all = range_with_len 0 (length calls) in
     let size : length callers ≡ length calls = length-map calls (λ (c : Call). c.caller) in
     let same : get_or below i [] ≡ below_one callers all i = ap (λ (ls : List (List ℕ)). get_or ls i []) is ∙ group_at callers all i [] (omega (arith, lt, size)) in
-    let few : All (λ j. j < length calls) all = All-from_get_or (λ j. j < length calls) all 0 (λ k small. omega (arith, small, length-range_with_len 0 (length calls), get_or-range_with_len 0 (length calls) k 0 (omega (arith, small, length-range_with_len 0 (length calls))))) in
+    let few : All (λ j. j < length calls) all = range_below (length calls) in
     subst (All (λ j. (i < j) × (j < length calls))) (sym same)
     (All-from_get_or (λ j. (i < j) × (j < length calls)) (below_one callers all i) 0 (λ k small.
     let j = get_or (below_one callers all i) k 0 in (
       caller_before calls before i j (is_some_number i (get_or callers j None) (All-get_or (λ j. is_number i (get_or callers j None) ≡ true) (below_one callers all i) k 0 small (filter_passes (λ j. is_number i (get_or callers j None)) all))),
       All-get_or (λ j. j < length calls) (below_one callers all i) k 0 small (All-filter (λ j. is_number i (get_or callers j None)) (λ j. j < length calls) all few),
     )))
+
+pub below_called : (calls : List Call) (c : ℕ) → c < length calls → All (λ j. get_or (callers_of calls) j None ≡ Some c) (get_or (calls_below calls) c [])
+below_called calls c lt =
+    let callers = callers_of calls in
+    let all = range_with_len 0 (length calls) in
+    let same : get_or (calls_below calls) c [] ≡ below_one callers all c = group_at callers all c [] (omega (arith, lt, length-map calls (λ (c : Call). c.caller))) in
+    subst (All (λ j. get_or callers j None ≡ Some c)) (sym same)
+    (All-weaker (λ j. is_number c (get_or callers j None) ≡ true) (λ j. get_or callers j None ≡ Some c) (λ j h. is_some_number c (get_or callers j None) h) (below_one callers all c) (filter_passes (λ j. is_number c (get_or callers j None)) all))
 
 -- steps of a call itself
 

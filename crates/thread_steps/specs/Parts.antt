@@ -33,8 +33,8 @@ module _ (grouping : Grouping) where
   is_part_with i (j ∷ more) = fork_together i j
 
 module _ (calls : List Call) (grouping : Grouping) where
-  -- calls in order, cut into parts, where the last one so far has this first call, these calls and this
-  -- end
+  -- calls in order, cut into parts, where the last one so far has this first call, these calls and
+  -- this end
   abbrev pub cut_from : ℕ → List ℕ → ℕ → List ℕ → List (List ℕ)
   cut_from first part end [] = part ∷ []
   cut_from first part end (i ∷ later) =

@@ -1,6 +1,6 @@
--- The steps of threads of control: into each call that is not forked and back, and over each part of
--- forked calls by a fork and a join, behind which the thread goes on as a piece of its own. So no
--- segment of a thread is spent waiting for a call.
+-- The steps of threads of control: into each call that is not forked and back, and over each part
+-- of forked calls by a fork and a join, behind which the thread goes on as a piece of its own. So
+-- no segment of a thread is spent waiting for a call.
 use Rattle.std.specs.Prelude.{ℕ, zero, suc, ◌+◌, List, [], ◌∷◌, ◌++◌, Some, None}
 use Rattle.std.specs.Prelude.{if◌then◌else◌, length, slice_index, slice_index_or}
 use Rattle.std.specs.List.{count_by, flat_map, list_any}
@@ -26,8 +26,8 @@ gone_into within (Forks i) = Forks i ∷ []
 gone_into within (Joins i piece) = Joins i piece ∷ []
 
 module _ (calls : List Call) (grouping : Grouping) (group_numbers : List ℕ) where
-  -- the piece in which a caller goes on after a part that begins with this call: under the number of
-  -- its group, and unless it is the last part of that group, under which of these it is, from 1
+  -- the piece in which a caller goes on after a part that begins with this call: under the number
+  -- of its group, and unless it is the last part of that group, under which of these it is, from 1
   abbrev pub piece_after : (before later : List (List ℕ)) → ℕ → Piece
   piece_after before later i = record {
     number = slice_index group_numbers (group_of grouping i);
@@ -35,8 +35,8 @@ module _ (calls : List Call) (grouping : Grouping) (group_numbers : List ℕ) wh
         then Some (1 + count_by (is_part_with grouping i) before) else None;
   }
 
-  -- the steps of a caller over a part: a call that is not forked starts, any other part is forked and
-  -- joined
+  -- the steps of a caller over a part: a call that is not forked starts, any other part is forked
+  -- and joined
   abbrev pub part_steps : (before later : List (List ℕ)) → List ℕ → List Step
   part_steps before later [] = []
   part_steps before later (i ∷ more) = if forks grouping i

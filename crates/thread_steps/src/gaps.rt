@@ -1,4 +1,6 @@
-ghost use Rattle.std.specs.Prelude.{◌≡◌, ◌<◌, [], All, length, map, replicate, reverse, None, IfOk, IsNone};
+ghost use Rattle.std.specs.Prelude.{◌≡◌, ◌<◌, [], All, None, is_some, length, map, replicate};
+ghost use Rattle.std.specs.Prelude.{reverse, IfOk};
+ghost use Rattle.std.specs.List.{list_any};
 ghost use Rattle.thread_steps.specs.Parts.{grouping_of};
 ghost use Rattle.thread_steps.specs.inner.Gaps.{gap_of, gaps_over, group_of_part};
 ghost use Rattle.thread_steps.specs.inner.Groupings.{IsGrouping};
@@ -47,19 +49,24 @@ fn reversed(alloc: Global, groups: &[Option<usize>]) -> Result<Vec<Option<usize>
     groups.iter().rev().copied().collect(alloc)
 }
 
-/// Gives which of its group a part is, from 1, unless it is the last.
-fn gap_of(ordinal: usize, left: usize) -> Option<u64>
-    ensures { result ≡ gap_of ordinal left }
+/// Gives which of its group a part is, from 1, unless it is the last of it, or has none.
+fn gap_of(group: Option<usize>, ordinal: usize, left: usize) -> Option<u64>
+    ensures { result ≡ gap_of group ordinal left }
 {
-    if left == 1 {
-        None
-    } else {
-        Some(ordinal as u64)
+    match group {
+        Some(_) => {
+            if left == 1 {
+                None
+            } else {
+                Some(ordinal as u64)
+            }
+        }
+        None => None,
     }
 }
 
-/// Gives for each part which of its group it is, from 1, unless it is the last, by the groups of
-/// parts. The only error is out of memory.
+/// Gives for each part which of its group it is, from 1, unless it is the last of it, or has none,
+/// by the groups of parts. The only error is out of memory.
 fn find_gaps(alloc: Global, groups: &[Option<usize>]) -> Result<Vec<Option<u64>>, AllocError>
     ensures { IfOk result (λ gaps. gaps.items ≡ gaps_over [] groups.now) }
 {
@@ -68,13 +75,27 @@ fn find_gaps(alloc: Global, groups: &[Option<usize>]) -> Result<Vec<Option<u64>>
     let left = find_ordinals(alloc, &rest)?;
     let mut gaps = Vec::with_capacity(alloc, groups.len())?;
     for at in 0..groups.len() {
-        gaps.push(gap_of(ordinals[at], left[groups.len() - 1 - at]))?;
+        gaps.push(gap_of(groups[at], ordinals[at], left[groups.len() - 1 - at]))?;
     }
     Ok(gaps)
 }
 
-/// Gives for each part which of its group it is, from 1, unless it is the last. The only error is
-/// out of memory.
+/// Tells whether some part has a group.
+fn has_group(groups: &[Option<usize>]) -> bool
+    ensures { result ≡ list_any is_some groups.now }
+{
+    groups.iter().any(|group| group.is_some())
+}
+
+/// Gives no gap for each of so many parts. The only error is out of memory.
+fn no_gaps(alloc: Global, count: usize) -> Result<Vec<Option<u64>>, AllocError>
+    ensures { IfOk result (λ gaps. gaps.items ≡ replicate count None) }
+{
+    vec![in alloc; None; count]
+}
+
+/// Gives for each part which of its group it is, from 1, unless it is the last of it, or has none.
+/// The only error is out of memory.
 pub(crate) fn gaps_of_parts(
     alloc: Global,
     forking: Forking<'_>,
@@ -86,5 +107,9 @@ pub(crate) fn gaps_of_parts(
         ≡ gaps_over [] (map (group_of_part (grouping_of forking.entry)) parts.now)) }
 {
     let groups = groups_of_parts(alloc, forking, parts)?;
-    find_gaps(alloc, &groups)
+    if has_group(&groups) {
+        find_gaps(alloc, &groups)
+    } else {
+        no_gaps(alloc, groups.len())
+    }
 }

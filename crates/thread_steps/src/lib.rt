@@ -4,6 +4,7 @@
 
 mod forking;
 mod gaps;
+pub mod laws;
 mod parts;
 mod rows;
 mod step;

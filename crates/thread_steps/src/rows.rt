@@ -43,8 +43,8 @@ fn push_part(
     Ok(())
 }
 
-/// Appends the steps of a call itself, up to its end, by the calls below it. The only error is out of
-/// memory.
+/// Appends the steps of a call itself, up to its end, by the calls below it. The only error is out
+/// of memory.
 pub(crate) fn push_row(
     alloc: Global,
     calls: &[Call<'_>],
