@@ -1,7 +1,7 @@
-ghost use Rattle.std.specs.Prelude.{◌≡◌, ◌<◌, ◌++◌, ◌∷◌, [], List, ℕ, All, filter};
+ghost use Rattle.std.specs.Prelude.{◌≡◌, ◌<◌, ◌++◌, ◌∷◌, [], List, ℕ, All, Some, filter};
 ghost use Rattle.std.specs.Prelude.{length, slice_get, IfOk, IfSome};
 ghost use Rattle.context_forks.specs.Forks.{calls_below};
-ghost use Rattle.context_forks.specs.Partners.{last_with};
+ghost use Rattle.context_forks.specs.Partners.{last_to_end};
 ghost use Rattle.span_calls.specs.Calls.{AreBefore};
 ghost use Rattle.span_calls.specs.Seen.{are_apart};
 ghost use Rattle.span_lines.specs.Messages.{all_first_far, all_last_far, call_span, far_among};
@@ -52,7 +52,8 @@ fn are_apart(calls: &[Call<'_>], one: usize, other: usize) -> bool
 fn later_of(calls: &[Call<'_>], last: Option<usize>, call: usize) -> usize
     requires last { IfSome last (λ l. l < length calls.now) }
     requires call { call < length calls.now }
-    ensures later { result ≡ last_with calls.now last call }
+    ensures later { (list : List ℕ) → last ≡ last_to_end calls.now list
+        → Some result ≡ last_to_end calls.now (list ++ call ∷ []) }
     ensures within { result < length calls.now }
 {
     match last {
