@@ -133,37 +133,69 @@ fn options_choose_requests_and_overlaps(rt: HostRuntime) -> Result<(), Fail> {
     Ok(())
 }
 
-/// A span, as OpenTelemetry and as Zipkin have it, and another one that says otherwise.
+/// A span, as OpenTelemetry has it, and another one that says otherwise.
 const ONE: &[u8] =
     b"{\"resourceSpans\":[{\"scopeSpans\":[{\"spans\":[{\"traceId\":\"00000000000000000000000000000001\",\"spanId\":\"0000000000000001\",\"name\":\"a\",\"startTimeUnixNano\":1,\"endTimeUnixNano\":2}]}]}]}\n";
 
 const OTHER: &[u8] =
     b"\n{\"resourceSpans\":[{\"scopeSpans\":[{\"spans\":[{\"traceId\":\"00000000000000000000000000000001\",\"spanId\":\"0000000000000001\",\"name\":\"b\",\"startTimeUnixNano\":1,\"endTimeUnixNano\":2}]}]}]}\n";
 
-const ZIPKIN_SPAN: &[u8] =
-    b"[{\"traceId\":\"1\",\"id\":\"1\",\"timestamp\":1},{\"traceId\":\"1\",\"id\":\"2\"}]";
+/// What is refused: the arguments, the file `g`, and the message.
+const REFUSED: [(&[&str], &[u8], &[u8]); 13] = [
+    (
+        &["otlp", "f", "g"],
+        OTHER,
+        b"file 2: line 2: span id twice in a trace\n",
+    ),
+    (
+        &["otlp", "f", "g"],
+        b"{}",
+        b"file 2: line 1: missing resourceSpans\n",
+    ),
+    (&["otlp", "f", "g"], b"\n{\n", b"file 2: line 2: not JSON\n"),
+    (
+        &["otlp", "g", "f"],
+        b"{\"resourceSpans\":[{\"scopeSpans\":[{\"spans\":[{\"traceId\":\"00000000000000000000000000000002\",\"spanId\":\"1\",\"name\":\"a\",\"startTimeUnixNano\":1,\"endTimeUnixNano\":2}]}]}]}\n",
+        b"file 1: line 1: bad spanId\n",
+    ),
+    (
+        &["otlp", "f", "g"],
+        b"{\"resourceSpans\":[{\"scopeSpans\":[{\"spans\":[{\"traceId\":\"00000000000000000000000000000002\",\"spanId\":\"0000000000000001\",\"startTimeUnixNano\":1,\"endTimeUnixNano\":2}]}]}]}\n",
+        b"file 2: line 1: missing name\n",
+    ),
+    (
+        &["otlp", "f", "g"],
+        b"{\"resourceSpans\":[{\"scopeSpans\":[{\"spans\":[{\"traceId\":\"00000000000000000000000000000002\",\"spanId\":\"0000000000000001\",\"name\":\"a\",\"startTimeUnixNano\":1,\"endTimeUnixNano\":2,\"kind\":6}]}]}]}\n",
+        b"file 2: line 1: bad kind\n",
+    ),
+    (
+        &["otlp", "f", "g"],
+        b"{\"resourceSpans\":[{\"scopeSpans\":[{\"spans\":[{\"traceId\":\"00000000000000000000000000000002\",\"spanId\":\"0000000000000001\",\"name\":\"a\",\"startTimeUnixNano\":1,\"endTimeUnixNano\":0}]}]}]}\n",
+        b"file 2: line 1: end before start\n",
+    ),
+    (
+        &["otlp", "f", "g"],
+        b"{\"resourceSpans\":[{\"scopeSpans\":[{\"spans\":[{\"traceId\":\"00000000000000000000000000000002\",\"spanId\":\"0000000000000001\",\"name\":\"a\",\"startTimeUnixNano\":1,\"endTimeUnixNano\":\"4102444800000000001\"}]}]}]}\n",
+        b"file 2: line 1: time out of range\n",
+    ),
+    (
+        &["otlp", "f", "g"],
+        b"{\"resourceSpans\":[{\"scopeSpans\":[{\"spans\":[{\"traceId\":\"00000000000000000000000000000002\",\"spanId\":\"0000000000000001\",\"name\":\"a\",\"startTimeUnixNano\":1,\"endTimeUnixNano\":2,\"parentSpanId\":\"0000000000000002\"}]}]}]}\n{\"resourceSpans\":[{\"scopeSpans\":[{\"spans\":[{\"traceId\":\"00000000000000000000000000000002\",\"spanId\":\"0000000000000002\",\"name\":\"a\",\"startTimeUnixNano\":1,\"endTimeUnixNano\":2,\"parentSpanId\":\"0000000000000001\"}]}]}]}\n",
+        b"file 2: line 1: parents form a circle\n",
+    ),
+    (
+        &["zipkin", "g"],
+        b"[{\"traceId\":\"1\",\"id\":\"1\",\"timestamp\":1},{\"traceId\":\"1\",\"id\":\"2\"}]",
+        b"file 1: span 2: missing timestamp\n",
+    ),
+    (&["zipkin", "g"], b"{}", b"file 1: span 1: not an array\n"),
+    (&["jaeger", "g"], b"{", b"file 1: span 1: not JSON\n"),
+    (&["jaeger", "g"], b"{}", b"file 1: span 1: missing data\n"),
+];
 
 #[test]
 fn the_first_span_that_is_refused_is_told(rt: HostRuntime) -> Result<(), Fail> {
-    let table: [(&[&str], &[u8], &[u8]); 4] = [
-        (
-            &["otlp", "f", "g"],
-            OTHER,
-            b"file 2: line 2: span id twice in a trace\n",
-        ),
-        (
-            &["otlp", "f", "g"],
-            b"{}",
-            b"file 2: line 1: missing resourceSpans\n",
-        ),
-        (
-            &["zipkin", "g"],
-            ZIPKIN_SPAN,
-            b"file 1: span 2: missing timestamp\n",
-        ),
-        (&["jaeger", "g"], b"{", b"file 1: span 1: not JSON\n"),
-    ];
-    for (words, g, message) in table {
+    for (words, g, message) in REFUSED {
         let setting = Setting {
             words,
             f: ONE,

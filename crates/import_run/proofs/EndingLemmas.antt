@@ -1,5 +1,5 @@
 -- How runs end, by what was read and what was written.
-use Rattle.std.proofs.Common.{◌≡◌, ℕ, ◌<◌, List, [], ◌∷◌, Option, Some, length, map, refl, sym, ap, subst, ◌∙◌, arith, true, false, Bool, cond}
+use Rattle.std.proofs.Common.{◌≡◌, ℕ, ◌<◌, List, [], ◌∷◌, Option, Some, length, refl, sym, subst, arith, true, false, Bool, cond}
 use Rattle.std.specs.Prelude.{position}
 use Rattle.std.proofs.lemmas.List.{length-map}
 use Rattle.std.proofs.lemmas.List.Quantifiers.{position-Some}
@@ -9,8 +9,8 @@ use Rattle.event_text.specs.LineTexts.{lines_text}
 use Rattle.span_types.specs.declared.span.Span.{Span}
 use Rattle.span_files.specs.InputSpans.{InputSpans}
 use Rattle.span_files.specs.declared.span_form.SpanForm.{SpanForm}
-use Rattle.span_files.specs.declared.span_place.SpanPlace.{SpanPlace}
-use Rattle.span_lines.specs.SpanTexts.{AreSpanLines, folded_span}
+use Rattle.span_lines.specs.FoldedSpans.{folded_span, folded_spans}
+use Rattle.span_lines.specs.SpanTexts.{AreSpanLines}
 use Rattle.span_lines.specs.declared.span_text.SpanText.{SpanText}
 use Rattle.span_requests.specs.Callers.{is_endless}
 use Rattle.span_requests.specs.SpansOnce.{repeats_id, spans_once}
@@ -31,7 +31,7 @@ use Rattle.import_run.specs.declared.outcome.Outcome.TheVariants.{Done, Memory, 
 pub named_count : (asked : Asked) (spans : List Span) → length (named_spans asked spans) ≡ length spans
 named_count asked spans = by asked.fold
   where
-    by : (b : Bool) → length (cond b (map folded_span spans) spans) ≡ length spans
+    by : (b : Bool) → length (cond b (folded_spans spans) spans) ≡ length spans
     by true = length-map spans folded_span
     by false = refl
 

@@ -1,5 +1,5 @@
 -- Files that were read one after another.
-use Rattle.std.proofs.Common.{◌≡◌, ℕ, suc, ◌+◌, ◌-◌, ◌^◌, ◌<◌, ◌≤◌, ◌++◌, List, [], ◌∷◌, All, Ok, Some, length, map, take, drop, slice_get, Bool, true, false, cond, ◌==◌, refl, sym, ap, subst, ◌∙◌, arith, append_assoc, lit≤}
+use Rattle.std.proofs.Common.{◌≡◌, ℕ, suc, ◌+◌, ◌^◌, ◌<◌, ◌≤◌, ◌++◌, List, [], ◌∷◌, All, Some, length, map, take, drop, slice_get, Bool, true, false, cond, ◌==◌, refl, sym, ap, subst, ◌∙◌, arith, append_assoc, lit≤}
 use Rattle.std.specs.Prelude.{codes, sum_by}
 use Rattle.std.proofs.lemmas.List.{length-map, length-take-le, map-append, take_at, take_more}
 use Rattle.std.proofs.lemmas.List.Elements.{All-append, All-cons, All-head, All-nil, All-tail}
@@ -10,9 +10,9 @@ use Rattle.mystery_io.specs.Counts.{CountsCalls, counted_up}
 use Rattle.mystery_io.specs.ReadFaults.{FilesSeen, OpensFirst}
 use Rattle.mystery_io.specs.Readings.{AreEnded, AreEndedBeforeLast, Reading, new_readings}
 use Rattle.import_run.specs.CommandLines.{file_name, file_names}
-use Rattle.import_run.specs.Endings.{AreGood, HaveFault, ReadsFirst, ReadsUpTo, StopsReading}
+use Rattle.import_run.specs.Endings.{AreGood, ReadsFirst, ReadsUpTo, StopsReading}
 use Rattle.span_files.specs.InputSpans.{input_said}
-use Rattle.import_run.specs.Inputs.{bytes_given, files_said, input_limit, size_given}
+use Rattle.import_run.specs.Inputs.{bytes_given, files_said, size_given}
 use Rattle.import_run.specs.inner.InputReadings.{HasInput, HasOneCause, HasRead, IsNotTaken, ReadsOne, StopsAt}
 use Rattle.import_run.specs.inner.Taken.{HasTaken, IsFileFault, form_of_input, spans_view}
 use Rattle.import_run.specs.declared.form.Form.{Form}

@@ -4,12 +4,11 @@ use Rattle.std.proofs.lemmas.List.{length-append, length-map}
 use Rattle.span_text.specs.declared.placed.Fault.{Fault}
 use Rattle.span_text.specs.declared.placed.Placed.{Placed}
 use Rattle.span_files.specs.SpansOfForms.{spans_by}
-use Rattle.span_files.specs.InputSpans.{FileFault, InputSpans, IsAppended, input_said, place_in, said_after, said_from, span_of}
+use Rattle.span_files.specs.InputSpans.{FileFault, InputSpans, input_said, place_in, said_after, said_from, span_of}
 use Rattle.span_files.specs.declared.file_spans.FileSpans.{FileSpans}
 use Rattle.span_files.specs.declared.span_form.SpanForm.{SpanForm}
 use Rattle.import_run.specs.inner.Taken.{IsFileFault, IsSpanCause, TakesSpans, spans_view}
 use Rattle.import_run.specs.declared.form.Form.TheVariants as forms
-use Rattle.import_run.specs.declared.span_reason.SpanReason.{SpanReason}
 use Rattle.import_run.specs.declared.span_reason.SpanReason.TheVariants.{Unreadable, RepeatedId, Circle}
 use Rattle.import_run.specs.declared.outcome.Outcome.{Outcome}
 use Rattle.import_run.specs.declared.outcome.Outcome.TheVariants.{Done, Memory, Arguments, BadLine, BadSpan, File, TooMany, Write, Size}

@@ -1,5 +1,5 @@
 -- One file more, by what appending it gave.
-use Rattle.std.proofs.Common.{◌≡◌, ◌+◌, ◌≤◌, ℕ, List, [], ◌∷◌, ◌++◌, Result, Ok, Err, length, refl, sym, ap, subst, true}
+use Rattle.std.proofs.Common.{◌≡◌, ◌+◌, ◌≤◌, ℕ, List, [], ◌∷◌, ◌++◌, Result, Ok, Err, length, refl, sym, subst, true}
 use Rattle.std.specs.Prelude.{IfErr, OnOk, sum_by}
 use Rattle.event_lines.specs.InputLines.{lines_said}
 use Rattle.event_lines.specs.LineParts.{lines_of_runs}
@@ -15,7 +15,7 @@ use Rattle.import_run.specs.inner.InputReadings.{HasOneCause, file_faults_after}
 use Rattle.import_run.specs.Inputs.{input_limit}
 use Rattle.mystery_io.specs.Readings.{Reading}
 use Rattle.import_run.specs.declared.input.Input.{Input}
-use Rattle.import_run.specs.declared.input.Input.TheVariants.{Lines, Spans}
+use Rattle.import_run.specs.declared.input.Input.TheVariants.{Spans}
 use Rattle.import_run.specs.declared.outcome.Outcome.{Outcome}
 use Rattle.import_run.specs.declared.outcome.Outcome.TheVariants.{Done, Memory, Arguments, BadLine, BadSpan, File, TooMany, Write, Size}
 use Rattle.import_run.proofs.LineLemmas.{line_fault, lines_taken}

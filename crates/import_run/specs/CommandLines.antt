@@ -1,10 +1,9 @@
 -- The arguments: the form of the input, what is asked of spans, and the files.
 use Rattle.std.specs.Prelude.{ℕ, ◌^◌, ◌*◌, ◌&&◌, ◌==◌, List, [], ◌∷◌, Bool, true, false, not}
 use Rattle.std.specs.Prelude.{nat_le, nat_lt, codes, length, map, slice_index_or}
-use Rattle.std.specs.Prelude.{Option, Some, None, is_some, option_map, option_and_then}
+use Rattle.std.specs.Prelude.{Option, Some, None, is_some, option_and_then}
 use Rattle.std.specs.Prelude.{if◌then◌else◌}
 use Rattle.std.specs.List.{count_by, list_all}
-use Rattle.std.specs.Option.{option_map_or}
 use Rattle.std.specs.Str.{bytes_eq}
 use Rattle.span_text.specs.Numbers.{whole_number}
 use Rattle.span_files.specs.declared.span_form.SpanForm.TheVariants.{Otlp, Jaeger, Zipkin}

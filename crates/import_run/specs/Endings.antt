@@ -1,6 +1,6 @@
 -- How a run ends, and what it writes.
 use Rattle.std.specs.Prelude.{ℕ, ◌≡◌, ◌+◌, ◌<◌, ◌≤◌, List, [], Ok, Err, Option, Some, length}
-use Rattle.std.specs.Prelude.{map, slice_get, take, true, false, if◌then◌else◌}
+use Rattle.std.specs.Prelude.{slice_get, take, false, if◌then◌else◌}
 use Rattle.std.specs.Io.KnownBytes.{append_known}
 use Rattle.event_lines.specs.declared.line.Line.{Line}
 use Rattle.event_rewrite.specs.WithoutWaits.{without_waits}
@@ -12,7 +12,8 @@ use Rattle.span_types.specs.declared.span.Span.{Span}
 use Rattle.span_files.specs.InputSpans.{InputSpans, input_said}
 use Rattle.span_files.specs.declared.span_form.SpanForm.{SpanForm}
 use Rattle.span_files.specs.declared.span_place.SpanPlace.{SpanPlace}
-use Rattle.span_lines.specs.SpanTexts.{AreSpanLines, folded_span}
+use Rattle.span_lines.specs.FoldedSpans.{folded_spans}
+use Rattle.span_lines.specs.SpanTexts.{AreSpanLines}
 use Rattle.span_lines.specs.declared.span_text.SpanText.{SpanText}
 use Rattle.span_requests.specs.Faults.{IsFaultOf}
 use Rattle.span_requests.specs.declared.span_fault.SpanFault.{SpanFault}
@@ -23,7 +24,6 @@ use Rattle.import_run.specs.Messages.{no_notes}
 use Rattle.import_run.specs.declared.form.Form.{Form}
 use Rattle.import_run.specs.declared.form.Form.TheVariants.{Events, Spans}
 use Rattle.import_run.specs.declared.notes.Notes.{Notes}
-use Rattle.import_run.specs.declared.span_reason.SpanReason.{SpanReason}
 use Rattle.import_run.specs.declared.span_reason.SpanReason.TheVariants.{Unreadable, RepeatedId}
 use Rattle.import_run.specs.declared.span_reason.SpanReason.TheVariants.{Circle}
 use Rattle.import_run.specs.declared.outcome.Outcome.{Outcome}
@@ -122,7 +122,7 @@ pub record Stops (outcome : Outcome) (seen : Seen) : Type 0 where
 
 -- spans under the names that are asked for: those that differ in ids are made one with `--fold`
 abbrev pub named_spans : Asked → List Span → List Span
-named_spans asked spans = if asked.fold then map folded_span spans else spans
+named_spans asked spans = if asked.fold then folded_spans spans else spans
 
 -- the text of spans as it is asked for, and what is told of them
 abbrev pub IsSpanText : Asked → List Span → List ℕ → Notes → Type 0

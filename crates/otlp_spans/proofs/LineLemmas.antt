@@ -1,5 +1,5 @@
 -- Lines that are read one after another.
-use Rattle.std.proofs.Common.{◌≡◌, ℕ, List, [], ◌∷◌, ◌++◌, Result, Ok, Err, refl, sym, ap, ◌∙◌, append_assoc}
+use Rattle.std.proofs.Common.{◌≡◌, ℕ, List, ◌∷◌, ◌++◌, Result, Ok, Err, refl, sym, ap, ◌∙◌, append_assoc}
 use Rattle.span_text.specs.declared.placed.Placed.{Placed}
 use Rattle.span_text.specs.declared.placed.Fault.{Fault}
 use Rattle.span_text.specs.Outcomes.{◌>>=◌, after}

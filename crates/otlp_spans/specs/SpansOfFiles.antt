@@ -1,6 +1,6 @@
 -- The spans of a file: OpenTelemetry, "OpenTelemetry Protocol File Exporter", JSON lines; and one
 -- value over several lines, as it is sent over HTTP.
-use Rattle.std.specs.Prelude.{ℕ, List, [], ◌∷◌, Bool, is_some, Result, Ok, Err, if◌then◌else◌}
+use Rattle.std.specs.Prelude.{ℕ, List, [], ◌∷◌, is_some, Result, Ok, Err, if◌then◌else◌}
 use Rattle.std.specs.Option.{option_map_or}
 use Rattle.event_lines.specs.Cut.{input_lines}
 use Rattle.event_lines.specs.InputLines.{numbered_lines}

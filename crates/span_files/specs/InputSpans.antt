@@ -1,7 +1,6 @@
 -- The spans of the files of an input.
 use Rattle.std.specs.Prelude.{ℕ, ◌≡◌, ◌+◌, List, [], ◌∷◌, ◌++◌, map, Result, Ok, Err}
 use Rattle.span_types.specs.declared.span.Span.{Span}
-use Rattle.span_text.specs.declared.why.Why.{Why}
 use Rattle.span_text.specs.declared.placed.Fault.{Fault}
 use Rattle.span_text.specs.declared.placed.Placed.{Placed}
 use Rattle.span_files.specs.SpansOfForms.{spans_by}

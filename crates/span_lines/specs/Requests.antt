@@ -1,6 +1,6 @@
 -- The requests of calls, and their names.
 use Rattle.std.specs.Prelude.{ℕ, ◌+◌, ◌++◌, List, Bool, false, Option, Some, None, codes, drop}
-use Rattle.std.specs.Prelude.{filter, find, if◌then◌else◌, is_none, length, map, slice_index_or}
+use Rattle.std.specs.Prelude.{filter, find, if◌then◌else◌, is_none, length, map}
 use Rattle.std.specs.List.{flat_map, position_or_len, range_with_len}
 use Rattle.std.specs.Str.{bytes_eq}
 use Rattle.trace_types.specs.declared.event.Event.{Event}

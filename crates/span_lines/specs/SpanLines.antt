@@ -6,7 +6,6 @@ use Rattle.call_trees.specs.Tables.{table_of}
 use Rattle.linked_groups.specs.Groups.{groups_of}
 use Rattle.span_requests.specs.Callers.{caller_numbers}
 use Rattle.span_requests.specs.Entries.{AreEntries}
-use Rattle.span_requests.specs.SpansOnce.{spans_once}
 use Rattle.span_calls.specs.Calls.{AreCalls}
 use Rattle.span_calls.specs.Seen.{span_at}
 use Rattle.span_calls.specs.declared.call.Call.{Call}

@@ -3,6 +3,7 @@
 
 mod event_names;
 mod folding;
+mod input_names;
 mod lent_mapping;
 mod lines;
 mod messages;
@@ -11,7 +12,6 @@ mod naming;
 mod placed_calls;
 mod printing;
 mod requests;
-mod span_names;
 mod span_text;
 mod spans;
 mod threading;

@@ -2,6 +2,7 @@ ghost use Rattle.std.specs.Prelude.{◌≡◌, ◌<◌, ◌++◌, ◌∷◌, [],
 ghost use Rattle.std.specs.Prelude.{length, slice_get, IfOk, IfSome};
 ghost use Rattle.context_forks.specs.Forks.{calls_below};
 ghost use Rattle.context_forks.specs.Partners.{last_to_end};
+ghost use Rattle.span_calls.specs.Calls.{AreBefore};
 ghost use Rattle.span_calls.specs.Seen.{are_apart};
 ghost use Rattle.span_lines.specs.Messages.{all_first_far, all_last_far, call_span, far_among};
 ghost use Rattle.span_lines.specs.Messages.{sends_calls};
@@ -69,8 +70,10 @@ fn later_of(calls: &[Call<'_>], last: Option<usize>, call: usize) -> usize
 
 /// Gives the first of a list that goes on with a call.
 fn first_with(first: Option<usize>, call: usize) -> Option<usize>
-    ensures { (list : List ℕ) → first ≡ slice_get list 0
+    ensures first { (list : List ℕ) → first ≡ slice_get list 0
         → result ≡ slice_get (list ++ call ∷ []) 0 }
+    ensures within { (count : ℕ) → IfSome first (λ f. f < count) → call < count
+        → IfSome result (λ f. f < count) }
 {
     match first {
         Some(first) => Some(first),
@@ -126,7 +129,8 @@ pub(crate) fn find_messages(
     calls: &[Call<'_>],
     below: &[NumberList],
 ) -> Result<Messages, AllocError>
-    requires { below.now ≡ calls_below calls.now }
+    requires before { AreBefore calls.now }
+    requires below { below.now ≡ calls_below calls.now }
     ensures first { IfOk result (λ m. m.first_far.items ≡ all_first_far calls.now below.now) }
     ensures last { IfOk result (λ m. m.last_far.items ≡ all_last_far calls.now below.now) }
     ensures first_among { IfOk result (λ m. AreAmong (length calls.now) m.first_far.items) }

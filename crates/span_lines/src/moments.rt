@@ -66,13 +66,7 @@ fn if_said(said: Option<usize>, call: usize) -> Option<usize>
     ensures { result ≡ if_said said call }
 {
     match said {
-        Some(said) => {
-            if said == call {
-                Some(call)
-            } else {
-                None
-            }
-        }
+        Some(said) => { if said == call { Some(call) } else { None } }
         None => None,
     }
 }

@@ -5,7 +5,7 @@ ghost use Rattle.span_lines.specs.Requests.{lines_by_request, name_of_request, r
 ghost use Rattle.span_lines.specs.SpanTexts.{is_long, requests_text};
 ghost use Rattle.span_lines.specs.inner.FirstEntries.{AreFirst};
 ghost use Rattle.span_lines.specs.inner.LentMappings.{IsWhole, mapping_lent};
-ghost use Rattle.span_lines.specs.inner.Printed.{requests_among, text_of};
+ghost use Rattle.span_lines.specs.inner.Printed.{ArePrinted, requests_among, text_of};
 ghost use Rattle.span_types.specs.declared.span.Span.{Span};
 
 use crate::lent_mapping::LentMapping;
@@ -79,11 +79,9 @@ pub(crate) fn print_requests(
     text: &mut Vec<u8>,
 ) -> Result<usize, AllocError>
     requires { IsWhole (mapping_lent mapping.now) }
-    ensures text { OnOk result ((entries : List Span) → AreFirst entries first.now
-        → text.new.items ≡ text.old.items ++ requests_text
-        (lines_by_request (mapping_lent mapping.now) entries)) }
-    ensures long { IfOk result (λ long. (entries : List Span) → AreFirst entries first.now
-        → long ≡ count_by is_long (lines_by_request (mapping_lent mapping.now) entries)) }
+    ensures { IfOk result (λ long. (entries : List Span) → AreFirst entries first.now
+        → ArePrinted (lines_by_request (mapping_lent mapping.now) entries)
+        text.old.items text.new.items long) }
 {
     let mut long = 0;
     'requests: for call in 0..mapping.calls.len() {

@@ -12,10 +12,7 @@ use std::alloc::{AllocError, Global};
 use trace_types::Text;
 
 /// Notes the id of an entry, if it is the first of its trace.
-fn note_entry<'a>(
-    first: &mut IndexMap<&'a str, &'a str>,
-    entry: &'a Span,
-) -> Result<(), AllocError>
+fn note_entry<'a>(first: &mut IndexMap<&'a str, &'a str>, entry: &'a Span) -> Result<(), AllocError>
     ensures { OnOk result ((entries : List Span) → AreFirst entries first.old
         → AreFirst (entries ++ entry.now ∷ []) first.new) }
 {

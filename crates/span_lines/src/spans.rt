@@ -1,23 +1,24 @@
 ghost use Rattle.std.specs.Prelude.{◌≡◌, ◌<◌, List, ℕ, length, option_copied, IfErr, IfOk};
 ghost use Rattle.call_contexts.specs.ContextOrder.{AreOrdered};
-ghost use Rattle.span_calls.specs.Calls.{AreBefore};
+ghost use Rattle.span_calls.specs.Calls.{AreBefore, StartInOrder};
 ghost use Rattle.span_lines.specs.Requests.{lines_by_request};
 ghost use Rattle.span_lines.specs.SpanLines.{mapping_of};
 ghost use Rattle.span_lines.specs.SpanTexts.{AreSpanLines};
 ghost use Rattle.span_lines.specs.inner.FirstEntries.{AreFirst};
-ghost use Rattle.span_lines.specs.inner.PlacedCalls.{AreNamedBy, AreNamesOf, ArePlaced, ArePrinted};
+ghost use Rattle.span_lines.specs.inner.PlacedCalls.{AreNamedBy, AreNamesOf, ArePlaced};
 ghost use Rattle.span_lines.specs.inner.PlacedCalls.{HaveLines, frames_in, placing_in, threading_of};
+ghost use Rattle.span_lines.specs.inner.Printed.{ArePrinted};
 ghost use Rattle.trace_types.specs.declared.event.Event.{Event};
 ghost use Rattle.span_requests.specs.Faults.{IsFaultOf};
 ghost use Rattle.span_types.specs.declared.span.Span.{Span};
 
 use crate::SpanText;
+use crate::input_names::{InputNames, name_input};
 use crate::lent_mapping::LentMapping;
 use crate::messages::find_messages;
 use crate::naming::{ContextNames, make_names};
 use crate::placed_calls::PlacedCalls;
 use crate::printing::print_requests;
-use crate::span_names::{SpanNames, name_spans};
 use crate::threading::thread_contexts;
 use call_contexts::{find_contexts, order_contexts};
 use context_forks::calls_below;
@@ -32,7 +33,7 @@ use thread_steps::{Forking, make_steps};
 /// how many requests are long.
 fn print_named(
     alloc: Global,
-    spans: &SpanNames<'_>,
+    spans: &InputNames<'_>,
     placed: &PlacedCalls<'_, '_>,
     names: &ContextNames,
     groups: &GroupNumbers,
@@ -75,7 +76,7 @@ fn print_named(
 /// requests are long.
 fn print_placed(
     alloc: Global,
-    spans: &SpanNames<'_>,
+    spans: &InputNames<'_>,
     placed: &PlacedCalls<'_, '_>,
     text: &mut Vec<u8>,
 ) -> Result<usize, AllocError>
@@ -105,12 +106,13 @@ fn print_placed(
 /// gives how many requests are long.
 fn print_all(
     alloc: Global,
-    spans: &SpanNames<'_>,
+    spans: &InputNames<'_>,
     calls: &[Call<'_>],
     grace: u64,
     text: &mut Vec<u8>,
 ) -> Result<usize, AllocError>
-    requires { AreBefore calls.now }
+    requires before { AreBefore calls.now }
+    requires rise { StartInOrder calls.now }
     ensures { IfOk result (λ long. (entries : List Span) → AreFirst entries spans.now.first
         → (requests : List (List Event))
         × HaveLines calls.now grace spans.now.machines entries requests
@@ -143,7 +145,7 @@ pub fn print_spans(
     ensures fault { IfErr result (λ fault. IsFaultOf spans.now fault) }
 {
     let requests = find_requests(alloc, spans)?;
-    let names = name_spans(alloc, &requests.spans, &requests.entries)?;
+    let names = name_input(alloc, &requests.spans, &requests.entries)?;
     let calls = find_calls(alloc, &requests, entry)?;
     let mut text = Vec::new(alloc);
     let long = print_all(alloc, &names, &calls, grace, &mut text)?;

@@ -3,6 +3,7 @@ ghost use Rattle.call_contexts.specs.Contexts.{AreContexts, frames_of};
 ghost use Rattle.call_contexts.specs.Threads.{AreThreads};
 ghost use Rattle.context_forks.specs.Forks.{calls_below, context_pairs, forked_of};
 ghost use Rattle.linked_groups.specs.Groups.{groups_of};
+ghost use Rattle.span_calls.specs.Calls.{AreBefore, StartInOrder};
 
 use call_contexts::{Contexts, find_threads};
 use call_trees::NumberList;
@@ -28,6 +29,8 @@ pub(crate) fn thread_contexts(
     contexts: &Contexts<'_>,
     grace: u64,
 ) -> Result<Threads, AllocError>
+    requires before { AreBefore calls.now }
+    requires rise { StartInOrder calls.now }
     requires below { below.now ≡ calls_below calls.now }
     requires contexts { AreContexts calls.now contexts.now.numbers.items
         (frames_of contexts.now.contexts.items) }
@@ -36,6 +39,12 @@ pub(crate) fn thread_contexts(
     ensures groups { IfOk result (λ t. t.groups.items
         ≡ groups_of (length (frames_of contexts.now.contexts.items))
         (context_pairs grace calls.now contexts.now.numbers.items)) }
+    ensures forked_size { IfOk result
+        (λ t. length t.forked.items ≡ length (frames_of contexts.now.contexts.items)) }
+    ensures groups_size { IfOk result
+        (λ t. length t.groups.items ≡ length (frames_of contexts.now.contexts.items)) }
+    ensures grouped { IfOk result (λ t.
+        All (λ g. g < length (frames_of contexts.now.contexts.items)) t.groups.items) }
     ensures threads { IfOk result (λ t.
         AreThreads (frames_of contexts.now.contexts.items) t.forked.items t.threads.items) }
 {

@@ -1,7 +1,7 @@
 -- Options that are read one after another.
 use Rattle.std.specs.Prelude.{ℕ, ◌≡◌, ◌≤◌, ◌==◌, List, Option, Some, None, length, drop}
 use Rattle.std.specs.Prelude.{if◌then◌else◌}
-use Rattle.import_run.specs.CommandLines.{Asked, Call, call_after, call_with}
+use Rattle.import_run.specs.CommandLines.{Asked, call_after, call_with}
 use Rattle.import_run.specs.declared.form.Form.{Form}
 use Rattle.import_run.specs.declared.command_line.TakenOption.{TakenOption}
 use Rattle.import_run.specs.inner.ParsedLines.{asked_view}

@@ -1,5 +1,5 @@
 -- What is taken of files, one after another.
-use Rattle.std.specs.Prelude.{ℕ, ◌≡◌, ◌+◌, ◌≤◌, List, [], ◌∷◌, ◌++◌, length, sum_by, Result, Ok, Err}
+use Rattle.std.specs.Prelude.{ℕ, ◌≡◌, ◌+◌, ◌≤◌, List, length, sum_by, Result, Ok, Err}
 use Rattle.std.specs.Prelude.{⊤}
 use Rattle.event_lines.specs.InputLines.{LineFault}
 use Rattle.event_lines.specs.LineParts.{lines_of_runs}

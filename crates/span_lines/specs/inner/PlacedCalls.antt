@@ -1,6 +1,5 @@
 -- Calls with their contexts and threads.
-use Rattle.std.specs.Prelude.{ℕ, ◌≡◌, ◌<◌, ◌++◌, List, All, Bool, length, map}
-use Rattle.std.specs.List.{count_by}
+use Rattle.std.specs.Prelude.{ℕ, ◌≡◌, ◌<◌, List, All, length, map}
 use Rattle.trace_types.specs.declared.event.Event.{Event}
 use Rattle.call_contexts.specs.Contexts.{AreContexts, Frame, frames_of}
 use Rattle.call_contexts.specs.ContextOrder.{AreOrdered}
@@ -16,7 +15,6 @@ use Rattle.span_types.specs.declared.span.Span.{Span}
 use Rattle.span_lines.specs.Requests.{lines_by_request}
 use Rattle.span_lines.specs.SpanLines.{AreThreaded, Placing, Threading, group_heads, group_numbers}
 use Rattle.span_lines.specs.SpanLines.{mapping_of}
-use Rattle.span_lines.specs.SpanTexts.{is_long, requests_text}
 use Rattle.span_lines.specs.declared.naming.ContextNames.{ContextNames}
 use Rattle.span_lines.specs.declared.placed_calls.PlacedCalls.{PlacedCalls}
 use Rattle.span_lines.specs.declared.threading.Threads.{Threads}
@@ -77,8 +75,3 @@ pub record HaveLines (calls : List Call) (grace : ℕ) (machines : MachineNames)
   pub threading : Threading
   pub threaded : AreThreaded grace calls placing.numbers placing.contexts threading
   pub lines : requests ≡ lines_by_request (mapping_of calls placing threading machines) entries
-
--- the lines of requests are printed behind a text, so many of these are long
-pub record ArePrinted (requests : List (List Event)) (old new : List ℕ) (count : ℕ) : Type 0 where
-  pub text : new ≡ old ++ requests_text requests
-  pub long : count ≡ count_by is_long requests

@@ -1,4 +1,4 @@
-use Rattle.std.proofs.Common.{◌∙◌, inl, inr, ◌⊎◌}
+use Rattle.std.proofs.Common.{◌∙◌, inl, inr}
 use Rattle.mystery_io.specs.Prefixes.{Sends}
 use Rattle.mystery_io.specs.ReadFaults.{files_seen}
 use Rattle.import_run.specs.Endings.{Explains, Seen, run_seen}

@@ -1,9 +1,5 @@
-use Rattle.std.proofs.Common.{◌≡◌, List, ℕ, length, ◌++◌, ◌∷◌, [], ap, sym, subst}
-use Rattle.std.proofs.lemmas.Result.{IfErr-weaker}
-use Rattle.event_lines.specs.InputLines.{lines_said}
-use Rattle.event_lines.specs.LineParts.{lines_of_runs}
-use Rattle.span_files.specs.SpansOfForms.{spans_by}
-use Rattle.import_run.specs.inner.Taken.{HasTaken, IsFileFault, IsLineCause, IsSpanCause, form_of_input, spans_view}
+use Rattle.std.proofs.Common.{ap, subst}
+use Rattle.import_run.specs.inner.Taken.{HasTaken, form_of_input}
 use Rattle.import_run.proofs.TakenLemmas.{lines_step, lines_stop, spans_step, spans_stop}
 use Rattle.import_run.proofs.input.Input.take_file.Goals as goal
 

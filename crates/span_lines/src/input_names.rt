@@ -12,7 +12,7 @@ use std::alloc::{AllocError, Global};
 
 /// What machines and requests are named by.
 #[derive(Debug, Drop)]
-pub(crate) struct SpanNames<'a> {
+pub(crate) struct InputNames<'a> {
     /// The names of machines.
     pub(crate) machines: MachineNames<'a>,
     /// Of each trace the id of its first entry.
@@ -21,11 +21,11 @@ pub(crate) struct SpanNames<'a> {
 
 /// Names the machines of spans, and finds the first of these entries of each trace. The only error
 /// is out of memory.
-pub(crate) fn name_spans<'a>(
+pub(crate) fn name_input<'a>(
     alloc: Global,
     spans: &[&'a Span],
     entries: &[u32],
-) -> Result<SpanNames<'a>, AllocError>
+) -> Result<InputNames<'a>, AllocError>
     requires { All (λ e. e < length spans.now) entries.now }
     ensures machines { IfOk result (λ names.
         names.machines.machines ≡ machines_of (lent_spans spans.now)) }
@@ -36,5 +36,5 @@ pub(crate) fn name_spans<'a>(
 {
     let machines = name_machines(alloc, spans)?;
     let first = find_first_entries(alloc, spans, entries)?;
-    Ok(SpanNames { machines, first })
+    Ok(InputNames { machines, first })
 }

@@ -1,0 +1,14 @@
+pub mod ApartLemmas
+pub mod BoundLemmas
+pub mod FarLemmas
+pub mod GroupLemmas
+pub mod HeadLemmas
+pub mod MessageLemmas
+pub mod NamedLemmas
+pub mod RangeLemmas
+pub mod RequestLemmas
+pub mod SentLemmas
+pub mod SizeLemmas
+pub mod SoundLemmas
+pub mod StampLemmas
+pub mod TraceLemmas
