@@ -1,5 +1,6 @@
 -- Calls, contexts and groups by number, as their lines need them.
-use Rattle.std.specs.Prelude.{ℕ, ◌==◌, List, [], Bool, Option, slice_index, slice_index_or, unwrap_or}
+use Rattle.std.specs.Prelude.{ℕ, ◌==◌, List, [], Bool, Option, slice_index, slice_index_or}
+use Rattle.std.specs.Prelude.{unwrap_or}
 use Rattle.span_calls.specs.declared.call.Call.{Call}
 use Rattle.thread_steps.specs.declared.step.Step.{Step}
 use Rattle.context_names.specs.Machines.{MachineNames, machine_name}

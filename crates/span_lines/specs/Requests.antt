@@ -36,7 +36,8 @@ module _ (calls : List Call) where
 
   -- how many calls a request has that begins with this one: up to where the next one begins
   abbrev pub request_size : ℕ → ℕ
-  request_size i = 1 + position_or_len (λ (o : Option ℕ). is_none o) (drop (i + 1) (callers_of calls))
+  request_size i =
+      1 + position_or_len (λ (o : Option ℕ). is_none o) (drop (i + 1) (callers_of calls))
 
   -- these calls
   abbrev pub request_calls : ℕ → List ℕ

@@ -71,13 +71,15 @@ module _ (calls : List Call) (p : Placing) (t : Threading) where
   }
 
 -- the threading of contexts of calls, where calls may overlap by a grace in nanoseconds
-pub record AreThreaded (grace : ℕ) (calls : List Call) (numbers : List ℕ) (contexts : List Frame) (t : Threading) : Type 0 where
+pub record AreThreaded (grace : ℕ) (calls : List Call) (numbers : List ℕ) (contexts : List Frame)
+    (t : Threading) : Type 0 where
   pub forks : t.forked ≡ forked_of grace calls numbers (length contexts)
   pub linked : t.groups ≡ groups_of (length contexts) (context_pairs grace calls numbers)
   pub run : AreThreads contexts t.forked t.threads
 
 -- the lines of each request that is asked for of spans, each of which is there once
-pub record AreRequestLines (spans : List Span) (grace : ℕ) (asked : Option (List ℕ)) (requests : List (List Event)) : Type 0 where
+pub record AreRequestLines (spans : List Span) (grace : ℕ) (asked : Option (List ℕ))
+    (requests : List (List Event)) : Type 0 where
   -- the numbers of the spans that begin requests, in the order of these
   pub entries : List ℕ
   pub within : All (λ e. e < length spans) entries

@@ -14,8 +14,8 @@ use span_calls::Call;
 use span_types::SpanKind;
 use std::alloc::{AllocError, Global};
 
-/// Of the calls of a call that go to other machines by messages the first one, and the one that ends
-/// last; of several the first.
+/// Of the calls of a call that go to other machines by messages the first one, and the one that
+/// ends last; of several the first.
 #[derive(Clone, Copy, Debug)]
 pub(crate) struct FarCalls {
     pub(crate) first: Option<usize>,
@@ -85,8 +85,8 @@ fn first_with(first: Option<usize>, call: usize) -> Option<usize>
 fn find_apart(calls: &[Call<'_>], caller: usize, below: &[usize]) -> FarCalls
     requires caller { caller < length calls.now }
     requires within { All (λ j. j < length calls.now) below.now }
-    ensures far { AreFar calls.now
-        (filter (λ j. are_apart (call_span calls.now caller) (call_span calls.now j)) below.now) result }
+    ensures far { AreFar calls.now (filter (λ j.
+        are_apart (call_span calls.now caller) (call_span calls.now j)) below.now) result }
     ensures first { IfSome result.first (λ j. j < length calls.now) }
     ensures last { IfSome result.last (λ j. j < length calls.now) }
 {
