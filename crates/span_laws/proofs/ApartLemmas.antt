@@ -1,8 +1,8 @@
 -- Lists of which no two elements are related, and lists of keys of which none stands twice.
-use Rattle.std.proofs.Common.{◌≡◌, ◌⊎◌, inl, inr, ⊎_elim, ℕ, zero, suc, ◌+◌, ◌<◌, ◌≤◌, List, [], ◌∷◌, ◌++◌, Bool, true, false, cond, length, map, filter, Option, Some, None, slice_index_or, refl, sym, ap, subst, ◌∙◌, arith, eq-or-lt_of_le}
+use Rattle.std.proofs.Common.{◌≡◌, ◌⊎◌, inl, inr, ⊎_elim, ℕ, zero, suc, ◌+◌, ◌<◌, ◌≤◌, List, [], ◌∷◌, ◌++◌, Bool, true, false, cond, map, filter, Option, Some, None, slice_index_or, refl, sym, ap, subst, ◌∙◌, arith, eq-or-lt_of_le}
 use Rattle.std.specs.Prelude.{⊤}
 use Rattle.std.specs.List.{flat_map, range_with_len}
-use Rattle.trace_types.specs.Repeats.{AreDistinct, IsRepeated}
+use Rattle.trace_types.specs.Repeats.{AreDistinct}
 
 -- x is one of these
 abbrev pub In : {X : Type 0} → List X → X → Type 0

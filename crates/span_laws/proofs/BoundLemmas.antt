@@ -1,7 +1,6 @@
 -- Which calls start and end in steps: how often, and that they are calls.
-use Rattle.std.proofs.Common.{◌≡◌, ◌⊎◌, inl, inr, ⊎_elim, ℕ, zero, suc, ◌+◌, ◌<◌, ◌≤◌, ◌==◌, ◌&&◌, List, [], ◌∷◌, ◌++◌, Bool, true, false, cond, max, nat_lt, length, count_by, flat_map, get_or, refl, sym, ap, subst, ◌∙◌, arith, eq-eqb, eqb-true}
+use Rattle.std.proofs.Common.{◌≡◌, inl, inr, ℕ, zero, suc, ◌<◌, ◌≤◌, ◌==◌, ◌&&◌, List, [], ◌∷◌, ◌++◌, Bool, true, false, cond, max, nat_lt, length, count_by, flat_map, get_or, refl, sym, ap, subst, arith, eq-eqb, eqb-true}
 use Rattle.std.specs.Prelude.{⊤}
-use Rattle.std.proofs.lemmas.List.Elements.{All-get_or}
 use Rattle.std.specs.List.{All}
 use Rattle.span_calls.specs.Calls.{AreBefore}
 use Rattle.span_calls.specs.declared.call.Call.{Call}
@@ -10,11 +9,11 @@ use Rattle.context_forks.specs.Partners.{end_of, last_after, start_of}
 use Rattle.thread_steps.proofs.GapLemmas.{count-cons}
 use Rattle.thread_steps.proofs.TableLemmas.{below_behind}
 use Rattle.thread_steps.specs.Parts.{Grouping, cut_from, fork_together, forks, parts_of}
-use Rattle.thread_steps.specs.Steps.{gone_into, own_steps, part_steps, piece_after, steps_from, steps_over, steps_within}
+use Rattle.thread_steps.specs.Steps.{gone_into, own_steps, part_steps, piece_after, steps_over, steps_within}
 use Rattle.thread_steps.specs.ThreadLaws.{is_end, is_start, thread_steps}
 use Rattle.thread_steps.specs.declared.step.Step.{Step}
 use Rattle.thread_steps.specs.declared.step.Step.TheVariants.{Starts, Ends, Forks, Joins}
-use Rattle.span_laws.proofs.ApartLemmas.{Every, In, Once, every_from_in, every_in}
+use Rattle.span_laws.proofs.ApartLemmas.{Every, In, Once, every_from_in}
 use Rattle.span_laws.proofs.StampLemmas.{ends_of, starts_of}
 
 -- ---- counts

@@ -1,6 +1,6 @@
 -- Calls to other machines, and the names of machines.
-use Rattle.std.proofs.Common.{◌≡◌, inl, inr, ℕ, zero, suc, ◌+◌, ◌^◌, ◌<◌, ◌≤◌, ◌==◌, List, [], ◌∷◌, Bool, true, false, not, cond, length, map, filter, position, Option, Some, None, IfSome, get_or, slice_get, refl, sym, ap, subst, ◌∙◌, arith, eqb-true, unwrap_or}
-use Rattle.std.specs.List.{All, list_any, position_or_len, range_with_len}
+use Rattle.std.proofs.Common.{◌≡◌, inl, inr, ℕ, zero, suc, ◌^◌, ◌<◌, List, [], ◌∷◌, Bool, true, false, not, cond, length, filter, Option, Some, None, IfSome, get_or, slice_get, refl, sym, ap, subst, ◌∙◌, arith, eqb-true, unwrap_or}
+use Rattle.std.specs.List.{list_any, position_or_len, range_with_len}
 use Rattle.std.specs.Option.{option_and_then}
 use Rattle.std.specs.Str.{bytes_eq}
 use Rattle.std.proofs.lemmas.List.{length-map}
@@ -20,8 +20,8 @@ use Rattle.context_forks.specs.Partners.{last_to_end}
 use Rattle.context_names.specs.Machines.{AreNamed, MachineNames}
 use Rattle.context_names.specs.NameLaws.{MachinesDiffer}
 use Rattle.span_lines.specs.Mappings.{name_of}
-use Rattle.span_lines.specs.Messages.{all_first_far, all_last_far, call_span, far_among, far_calls, first_far, last_far, sends_calls}
-use Rattle.span_laws.proofs.ApartLemmas.{In, Every, every_from_in, every_in, in_filter, in_range}
+use Rattle.span_lines.specs.Messages.{all_first_far, all_last_far, call_span, far_calls, first_far, last_far, sends_calls}
+use Rattle.span_laws.proofs.ApartLemmas.{In, in_filter, in_range}
 
 number_is : (n : ℕ) (o : Option ℕ) → is_number n o ≡ true → o ≡ Some n
 number_is n None e = let w : false ≡ true = e in cc

@@ -1,6 +1,5 @@
 -- Which calls begin threads, and which stand in them.
-use Rattle.std.proofs.Common.{◌≡◌, ◌⊎◌, inl, inr, ⊎_elim, ℕ, zero, suc, ◌+◌, ◌<◌, ◌≤◌, ◌==◌, List, [], ◌∷◌, ◌++◌, Bool, true, false, cond, length, map, filter, flat_map, count_by, Option, Some, None, is_none, IsSome, option_map, get_or, slice_get, refl, sym, ap, subst, ◌∙◌, arith, eq-eqb, eqb-true}
-use Rattle.std.specs.List.{range_with_len}
+use Rattle.std.proofs.Common.{◌≡◌, ◌⊎◌, inl, inr, ⊎_elim, ℕ, zero, suc, ◌+◌, ◌<◌, ◌≤◌, ◌==◌, List, [], ◌∷◌, ◌++◌, Bool, true, false, cond, length, filter, flat_map, count_by, Option, Some, None, is_none, get_or, slice_get, refl, sym, ap, ◌∙◌, arith, eq-eqb, eqb-true}
 use Rattle.std.proofs.lemmas.List.{get_or-map}
 use Rattle.std.proofs.lemmas.List.FromFn.{get_or-map-range_with_len}
 use Rattle.std.proofs.lemmas.Option.{slice_get-get_or, slice_get_within}
@@ -14,10 +13,10 @@ use Rattle.thread_steps.proofs.TableLemmas.{caller_before}
 use Rattle.thread_steps.specs.Parts.{Grouping, forks}
 use Rattle.thread_steps.specs.ThreadLaws.{all_steps, caller_within, count_of, thread_heads, thread_steps}
 use Rattle.thread_steps.specs.declared.step.Step.{Step}
-use Rattle.span_lines.specs.Mappings.{Mapping, begins_thread, context_of}
+use Rattle.span_lines.specs.Mappings.{Mapping, begins_thread}
 use Rattle.span_lines.specs.Requests.{request_calls, request_size}
 use Rattle.span_lines.specs.SpanLines.{AreThreaded, Placing, Threading, group_numbers, mapping_of}
-use Rattle.span_laws.proofs.ApartLemmas.{Every, In, Once, in_filter, in_range, in_to_filter, in_to_range, once_range, pairs_filter}
+use Rattle.span_laws.proofs.ApartLemmas.{In, Once, in_filter, in_range, once_range, pairs_filter}
 
 pub filter_agree_in : {X : Type 0} (p q : X → Bool) (xs : List X) → ((x : X) → In xs x → p x ≡ q x) → filter p xs ≡ filter q xs
 filter_agree_in p q [] f = refl

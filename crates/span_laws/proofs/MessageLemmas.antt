@@ -1,23 +1,17 @@
 -- In a request no message is sent twice or received twice, and what is sent is received on another
 -- machine, and the other way round.
-use Rattle.std.proofs.Common.{◌≡◌, ◌≢◌, ◌⊎◌, inl, inr, ⊎_elim, ℕ, ◌==◌, List, [], ◌∷◌, ◌++◌, Bool, true, false, cond, map, flat_map, Option, Some, None, slice_index_or, reverse, codes, nat_lt, refl, sym, ap, subst, ◌∙◌, arith, Decides, eqb, eq-eqb, eqb-true}
+use Rattle.std.proofs.Common.{◌≡◌, inl, inr, ℕ, ◌==◌, List, [], ◌∷◌, ◌++◌, Bool, true, false, cond, map, Option, Some, None, slice_index_or, reverse, codes, nat_lt, refl, sym, ap, subst, ◌∙◌, arith, eq-eqb, eqb-true}
 use Rattle.std.specs.Prelude.{⊤}
 use Rattle.std.proofs.lemmas.List.{append_cancel_right, reverse-append}
-use Rattle.trace_types.specs.Events.{receipts_of, sends_of}
-use Rattle.trace_types.specs.Repeats.{AreDistinct}
-use Rattle.trace_types.specs.declared.event.Event.{Event}
 use Rattle.span_calls.specs.declared.call.Call.{Call}
-use Rattle.span_names.specs.declared.piece.Piece.{Piece}
 use Rattle.span_types.specs.declared.span.Span.{Span}
 use Rattle.context_forks.specs.Partners.{end_of, start_of}
 use Rattle.thread_steps.specs.declared.step.Step.{Step}
 use Rattle.thread_steps.specs.declared.step.Step.TheVariants.{Starts, Ends, Forks, Joins}
-use Rattle.span_lines.specs.Lines.{lines_from, piece_after}
-use Rattle.span_lines.specs.Mappings.{Mapping, context_of, name_of}
+use Rattle.span_lines.specs.Mappings.{Mapping, name_of}
 use Rattle.span_lines.specs.Messages.{call_span, caller_of_call}
-use Rattle.span_lines.specs.Moments.{Moment, if_said, message_with, moment_of, moment_on, moment_within, said_by, seen_moment}
-use Rattle.span_laws.proofs.ApartLemmas.{In, Every, Pairs, Once, distinct, every_in, every_from_in, in_flat, in_to_flat, pairs_weaker, present}
-use Rattle.span_laws.proofs.NamedLemmas.{lines_by, map_flat}
+use Rattle.span_lines.specs.Moments.{Moment, if_said, message_with, moment_of, moment_on, said_by, seen_moment}
+use Rattle.span_laws.proofs.ApartLemmas.{In, Every, Pairs, Once, every_in, every_from_in, pairs_weaker, present}
 use Rattle.span_laws.proofs.StampLemmas.{ends_of, starts_of}
 
 -- ---- keys that are there

@@ -1,15 +1,14 @@
 -- In a request no task has an event twice.
-use Rattle.std.proofs.Common.{◌≡◌, ℕ, List, [], ◌∷◌, ◌++◌, map, Option, Some, None, flat_map, refl, sym, ap, subst, ◌∙◌}
+use Rattle.std.proofs.Common.{◌≡◌, ℕ, List, [], ◌∷◌, ◌++◌, map, None, flat_map, refl, sym, ap, subst, ◌∙◌}
 use Rattle.std.proofs.lemmas.List.{map-append}
 use Rattle.trace_types.specs.Events.{named_events}
 use Rattle.trace_types.specs.Repeats.{AreDistinct}
 use Rattle.trace_types.specs.declared.event.Event.{Event}
 use Rattle.context_names.specs.Tasks.{task_name}
-use Rattle.span_names.specs.declared.piece.Piece.{Piece}
 use Rattle.thread_steps.specs.declared.step.Step.{Step}
-use Rattle.span_lines.specs.Lines.{event_of, line_of, lines_from, thread_lines}
+use Rattle.span_lines.specs.Lines.{event_of, line_of, lines_from}
 use Rattle.span_lines.specs.Mappings.{Mapping, context_of}
-use Rattle.span_laws.proofs.ApartLemmas.{In, Every, Pairs, Once, distinct, every_from_in, in_map, pairs_flat, pairs_map, pairs_weaker, present, present_some}
+use Rattle.span_laws.proofs.ApartLemmas.{In, Pairs, Once, distinct, every_from_in, in_map, pairs_flat, pairs_map, pairs_weaker, present_some}
 use Rattle.span_laws.proofs.StampLemmas.{Stamp, lines_are, stamped}
 
 abbrev pub Key : Type 0

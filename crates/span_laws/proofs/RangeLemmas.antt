@@ -1,6 +1,6 @@
 -- The calls of a request: a range of indexes, which has of each of its calls the caller and all that it
 -- calls.
-use Rattle.std.proofs.Common.{◌≡◌, ◌⊎◌, inl, inr, ⊎_elim, ℕ, zero, suc, ◌+◌, ◌-◌, ◌<◌, ◌≤◌, List, [], ◌∷◌, Bool, true, false, not, length, map, drop, Option, Some, None, IsSome, is_none, is_some, get_or, slice_get, refl, sym, ap, subst, ◌∙◌, arith, eq-or-lt_of_le, lt_of_not-le}
+use Rattle.std.proofs.Common.{◌≡◌, ⊎_elim, ℕ, zero, suc, ◌+◌, ◌-◌, ◌<◌, ◌≤◌, List, [], ◌∷◌, true, false, not, length, drop, Option, Some, None, IsSome, is_none, get_or, slice_get, refl, sym, ap, subst, ◌∙◌, arith, eq-or-lt_of_le, lt_of_not-le}
 use Rattle.std.specs.List.{position_or_len}
 use Rattle.std.specs.Option.{option_and_then}
 use Rattle.std.proofs.lemmas.List.{get_or-drop, get_or-map, length-drop, length-map}

@@ -1,24 +1,21 @@
 -- The threads of a request: what is known of their steps and names.
-use Rattle.std.proofs.Common.{◌≡◌, ◌⊎◌, inl, inr, ⊎_elim, ℕ, suc, ◌+◌, ◌^◌, ◌<◌, ◌≤◌, List, [], ◌∷◌, Bool, true, false, length, map, flat_map, count_by, Option, Some, None, IsSome, get_or, slice_get, slice_index, refl, sym, ap, subst, ◌∙◌, arith, lt_of_not-le}
+use Rattle.std.proofs.Common.{◌≡◌, ℕ, suc, ◌+◌, ◌^◌, ◌<◌, ◌≤◌, List, [], length, flat_map, count_by, Option, Some, None, IsSome, get_or, slice_get, sym, ap, subst, ◌∙◌, arith, lt_of_not-le}
 use Rattle.trace_types.specs.Events.{named_events}
 use Rattle.trace_types.specs.Repeats.{AreDistinct}
 use Rattle.span_calls.specs.Calls.{AreBefore}
 use Rattle.span_calls.specs.declared.call.Call.{Call}
 use Rattle.call_contexts.specs.ContextOrder.{AreOrdered}
-use Rattle.call_contexts.specs.Contexts.{AreContexts, Frame, above_by}
+use Rattle.call_contexts.specs.Contexts.{AreContexts, above_by}
 use Rattle.call_laws.specs.ContextLaws.{ContextsAreOfOneCall, GroupsHaveOneAbove}
 use Rattle.context_forks.specs.Forks.{callers_of, context_pairs}
 use Rattle.context_names.specs.Machines.{MachineNames}
 use Rattle.context_names.specs.NameLaws.{AreInOrder, GroupsDiffer, HaveOneAbove, IsForkedBelow, LabelsDiffer, TasksDiffer}
-use Rattle.context_names.specs.Tasks.{task_name}
-use Rattle.linked_groups.specs.Groups.{groups_of}
 use Rattle.span_names.specs.NameLaws.{HasSize}
-use Rattle.span_names.specs.declared.piece.Piece.{Piece}
-use Rattle.thread_steps.specs.Parts.{Grouping, forks, group_of}
+use Rattle.thread_steps.specs.Parts.{Grouping}
 use Rattle.thread_steps.specs.StepKeys.{AreToldApart, IsForkedBy, StepsDiffer}
 use Rattle.thread_steps.specs.ThreadLaws.{AreClosed, CallsStandWithCallers, EachStandsOnce, NoOtherStands, all_steps, is_end, is_start, thread_steps}
 use Rattle.thread_steps.specs.declared.step.Step.{Step}
-use Rattle.thread_steps.specs.declared.step.Step.TheVariants.{Starts, Ends, Forks, Joins}
+use Rattle.thread_steps.specs.declared.step.Step.TheVariants.{Starts, Ends}
 use Rattle.span_lines.specs.Lines.{event_of}
 use Rattle.span_lines.specs.Mappings.{Mapping, label_of}
 use Rattle.span_lines.specs.Requests.{request_lines, request_size}

@@ -1,5 +1,5 @@
 -- The messages of a request.
-use Rattle.std.proofs.Common.{◌≡◌, ◌≢◌, ◌⊎◌, inl, inr, ⊎_elim, ℕ, zero, suc, ◌+◌, ◌^◌, ◌<◌, ◌≤◌, List, [], ◌∷◌, ◌++◌, Bool, true, false, length, map, flat_map, Option, Some, None, IsSome, get_or, slice_get, refl, sym, ap, subst, ◌∙◌, arith}
+use Rattle.std.proofs.Common.{◌≡◌, inl, inr, ℕ, zero, suc, ◌+◌, ◌^◌, ◌<◌, ◌≤◌, List, [], ◌∷◌, ◌++◌, true, length, map, flat_map, Option, Some, None, IsSome, get_or, slice_get, refl, sym, ap, subst, ◌∙◌, arith}
 use Rattle.std.specs.List.{list_any}
 use Rattle.std.specs.Option.{option_and_then}
 use Rattle.std.specs.Str.{bytes_eq}
@@ -31,15 +31,15 @@ use Rattle.span_lines.specs.Messages.{call_span}
 use Rattle.span_lines.specs.Moments.{moment_of}
 use Rattle.span_lines.specs.Requests.{request_lines, request_size}
 use Rattle.span_lines.specs.SpanLines.{AreThreaded, Placing, Threading, mapping_of}
-use Rattle.span_laws.proofs.ApartLemmas.{In, Once, distinct, in_append, in_flat, in_left, in_right, in_to_flat, present}
+use Rattle.span_laws.proofs.ApartLemmas.{In, Once, distinct, in_flat, in_to_flat, present}
 use Rattle.span_laws.proofs.FarLemmas.{IsFar, first_far_is, last_far_is, names_apart}
 use Rattle.span_laws.proofs.HeadLemmas as head
-use Rattle.span_laws.proofs.MessageLemmas.{AreSent, IsAnswered, received_was_sent, receipts_once, sends_once, sent_is_received}
-use Rattle.span_laws.proofs.NamedLemmas.{lines_by, map_flat}
+use Rattle.span_laws.proofs.MessageLemmas.{AreSent, received_was_sent, receipts_once, sends_once, sent_is_received}
+use Rattle.span_laws.proofs.NamedLemmas.{lines_by}
 use Rattle.span_laws.proofs.RangeLemmas.{above}
 use Rattle.span_laws.proofs.RequestLemmas as request
 use Rattle.span_laws.proofs.RequestLemmas.{Laws}
-use Rattle.span_laws.proofs.StampLemmas.{ends_of, starts_of}
+use Rattle.span_laws.proofs.StampLemmas.{starts_of}
 use Rattle.span_laws.proofs.TraceLemmas as trace
 
 -- ---- lines and steps

@@ -1,5 +1,5 @@
 -- The numbers of pieces are those of contexts and calls at most.
-use Rattle.std.proofs.Common.{◌≡◌, ◌⊎◌, inl, inr, ⊎_elim, ℕ, zero, suc, ◌+◌, ◌^◌, ◌<◌, ◌≤◌, ◌&&◌, List, [], ◌∷◌, ◌++◌, Bool, true, false, cond, max, nat_lt, length, count_by, flat_map, filter, Option, Some, None, IfSome, get_or, refl, sym, ap, subst, ◌∙◌, arith, lt_of_not-le}
+use Rattle.std.proofs.Common.{◌≡◌, ◌⊎◌, inl, inr, ⊎_elim, ℕ, zero, suc, ◌+◌, ◌^◌, ◌<◌, ◌≤◌, ◌&&◌, List, [], ◌∷◌, ◌++◌, Bool, true, false, cond, max, nat_lt, length, count_by, flat_map, Option, Some, None, IfSome, get_or, refl, ap, subst, arith}
 use Rattle.std.specs.Prelude.{⊤}
 use Rattle.std.specs.List.{All, list_any, range_with_len}
 use Rattle.std.proofs.lemmas.List.{get_or_past, length-append, length-map}
@@ -12,7 +12,6 @@ use Rattle.context_forks.specs.Forks.{callers_of, calls_below}
 use Rattle.context_forks.specs.Partners.{end_of, last_after, start_of}
 use Rattle.span_names.specs.NameLaws.{HasSize}
 use Rattle.span_names.specs.declared.piece.Piece.{Piece}
-use Rattle.span_lines.specs.Lines.{piece_after as piece_behind}
 use Rattle.thread_steps.specs.Parts.{Grouping, cut_from, fork_together, forks, group_of, is_part_with, parts_of}
 use Rattle.thread_steps.specs.Steps.{gone_into, own_steps, part_steps, piece_after, steps_over, steps_within}
 use Rattle.thread_steps.specs.ThreadLaws.{thread_steps}

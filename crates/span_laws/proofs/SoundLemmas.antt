@@ -1,9 +1,7 @@
 -- The lines of requests are sound.
-use Rattle.std.proofs.Common.{◌≡◌, ◌≢◌, inl, inr, ℕ, zero, suc, ◌+◌, ◌^◌, ◌<◌, ◌≤◌, List, [], ◌∷◌, Bool, true, false, length, map, filter, Option, Some, None, is_none, get_or, refl, sym, ap, subst, ◌∙◌, arith}
+use Rattle.std.proofs.Common.{◌≡◌, inl, inr, ℕ, zero, suc, ◌<◌, List, [], ◌∷◌, true, false, length, map, Option, Some, None, is_none, get_or, refl, sym, subst, arith}
 use Rattle.std.specs.List.{All, Contains, range_with_len}
 use Rattle.trace_types.specs.declared.event.Event.{Event}
-use Rattle.segment_cut.specs.Faults.{IsTraceFault}
-use Rattle.segment_cut.specs.declared.trace_fault.TraceFault.{TraceFault}
 use Rattle.segment_cut.specs.declared.trace_fault.TraceFault.TheVariants.{Memory, TooManyEvents, RepeatedEvent, RepeatedSend, RepeatedRecv, ClockRange}
 use Rattle.span_types.specs.declared.span.Span.{Span}
 use Rattle.span_requests.specs.Callers.{caller_numbers}
@@ -13,16 +11,15 @@ use Rattle.span_calls.proofs.CallLemmas.{before_from}
 use Rattle.span_calls.specs.Calls.{AreBefore}
 use Rattle.span_calls.specs.Seen.{span_at}
 use Rattle.span_calls.specs.declared.call.Call.{Call}
-use Rattle.call_laws.specs.CallLaws.{AreAskedFor, AreCallsOf, CallsAreTogether, InputsHaveCalls, SpansAreCalledOnce}
+use Rattle.call_laws.specs.CallLaws.{AreCallsOf, CallsAreTogether, InputsHaveCalls, SpansAreCalledOnce}
 use Rattle.context_forks.specs.Forks.{callers_of}
 use Rattle.context_names.specs.NameLaws.{MachinesDiffer, NumbersAreFew}
 use Rattle.thread_steps.specs.Parts.{Grouping}
-use Rattle.thread_steps.specs.declared.step.Step.{Step}
 use Rattle.span_lines.specs.Mappings.{Mapping}
 use Rattle.span_lines.specs.Messages.{call_span}
 use Rattle.span_lines.specs.Requests.{begins_request, name_of_request, request_lines, request_starts}
 use Rattle.span_lines.specs.SpanLines.{AreRequestLines, group_numbers, mapping_of}
-use Rattle.span_laws.specs.LineLaws.{AreFew, AreSound, IsOfSizeOrClock, RequestsAreSound, SoundLinesAreTaken}
+use Rattle.span_laws.specs.LineLaws.{AreFew, AreSound, RequestsAreSound, SoundLinesAreTaken}
 use Rattle.span_laws.proofs.ApartLemmas.{In, in_filter, in_map, in_range}
 use Rattle.span_laws.proofs.HeadLemmas as head
 use Rattle.span_laws.proofs.RequestLemmas as request
@@ -39,24 +36,24 @@ pub record AllLaws : Type 0 where
   pub once : SpansAreCalledOnce
   pub together : CallsAreTogether
 
-at_in : {X : Type 0} (xs : List X) (i : ℕ) (d : X) → i < length xs → In xs (get_or xs i d)
+pub at_in : {X : Type 0} (xs : List X) (i : ℕ) (d : X) → i < length xs → In xs (get_or xs i d)
 at_in [] i d l = absurd (omega (arith, l))
 at_in (x ∷ xs) zero d l = inl refl
 at_in (x ∷ xs) (suc i) d l = inr (at_in xs i d (omega (arith, l)))
 
-contains_in : {X : Type 0} (xs : List X) (x : X) → Contains xs x → In xs x
+pub contains_in : {X : Type 0} (xs : List X) (x : X) → Contains xs x → In xs x
 contains_in xs x (k, l, e) = subst (In xs) e (at_in xs k x l)
 
-in_contains : {X : Type 0} (xs : List X) (x : X) → In xs x → Contains xs x
+pub in_contains : {X : Type 0} (xs : List X) (x : X) → In xs x → Contains xs x
 in_contains [] x h = absurd h
 in_contains (y ∷ xs) x (inl e) = (0, omega arith, e)
 in_contains (y ∷ xs) x (inr h) = let p = in_contains xs x h in let l = p.1 in (suc p.0, omega (arith, l), p.2)
 
-none_is : (o : Option ℕ) → is_none o ≡ true → o ≡ None
+pub none_is : (o : Option ℕ) → is_none o ≡ true → o ≡ None
 none_is None e = refl
 none_is (Some x) e = let w : false ≡ true = e in cc
 
-a_call : (calls : List Call) (i : ℕ) → i < length calls → Call
+pub a_call : (calls : List Call) (i : ℕ) → i < length calls → Call
 a_call [] i l = absurd (omega (arith, l))
 a_call (c ∷ calls) i l = c
 

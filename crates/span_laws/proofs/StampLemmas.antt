@@ -1,9 +1,8 @@
 -- The steps of a thread, each with the piece that it is logged in: no two are logged alike.
-use Rattle.std.proofs.Common.{◌≡◌, ◌⊎◌, inl, inr, ⊎_elim, ℕ, suc, ◌+◌, ◌<◌, ◌≤◌, List, [], ◌∷◌, ◌++◌, length, map, Option, Some, None, get_or, slice_get, slice_index, slice_index_or, reverse, codes, refl, sym, ap, subst, ◌∙◌, arith}
+use Rattle.std.proofs.Common.{◌≡◌, inl, inr, ℕ, suc, ◌<◌, List, [], ◌∷◌, length, map, Option, Some, None, get_or, slice_get, slice_index, slice_index_or, reverse, codes, refl, sym, ap, subst, ◌∙◌, arith}
 use Rattle.std.specs.Prelude.{⊤}
 use Rattle.std.proofs.lemmas.List.{append_cancel_right, reverse-append}
 use Rattle.std.proofs.lemmas.Option.{slice_get-get_or}
-use Rattle.trace_types.specs.declared.event.Event.{Event}
 use Rattle.context_names.specs.Tasks.{task_name}
 use Rattle.span_names.specs.declared.piece.Piece.{Piece}
 use Rattle.thread_steps.specs.Parts.{Grouping}
@@ -12,7 +11,7 @@ use Rattle.thread_steps.specs.declared.step.Step.{Step}
 use Rattle.thread_steps.specs.declared.step.Step.TheVariants.{Starts, Ends, Forks, Joins}
 use Rattle.span_lines.specs.Lines.{event_of, line_of, lines_from, piece_after}
 use Rattle.span_lines.specs.Mappings.{Mapping, head_label, label_of}
-use Rattle.span_laws.proofs.ApartLemmas.{In, Every, Pairs, Once, every_in, every_from_in, in_to_map, pairs_both, pairs_weaker}
+use Rattle.span_laws.proofs.ApartLemmas.{In, Pairs, Once, every_in, every_from_in, in_to_map, pairs_weaker}
 
 -- a step and the piece that it is logged in
 abbrev pub Stamp : Type 0
@@ -90,13 +89,13 @@ began piece (step ∷ later) z (inr h) = more_began step later z (began (piece_a
 -- ---- events
 
 -- the last byte but one of the name of a step's event
-abbrev mark : Step → ℕ
+abbrev pub mark : Step → ℕ
 mark (Starts i) = 114
 mark (Ends i) = 110
 mark (Forks i) = 107
 mark (Joins i piece) = 101
 
-marked : (m : Mapping) (step : Step) → slice_index_or (reverse (event_of m step)) 1 0 ≡ mark step
+pub marked : (m : Mapping) (step : Step) → slice_index_or (reverse (event_of m step)) 1 0 ≡ mark step
 marked m (Starts i) = ap (λ xs. slice_index_or xs 1 0) (reverse-append (label_of m i) (codes " start"))
 marked m (Ends i) = ap (λ xs. slice_index_or xs 1 0) (reverse-append (label_of m i) (codes " end"))
 marked m (Forks i) = ap (λ xs. slice_index_or xs 1 0) (reverse-append (head_label m i) (codes " forks"))

@@ -1,24 +1,23 @@
 -- The spans of a request are of one trace, so that their ids differ.
-use Rattle.std.proofs.Common.{◌≡◌, ◌≢◌, ◌⊎◌, inl, inr, ⊎_elim, ℕ, zero, suc, ◌+◌, ◌<◌, ◌≤◌, ◌==◌, ◌&&◌, List, [], ◌∷◌, Bool, true, false, not, length, map, filter, take, position, Option, Some, None, get_or, refl, sym, ap, subst, ◌∙◌, arith, eqb-true}
-use Rattle.std.specs.List.{All, AllPairs}
+use Rattle.std.proofs.Common.{◌≡◌, ◌⊎◌, inl, inr, ⊎_elim, ℕ, zero, suc, ◌<◌, ◌==◌, ◌&&◌, List, [], ◌∷◌, Bool, true, false, not, length, filter, take, position, Option, Some, None, get_or, refl, sym, ap, ◌∙◌, arith, eqb-true}
 use Rattle.std.specs.Option.{option_and_then}
 use Rattle.std.specs.Str.{bytes_eq}
 use Rattle.std.proofs.lemmas.Bool.{and_parts}
-use Rattle.std.proofs.lemmas.List.{get_or-map, get_or-take, length-map, length-take-le}
-use Rattle.std.proofs.lemmas.List.FromFn.{get_or-map-range_with_len, length-map-range_with_len}
+use Rattle.std.proofs.lemmas.List.{get_or-map, get_or-take, length-map}
+use Rattle.std.proofs.lemmas.List.FromFn.{get_or-map-range_with_len}
 use Rattle.std.proofs.lemmas.List.Quantifiers.{position-Some}
 use Rattle.std.proofs.lemmas.Slice.Eq.{bytes_eq-Decides}
 use Rattle.trace_types.specs.Firsts.{firsts_of}
 use Rattle.span_types.specs.declared.span.Span.{Span}
 use Rattle.span_requests.specs.Callers.{caller_number, caller_numbers, is_caller, is_consumer, is_parent, is_parent_id}
 use Rattle.span_requests.specs.SpansOnce.{have_one_id, spans_once}
-use Rattle.span_calls.specs.Calls.{AreCalls, AreCallsAt, position_at}
+use Rattle.span_calls.specs.Calls.{position_at}
 use Rattle.span_calls.specs.Seen.{no_span, span_at}
 use Rattle.span_calls.specs.declared.call.Call.{Call}
 use Rattle.context_forks.specs.Forks.{callers_of}
 use Rattle.call_laws.specs.CallLaws.{AreAskedFor, AreCallsOf}
 use Rattle.span_lines.specs.Messages.{call_span}
-use Rattle.span_laws.proofs.ApartLemmas.{Every, In, Pairs, every_from_in, every_in, in_filter, pairs_filter}
+use Rattle.span_laws.proofs.ApartLemmas.{In, Pairs, every_from_in, every_in, in_filter, pairs_filter}
 use Rattle.span_laws.proofs.HeadLemmas.{same_or}
 
 some_is : {K : Type 0} (j k : K) → ◌≡◌ {A = Option K} (Some j) (Some k) → j ≡ k
@@ -84,7 +83,7 @@ module _ (input : List Span) (asked : Option (List ℕ)) (entries : List ℕ) (c
   abbrev pub number : ℕ → ℕ
   number i = get_or h.are.numbers i 0
 
-  size : length h.are.numbers ≡ length calls
+  pub size : length h.are.numbers ≡ length calls
   size = sym (length-map h.are.numbers (span_at spans)) ∙ ap length (sym h.are.are.told) ∙ length-map calls (λ (c : Call). c.span.now)
 
   pub number_within : (i : ℕ) → i < length calls → number i < length spans
