@@ -1,12 +1,13 @@
 -- Contexts, numbered one after another.
 use Rattle.std.proofs.Common.{◌≡◌, ◌⊎◌, inl, inr, ℕ, zero, suc, ◌+◌, ◌<◌, ◌≤◌, List, [], ◌∷◌, ◌++◌, Bool, true, false, eqb, eq-eqb, Option, Some, None, length, get_or, slice_get, refl, sym, ap, ◌∙◌, subst, true≢false, arith}
 use Rattle.std.specs.Prelude.{◌||◌, if◌then◌else◌, nat_eq, IfSome}
-use Rattle.std.specs.List.{list_any, position_or_len}
+use Rattle.std.specs.List.{Contains, list_any, position_or_len}
 use Rattle.std.specs.Option.{option_eq}
 use Rattle.std.specs.Str.{bytes_eq}
 use Rattle.std.proofs.lemmas.Bool.{and_parts, cases_order, eqb-true}
 use Rattle.std.proofs.lemmas.List.{get_or_append_left, get_or_push, length-append}
 use Rattle.std.proofs.lemmas.List.Elements.{All-get_or, All-nil, All-push, All-weaker}
+use Rattle.std.proofs.lemmas.List.Elements.{Contains-append_left, Contains-push}
 use Rattle.std.proofs.lemmas.List.Sums.{passes_at_first}
 use Rattle.std.proofs.lemmas.Option.{slice_get-get_or, slice_get_within}
 use Rattle.std.proofs.lemmas.Slice.Eq.{bytes_eq-Decides}
@@ -166,6 +167,21 @@ module _ (calls : List Call) (ordinals : List ℕ) (at : ℕ) (numbers : List �
         by (inr a) (inl b) = absurd (none_there frames f j a.2 (b ∙ ap (λ (x : Frame). Some x) a.1))
         by (inr a) (inr b) = a.0 ∙ sym b.0
 
+    useds : (x : ℕ) → x < length (with_frame frames f) → Contains (numbers ++ n ∷ []) x
+    useds x low = by (list_any (frame_eq f) frames) refl
+      where
+        old : x < length frames → Contains (numbers ++ n ∷ []) x
+        old lt = Contains-append_left numbers (n ∷ []) x (h.used x lt)
+
+        by : (b : Bool) → list_any (frame_eq f) frames ≡ b → Contains (numbers ++ n ∷ []) x
+        by true e = old (omega (arith, low, ap (λ (xs : List Frame). length xs) (there frames f e)))
+        by false e = placed (cases_order x (length frames))
+          where
+            placed : (x ≡ length frames) ⊎ ((x < length frames) ⊎ (length frames < x)) → Contains (numbers ++ n ∷ []) x
+            placed (inl same) = subst (Contains (numbers ++ n ∷ [])) (number ∙ place_full (frame_eq f) frames e ∙ sym same) (Contains-push numbers n)
+            placed (inr (inl less)) = old less
+            placed (inr (inr more)) = absurd (omega (arith, more, low, ap (λ (xs : List Frame). length xs) (fresh frames f e), length-append frames (f ∷ [])))
+
     above_low : (a : ℕ) → above_by numbers c.caller ≡ Some a → a < length frames
     above_low a e = by c.caller refl e
       where
@@ -190,6 +206,7 @@ module _ (calls : List Call) (ordinals : List ℕ) (at : ℕ) (numbers : List �
           (slice_get_within (with_frame frames f) n f last);
       own = owns;
       apart = aparts;
+      used = useds;
       before = befores_more;
     }
 
@@ -199,6 +216,7 @@ so_far_none calls ordinals numbers frames e g = subst (λ (ns : List ℕ). AreSo
   within = All-nil (λ n. n < 0);
   own = λ i c lt is. absurd (omega (arith, lt));
   apart = λ i j f a b. absurd (empty i f a);
+  used = λ x lt. absurd (omega (arith, lt));
   before = λ i a f is up. absurd (empty i f is);
 })
   where
@@ -211,6 +229,7 @@ so_far_all calls numbers frames h = record {
   within = h.within;
   own = λ i c there. h.own i c (slice_get_within calls i c there) there;
   apart = h.apart;
+  used = h.used;
   before = h.before;
 }
 

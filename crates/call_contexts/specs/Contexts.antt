@@ -2,6 +2,7 @@
 -- its like that its caller makes, below the context of its caller.
 use Rattle.std.specs.Prelude.{ℕ, ◌≡◌, ◌<◌, ◌==◌, ◌&&◌, List, Bool, All, Option, Some, None, nat_eq}
 use Rattle.std.specs.Prelude.{length, map, slice_get, slice_index}
+use Rattle.std.specs.List.{Contains}
 use Rattle.std.specs.Option.{option_eq, option_map}
 use Rattle.std.specs.Str.{bytes_eq}
 use Rattle.call_trees.specs.Ordinals.{ordinals_of}
@@ -70,8 +71,8 @@ frame_at numbers ordinal c = record {
 abbrev pub HaveAbove : List Frame → Type 0
 HaveAbove contexts = (i a : ℕ) (f : Frame) → slice_get contexts i ≡ Some f → f.above ≡ Some a → a < i
 
--- no two contexts are one, and each call has the number of its own; the context above one stands
--- before it
+-- the contexts are those of calls, no two of them are one, and each call has the number of its own;
+-- the context above one stands before it
 pub record AreContexts (calls : List Call) (numbers : List ℕ) (contexts : List Frame) : Type 0 where
   pub size : length numbers ≡ length calls
   pub within : All (λ n. n < length contexts) numbers
@@ -80,4 +81,5 @@ pub record AreContexts (calls : List Call) (numbers : List ℕ) (contexts : List
       ≡ Some (frame_at numbers (slice_index (ordinals_among calls) i) c)
   pub apart : (i j : ℕ) (f : Frame) → slice_get contexts i ≡ Some f → slice_get contexts j ≡ Some f
       → i ≡ j
+  pub used : (x : ℕ) → x < length contexts → Contains numbers x
   pub before : HaveAbove contexts

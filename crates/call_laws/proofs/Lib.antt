@@ -1,4 +1,5 @@
 pub mod ContextLemmas
+pub mod InputLemmas
 pub mod OnceLemmas
 pub mod OrderLemmas
 pub mod OverlapLemmas

@@ -1,6 +1,6 @@
 -- The calls of a request, whatever the order of the spans.
 use Rattle.std.proofs.Common.{◌≡◌, ◌≢◌, ◌⊎◌, inl, inr, ℕ, zero, suc, ◌+◌, ◌<◌, ◌≤◌, List, [], ◌∷◌, ◌++◌, All, true, false, eq-eqb, Option, Some, None, length, get_or, map, drop, slice_get, refl, sym, ap, ◌∙◌, subst, arith, true≢false}
-use Rattle.std.specs.Prelude.{IsPermutation, is_none, not}
+use Rattle.std.specs.Prelude.{is_none, not}
 use Rattle.std.specs.Cmp.{IsTotalOrder}
 use Rattle.std.specs.Cmp.Lexicographic.{slice_cmp}
 use Rattle.std.specs.List.{AllPairs, Contains, flat_map, list_any, range_with_len}
@@ -26,27 +26,25 @@ use Rattle.call_trees.proofs.OrderLemmas.{order_within}
 use Rattle.call_trees.proofs.TableLemmas.{get_or-table, length-table}
 use Rattle.span_types.specs.declared.span.Span.{Span}
 use Rattle.span_requests.specs.Callers.{caller_number, caller_numbers, is_caller, is_consumer, is_parent, is_parent_id}
-use Rattle.span_requests.specs.SpansOnce.{have_one_id}
+use Rattle.span_requests.specs.SpansOnce.{have_one_id, spans_once}
 use Rattle.span_requests.proofs.CallerLemmas.{is_none-position}
 use Rattle.span_requests.proofs.ContainsLemmas.{contains_filter, contains_head, contains_range, contains_tail}
 use Rattle.span_calls.specs.Calls.{Moments, moments_at, moments_by, moments_cmp}
 use Rattle.span_calls.specs.Seen.{caller_in, no_span, span_at}
 use Rattle.span_calls.proofs.RiseLemmas.{start_ordered}
 use Rattle.span_calls.proofs.UnderLemmas.{is_some_number}
-use Rattle.call_laws.specs.OrderLaws.{AreInOrderOfCalls, HaveDifferentIds, RequestsKeepTheirCalls, called_span, calls_from}
+use Rattle.call_laws.specs.OrderLaws.{AreInOrderOfCalls, RequestsKeepTheirCalls, called_span, calls_from}
 use Rattle.call_laws.proofs.OverlapLemmas.{same_bool}
-use Rattle.call_laws.proofs.RootLemmas.{ids_own, one_number}
+use Rattle.call_laws.proofs.InputLemmas.{contains_cases, in_input, in_once}
+use Rattle.call_laws.proofs.RootLemmas.{firsts_apart, ids_own, one_number}
+
+-- no two spans have one id
+abbrev HaveDifferentIds : List Span → Type 0
+HaveDifferentIds spans = AllPairs (λ s t. have_one_id s t ≡ false) spans
 
 -- ---- lists with the same elements, in order
 
 module _ {X : Type 0} where
-  contains_cases : (y : X) (ys : List X) (z : X) → Contains (y ∷ ys) z → (z ≡ y) ⊎ Contains ys z
-  contains_cases y ys z h = by h.0 h.1 h.2
-    where
-      by : (k : ℕ) → k < length (y ∷ ys) → get_or (y ∷ ys) k z ≡ z → (z ≡ y) ⊎ Contains ys z
-      by zero lt e = inl (sym e)
-      by (suc k) lt e = inr (k, omega (arith, lt), e)
-
   head_pair : (R : X → X → Type 0) (x : X) (xs : List X) (z : X) → AllPairs R (x ∷ xs) → Contains xs z → R x z
   head_pair R x xs z h k = subst (R x) k.2 (h 0 (suc k.0) z (omega arith) (omega (arith, k.1)))
 
@@ -253,7 +251,7 @@ module _ (spans : List Span) (once : HaveDifferentIds spans) where
 
 -- ---- the same spans in another order
 
-module _ (spans others : List Span) (order other : List ℕ) (once : HaveDifferentIds spans) (also_once : HaveDifferentIds others) (moved : IsPermutation spans others) (ordered : AreInOrderOfCalls spans order) (also_ordered : AreInOrderOfCalls others other) where
+module _ (spans others : List Span) (order other : List ℕ) (once : HaveDifferentIds spans) (also_once : HaveDifferentIds others) (there : (s : Span) → Contains spans s → Contains others s) (back : (s : Span) → Contains others s → Contains spans s) (ordered : AreInOrderOfCalls spans order) (also_ordered : AreInOrderOfCalls others other) where
   same_children : (e f : ℕ) → e < length spans → f < length others → span_at spans e ≡ span_at others f → children spans once order ordered e ≡ children others also_once other also_ordered f
   same_children e f lt less same =
       same_sorted (λ a b. is_lt (moments_cmp (moments_by (Some (span_at spans e)) b) (moments_by (Some (span_at spans e)) a)) ≡ false) (children spans once order ordered e) (children others also_once other also_ordered f)
@@ -261,10 +259,10 @@ module _ (spans others : List Span) (order other : List ℕ) (once : HaveDiffere
       (subst (λ (s : Span). AllPairs (λ a b. is_lt (moments_cmp (moments_by (Some s) b) (moments_by (Some s) a)) ≡ false) (children others also_once other also_ordered f)) (sym same) (children_rise others also_once other also_ordered f))
       (λ c h.
       let own = All-contains (λ c. Contains spans c × (is_caller (span_at spans e) c ≡ true)) (children spans once order ordered e) c (all_children spans once order ordered e lt) h in
-      has_child others also_once other also_ordered f less c (Contains-permutation spans others c moved own.0) (ap (λ (s : Span). is_caller s c) (sym same) ∙ own.1))
+      has_child others also_once other also_ordered f less c (there c own.0) (ap (λ (s : Span). is_caller s c) (sym same) ∙ own.1))
       (λ c h.
       let own = All-contains (λ c. Contains others c × (is_caller (span_at others f) c ≡ true)) (children others also_once other also_ordered f) c (all_children others also_once other also_ordered f less) h in
-      has_child spans once order ordered e lt c (Contains-permutation others spans c (IsPermutation-sym spans others moved) own.0) (ap (λ (s : Span). is_caller s c) same ∙ own.1))
+      has_child spans once order ordered e lt c (back c own.0) (ap (λ (s : Span). is_caller s c) same ∙ own.1))
       (λ a b h k one two.
       let p = All-contains (λ c. Contains spans c × (is_caller (span_at spans e) c ≡ true)) (children spans once order ordered e) a (all_children spans once order ordered e lt) h in
       let q = All-contains (λ c. Contains spans c × (is_caller (span_at spans e) c ≡ true)) (children spans once order ordered e) b (all_children spans once order ordered e lt) k in
@@ -291,7 +289,7 @@ module _ (spans others : List Span) (order other : List ℕ) (once : HaveDiffere
       ap (λ (o : Option Span). (o, span_at spans e) ∷ map (called_span spans) (flat_map (walk_from (below_all (caller_numbers spans) order) n) (get_or (below_all (caller_numbers spans) order) e []))) up
       ∙ ap (λ (s : Span). (caller_in others (get_or (caller_numbers others) f None), s) ∷ map (called_span spans) (flat_map (walk_from (below_all (caller_numbers spans) order) n) (get_or (below_all (caller_numbers spans) order) e []))) same
       ∙ ap (λ (cs : List (Option Span × Span)). called_span others f ∷ cs)
-      (flat_same (λ x y low high one k l. calls_same n x y low high one (ap (caller_in spans) k ∙ ap (λ (s : Span). Some s) same ∙ sym (ap (caller_in others) l))) (get_or (below_all (caller_numbers spans) order) e []) (get_or (below_all (caller_numbers others) other) f []) spans_same here there)
+      (flat_same (λ x y low high one k l. calls_same n x y low high one (ap (caller_in spans) k ∙ ap (λ (s : Span). Some s) same ∙ sym (ap (caller_in others) l))) (get_or (below_all (caller_numbers spans) order) e []) (get_or (below_all (caller_numbers others) other) f []) spans_same here below_other)
     where
       here_is : get_or (below_all (caller_numbers spans) order) e [] ≡ below_one (caller_numbers spans) order e
       here_is = group_at (caller_numbers spans) order e [] (omega (arith, lt, length-map spans (caller_number spans)))
@@ -311,8 +309,8 @@ module _ (spans others : List Span) (order other : List ℕ) (once : HaveDiffere
       here : AreCalledBy spans e (get_or (below_all (caller_numbers spans) order) e [])
       here = subst (AreCalledBy spans e) (sym here_is) (called spans once order ordered e)
 
-      there : AreCalledBy others f (get_or (below_all (caller_numbers others) other) f [])
-      there = subst (AreCalledBy others f) (sym there_is) (called others also_once other also_ordered f)
+      below_other : AreCalledBy others f (get_or (below_all (caller_numbers others) other) f [])
+      below_other = subst (AreCalledBy others f) (sym there_is) (called others also_once other also_ordered f)
 
       flat_same : ((x y : ℕ) → x < length spans → y < length others → span_at spans x ≡ span_at others y → get_or (caller_numbers spans) x None ≡ Some e → get_or (caller_numbers others) y None ≡ Some f → calls_from spans order n x ≡ calls_from others other n y)
           → (xs ys : List ℕ) → map (span_at spans) xs ≡ map (span_at others) ys → AreCalledBy spans e xs → AreCalledBy others f ys
@@ -331,5 +329,7 @@ module _ (spans others : List Span) (order other : List ℕ) (once : HaveDiffere
           ∙ sym (map-append (called_span others) (walk_from (below_all (caller_numbers others) other) n y) (flat_map (walk_from (below_all (caller_numbers others) other) n) ys))
 
 pub keep_calls : RequestsKeepTheirCalls
-keep_calls spans others order other once also_once moved ordered also_ordered n e f lt less none nil same =
-    calls_same spans others order other once also_once moved ordered also_ordered n e f lt less same (ap (caller_in spans) none ∙ sym (ap (caller_in others) nil))
+keep_calls input others order other own also_own moved ordered also_ordered n e f lt less none nil same =
+    calls_same (spans_once input) (spans_once others) order other (firsts_apart have_one_id input) (firsts_apart have_one_id others)
+    (λ s h. in_once others also_own s (Contains-permutation input others s moved (in_input input s h))) (λ s h. in_once input own s (Contains-permutation others input s (IsPermutation-sym input others moved) (in_input others s h)))
+    ordered also_ordered n e f lt less same (ap (caller_in (spans_once input)) none ∙ sym (ap (caller_in (spans_once others)) nil))

@@ -212,7 +212,7 @@ module _ (calls : List Call) (grace : ℕ) (T : (ℕ × ℕ) → Type 0) where
       All-map (λ (p : ℕ × ℕ). are_beside grace calls p ≡ true → T p) (λ j. (j, i)) (range_with_len 0 i) (All-weaker (λ j. j < i) (λ j. are_beside grace calls (j, i) ≡ true → T (j, i)) (λ j less. f i j less lt) (range_with_len 0 i) (numbers_within i)))
       (range_with_len 0 (length calls)) (numbers_within (length calls))))
 
-  overlaps_at : All T (overlaps grace calls) → (i j : ℕ) → j < i → i < length calls → are_beside grace calls (j, i) ≡ true → T (j, i)
+  pub overlaps_at : All T (overlaps grace calls) → (i j : ℕ) → j < i → i < length calls → are_beside grace calls (j, i) ≡ true → T (j, i)
   overlaps_at h i j less lt own = All-contains T (overlaps grace calls) (j, i) h
       (contains_filter (are_beside grace calls) (number_pairs (length calls)) (j, i) (contains_flat (λ i. map (λ j. (j, i)) (range_with_len 0 i)) (range_with_len 0 (length calls)) i (j, i) (contains_range (length calls) i lt) here) own)
     where

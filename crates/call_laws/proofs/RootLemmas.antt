@@ -26,7 +26,7 @@ use Rattle.call_laws.proofs.OverlapLemmas.{same_bool}
 
 -- ---- spans that are there once have different ids
 
-firsts_apart : {X : Type 0} (same : X → X → Bool) (xs : List X) → AllPairs (λ x y. same x y ≡ false) (firsts_of same xs)
+pub firsts_apart : {X : Type 0} (same : X → X → Bool) (xs : List X) → AllPairs (λ x y. same x y ≡ false) (firsts_of same xs)
 firsts_apart same [] = λ i j d lt low. absurd (omega (arith, low))
 firsts_apart {X} same (x ∷ xs) = AllPairs-cons (λ (y : X) (z : X). same y z ≡ false) x (filter (λ y. not (same x y)) (firsts_of same xs))
     (All-weaker (λ (y : X). not (same x y) ≡ true) (λ (y : X). same x y ≡ false) (λ (y : X) e. not-true (same x y) e) (filter (λ y. not (same x y)) (firsts_of same xs)) (filter_passes (λ y. not (same x y)) (firsts_of same xs)))

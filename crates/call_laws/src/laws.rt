@@ -1,6 +1,6 @@
 //! Laws over the definitions alone: each function does nothing, and its contract is the law.
-ghost use Rattle.call_laws.specs.CallLaws.{CallsAreTogether, EntriesAreCalledByNone, EverySpanIsCalled};
-ghost use Rattle.call_laws.specs.CallLaws.{InputsHaveCalls, SpansAreCalledOnce};
+ghost use Rattle.call_laws.specs.CallLaws.{CallsAreTogether, EntriesAreCalledByNone};
+ghost use Rattle.call_laws.specs.CallLaws.{EverySpanIsCalled, InputsHaveCalls, SpansAreCalledOnce};
 ghost use Rattle.call_laws.specs.ContextLaws.{ContextsAreOfOneCall, GroupsHaveOneAbove};
 ghost use Rattle.call_laws.specs.OrderLaws.{RequestsKeepTheirCalls};
 ghost use Rattle.call_laws.specs.OverlapLaws.{ForksAreOfOverlaps, GroupsAreOfOverlaps};

@@ -5,8 +5,8 @@ use Rattle.std.proofs.lemmas.Bool.{cases_order, le-ltb, lt-ltb, ltb-false, ltb-t
 use Rattle.std.proofs.lemmas.List.{get_or_append_left, get_or_push, length-append, length-take-le, take-take, take_more}
 use Rattle.std.proofs.lemmas.List.Elements.{All-filter, All-get_or, All-head, All-tail, All-take}
 use Rattle.span_calls.specs.declared.call.Call.{Call}
-use Rattle.context_forks.specs.Partners.{end_of, last_after, last_to_end, last_with, later_of, outlasts, partner, partner_of, start_of}
-use Rattle.context_forks.specs.inner.Siblings.{AreLast, AreSiblings}
+use Rattle.context_forks.specs.Partners.{end_of, last_after, last_to_end, later_of, outlasts, partner, partner_of, start_of}
+use Rattle.context_forks.specs.inner.Siblings.{AreLast, AreSiblings, last_with}
 
 module _ (calls : List Call) where
   after_push : (i : ℕ) (xs : List ℕ) (x : ℕ) → last_after calls i (xs ++ x ∷ []) ≡ later_of calls (last_after calls i xs) x

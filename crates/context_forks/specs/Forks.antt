@@ -1,6 +1,7 @@
--- Which contexts are forked: those of which some call reaches out of its caller, or overlaps another
--- call of it.
-use Rattle.std.specs.Prelude.{ℕ, ◌==◌, ◌&&◌, ◌||◌, List, Bool, Option, None, length, map, slice_index, slice_index_or}
+-- Which contexts are forked: those of which some call reaches out of its caller, or overlaps
+-- another call of it.
+use Rattle.std.specs.Prelude.{ℕ, ◌==◌, ◌&&◌, ◌||◌, List, Bool, Option, None, length, map}
+use Rattle.std.specs.Prelude.{slice_index, slice_index_or}
 use Rattle.std.specs.List.{list_any, range_with_len}
 use Rattle.call_trees.specs.Below.{below_all}
 use Rattle.call_trees.specs.Tables.{table_of}
@@ -31,7 +32,8 @@ module _ (grace : ℕ) (calls : List Call) (numbers : List ℕ) where
   -- some call of the context reaches out of its caller
   abbrev pub has_reaching : ℕ → Bool
   has_reaching x = list_any (λ i. slice_index numbers i == x
-      && reaches_out calls grace (slice_index_or (callers_of calls) i None) i) (range_with_len 0 (length calls))
+      && reaches_out calls grace (slice_index_or (callers_of calls) i None) i)
+      (range_with_len 0 (length calls))
 
   -- the context is forked
   abbrev pub is_forked : ℕ → Bool

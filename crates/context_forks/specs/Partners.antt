@@ -29,11 +29,6 @@ module _ (calls : List Call) where
   abbrev pub later_of : ℕ → ℕ → ℕ
   later_of i j = if nat_lt (end_of i) (end_of j) then j else i
 
-  -- the one that ends last, where one more comes
-  abbrev pub last_with : Option ℕ → ℕ → ℕ
-  last_with None j = j
-  last_with (Some i) j = later_of i j
-
   -- of calls the one that ends last; of several the first
   abbrev pub last_after : ℕ → List ℕ → ℕ
   last_after i [] = i

@@ -1,5 +1,6 @@
-ghost use Rattle.std.specs.Prelude.{◌≡◌, ◌<◌, ℕ, All, length, IfOk};
+ghost use Rattle.std.specs.Prelude.{◌≡◌, ◌<◌, All, length, IfOk};
 ghost use Rattle.context_forks.specs.Forks.{calls_below, context_pairs, forked_of};
+ghost use Rattle.linked_groups.specs.Groups.{AreLinksBelow};
 ghost use Rattle.span_calls.specs.Calls.{AreBefore, StartInOrder};
 
 use crate::links::find_links;
@@ -36,8 +37,7 @@ pub fn find_forks(
         (λ forks. forks.forked.items ≡ forked_of grace calls.now numbers.now count) }
     ensures links { IfOk result
         (λ forks. forks.links.items ≡ context_pairs grace calls.now numbers.now) }
-    ensures within { IfOk result
-        (λ forks. All (λ (l : ℕ × ℕ). (l.0 < count) × (l.1 < count)) forks.links.items) }
+    ensures within { IfOk result (λ forks. AreLinksBelow count forks.links.items) }
 {
     let links = find_links(alloc, calls, below, numbers, grace)?;
     let forked = find_forked(alloc, calls, numbers, &links, count, grace)?;

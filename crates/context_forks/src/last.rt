@@ -1,6 +1,6 @@
 ghost use Rattle.std.specs.Prelude.{◌≡◌, ◌<◌, All, Some, length, IfOk, IfSome};
-ghost use Rattle.context_forks.specs.Partners.{later_of, last_with};
-ghost use Rattle.context_forks.specs.inner.Siblings.{AreLast};
+ghost use Rattle.context_forks.specs.Partners.{later_of};
+ghost use Rattle.context_forks.specs.inner.Siblings.{AreLast, last_with};
 
 use span_calls::Call;
 use std::alloc::{AllocError, Global};

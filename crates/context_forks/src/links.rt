@@ -1,4 +1,4 @@
-ghost use Rattle.std.specs.Prelude.{◌≡◌, ◌<◌, ◌++◌, [], ℕ, All, length, map, IfOk, IfSome, OnOk};
+ghost use Rattle.std.specs.Prelude.{◌≡◌, ◌<◌, ◌++◌, [], length, map, IfOk, IfSome, OnOk};
 ghost use Rattle.context_forks.specs.Forks.{context_pair, context_pairs, calls_below};
 ghost use Rattle.context_forks.specs.Partners.{pair_of, pairs_after};
 ghost use Rattle.context_forks.specs.inner.Siblings.{AreSiblings};

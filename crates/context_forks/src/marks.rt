@@ -1,8 +1,9 @@
-ghost use Rattle.std.specs.Prelude.{◌≡◌, ◌<◌, ◌||◌, ℕ, All, None, length, slice_index_or, IfOk, IfSome};
+ghost use Rattle.std.specs.Prelude.{◌≡◌, ◌<◌, ◌||◌, All, None, Some, length, slice_index_or, IfOk};
 ghost use Rattle.call_trees.specs.Tables.{table_of};
 ghost use Rattle.context_forks.specs.Forks.{callers_of, has_reaching, is_linked};
 ghost use Rattle.context_forks.specs.Partners.{reaches_out};
 ghost use Rattle.context_forks.specs.inner.Marks.{AreMarked};
+ghost use Rattle.linked_groups.specs.Groups.{AreLinksBelow};
 ghost use Rattle.span_calls.specs.Calls.{AreBefore};
 
 use span_calls::Call;
@@ -50,7 +51,7 @@ fn mark_reaching(calls: &[Call<'_>], numbers: &[usize], grace: u64, forked: &mut
 
 /// Marks the contexts that are linked.
 fn mark_linked(links: &[(usize, usize)], forked: &mut [bool])
-    requires { All (λ (l : ℕ × ℕ). (l.0 < length forked.old) × (l.1 < length forked.old)) links.now }
+    requires { AreLinksBelow (length forked.old) links.now }
     ensures { AreMarked (is_linked links.now) forked.old forked.new }
 {
     for at in 0..links.len() {
@@ -71,7 +72,7 @@ fn mark_all(
     requires before { AreBefore calls.now }
     requires same { length numbers.now ≡ length calls.now }
     requires within { All (λ n. n < length forked.old) numbers.now }
-    requires linked { All (λ (l : ℕ × ℕ). (l.0 < length forked.old) × (l.1 < length forked.old)) links.now }
+    requires linked { AreLinksBelow (length forked.old) links.now }
     ensures { AreMarked (λ x. has_reaching grace calls.now numbers.now x || is_linked links.now x)
         forked.old forked.new }
 {
@@ -91,9 +92,9 @@ pub(crate) fn find_forked(
     requires before { AreBefore calls.now }
     requires same { length numbers.now ≡ length calls.now }
     requires within { All (λ n. n < count) numbers.now }
-    requires linked { All (λ (l : ℕ × ℕ). (l.0 < count) × (l.1 < count)) links.now }
-    ensures { IfOk result (λ forked. forked.items
-        ≡ table_of (λ x. has_reaching grace calls.now numbers.now x || is_linked links.now x) count) }
+    requires linked { AreLinksBelow count links.now }
+    ensures { IfOk result (λ forked. forked.items ≡ table_of
+        (λ x. has_reaching grace calls.now numbers.now x || is_linked links.now x) count) }
 {
     let mut forked = vec![in alloc; false; count]?;
     mark_all(calls, numbers, links, grace, &mut forked);

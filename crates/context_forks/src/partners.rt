@@ -1,4 +1,4 @@
-ghost use Rattle.std.specs.Prelude.{◌≡◌, ◌<◌, ◌≤◌, ◌+◌, All, Some, filter, length, slice_index, take, IfSome};
+ghost use Rattle.std.specs.Prelude.{◌≡◌, ◌<◌, ◌≤◌, Some, filter, length, slice_index, take};
 ghost use Rattle.context_forks.specs.Partners.{outlasts, partner, partner_of};
 ghost use Rattle.context_forks.specs.inner.Siblings.{AreLast, AreSiblings};
 
@@ -20,7 +20,8 @@ fn count_outlasted(calls: &[Call<'_>], earlier: &[usize], call: usize, grace: u6
     requires siblings { AreSiblings calls.now earlier.now }
     requires call { call < length calls.now }
     ensures within { result ≤ length earlier.now }
-    ensures first { filter (λ j. outlasts calls.now grace call j) earlier.now ≡ take result earlier.now }
+    ensures first { filter (λ j. outlasts calls.now grace call j) earlier.now
+        ≡ take result earlier.now }
 {
     let mut low = 0;
     let mut high = earlier.len();
@@ -59,7 +60,8 @@ pub(crate) fn find_partner(
     requires index { index < length below.now }
     requires siblings { AreSiblings calls.now below.now }
     requires last { AreLast calls.now below.now last.now }
-    ensures { result ≡ partner calls.now grace (take index below.now) (slice_index below.now index) }
+    ensures { result
+        ≡ partner calls.now grace (take index below.now) (slice_index below.now index) }
 {
     let call = below[index];
     let count = count_outlasted(calls, &below[..index], call, grace);

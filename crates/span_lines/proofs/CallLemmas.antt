@@ -1,5 +1,5 @@
 -- Calls by index.
-use Rattle.std.proofs.Common.{◌≡◌, ◌∙◌, ℕ, ◌<◌, List, Option, None, length, get_or, map, ap, sym}
+use Rattle.std.proofs.Common.{◌≡◌, ◌∙◌, ℕ, ◌<◌, List, None, length, get_or, ap, sym}
 use Rattle.std.proofs.lemmas.List.{get_or-map}
 use Rattle.context_forks.specs.Forks.{callers_of}
 use Rattle.context_forks.specs.Partners.{end_of, start_of}

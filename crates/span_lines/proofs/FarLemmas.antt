@@ -1,10 +1,11 @@
 -- Calls to other machines.
-use Rattle.std.proofs.Common.{◌≡◌, ◌∙◌, ℕ, zero, suc, ◌+◌, ◌<◌, ◌≤◌, List, [], ◌∷◌, ◌++◌, All, Bool, true, false, cond, Option, Some, None, filter, length, get_or, take, slice_get, ltb, ap, sym, refl, subst, append-nil, arith}
+use Rattle.std.proofs.Common.{◌≡◌, ◌∙◌, ℕ, ◌+◌, ◌<◌, ◌≤◌, List, [], ◌∷◌, ◌++◌, Bool, true, false, cond, Option, Some, None, filter, length, get_or, take, slice_get, ap, sym, subst, append-nil, arith}
 use Rattle.std.specs.Prelude.{IfSome, nat_lt, if◌then◌else◌}
 use Rattle.std.proofs.lemmas.Bool.{le-ltb, lt-ltb}
 use Rattle.std.proofs.lemmas.List.Elements.{filter_more}
 use Rattle.span_calls.specs.declared.call.Call.{Call}
-use Rattle.context_forks.specs.Partners.{end_of, last_to_end, last_with}
+use Rattle.context_forks.specs.Partners.{end_of, last_to_end}
+use Rattle.context_forks.specs.inner.Siblings.{last_with}
 use Rattle.context_forks.proofs.PartnerLemmas.{last_push}
 use Rattle.span_lines.specs.inner.FarCalls.{AreFar}
 use Rattle.span_lines.specs.declared.messages.FarCalls.{FarCalls}
@@ -16,6 +17,11 @@ later_yes calls i j m n e f lt =
 pub later_no : (calls : List Call) (i j : ℕ) (m n : ℕ) → end_of calls i ≡ m → end_of calls j ≡ n → n ≤ m → i ≡ last_with calls (Some i) j
 later_no calls i j m n e f le =
     let t : nat_lt (end_of calls i) (end_of calls j) ≡ false = le-ltb (end_of calls i) (end_of calls j) (omega (arith, e, f, le)) in sym (ap (λ b. if b then j else i) t)
+
+-- the one that ends last of these and one more
+pub later_is : (calls : List Call) (o : Option ℕ) (i j k : ℕ) → o ≡ Some i → k ≡ last_with calls (Some i) j → (list : List ℕ) → o ≡ last_to_end calls list → Some k ≡ last_to_end calls (list ++ j ∷ [])
+later_is calls o i j k is own list h =
+    ap (λ (n : ℕ). Some n) (own ∙ ap (λ (p : Option ℕ). last_with calls p j) (sym is ∙ h)) ∙ sym (last_push calls list j)
 
 -- what is found among the first of these calls that pass a test
 pub record AreFarTo (calls : List Call) (p : ℕ → Bool) (below : List ℕ) (at : ℕ) (far : FarCalls) : Type 0 where
@@ -43,12 +49,12 @@ module _ (calls : List Call) (p : ℕ → Bool) (below : List ℕ) where
     }
 
     pub far_more : (far new : FarCalls) → j < length calls → p j ≡ true → ((list : List ℕ) → far.first ≡ slice_get list 0 → new.first ≡ slice_get (list ++ j ∷ []) 0) → IfSome new.first (λ k. k < length calls)
-        → new.last ≡ Some (last_with calls far.last j) → last_with calls far.last j < length calls → AreFarTo calls p below at far → AreFarTo calls p below (at + 1) new
+        → ((list : List ℕ) → far.last ≡ last_to_end calls list → new.last ≡ last_to_end calls (list ++ j ∷ [])) → IfSome new.last (λ k. k < length calls) → AreFarTo calls p below at far → AreFarTo calls p below (at + 1) new
     far_more far new low test first first_low last last_low h = record {
       are = subst (λ (xs : List ℕ). AreFar calls xs new) (sym (more ∙ ap (λ b. filter p (take at below) ++ cond b (j ∷ []) []) test)) (record {
         first = first (filter p (take at below)) h.are.first;
-        last = last ∙ ap (λ (o : Option ℕ). Some (last_with calls o j)) h.are.last ∙ sym (last_push calls (filter p (take at below)) j);
+        last = last (filter p (take at below)) h.are.last;
       });
       first_in = first_low;
-      last_in = subst (λ (o : Option ℕ). IfSome o (λ k. k < length calls)) (sym last) last_low;
+      last_in = last_low;
     }

@@ -1,5 +1,5 @@
 -- Lines that are written part by part.
-use Rattle.std.proofs.Common.{◌≡◌, ◌∙◌, ℕ, List, ◌++◌, Option, ap, sym, append_assoc}
+use Rattle.std.proofs.Common.{◌≡◌, ◌∙◌, ℕ, List, ◌++◌, Option, ap, append_assoc}
 use Rattle.event_text.specs.LineTexts.{name_text, place_text, rest_text}
 
 module _ (old a b new : List ℕ) (request machine task event : List ℕ) (time : ℕ) (send recv : Option (List ℕ)) (machine' task' event' : List ℕ) (time' : ℕ) (send' recv' : Option (List ℕ)) where

@@ -1,6 +1,6 @@
 -- What lines are told from, put together.
-use Rattle.std.proofs.Common.{◌≡◌, ◌∙◌, ℕ, ◌<◌, List, [], All, Bool, Option, length, get_or, map, ap, sym, subst, refl, arith}
-use Rattle.std.proofs.lemmas.List.{get_or_default, length-map, same_lists}
+use Rattle.std.proofs.Common.{◌≡◌, ◌∙◌, ℕ, ◌<◌, List, [], All, Option, length, get_or, sym, subst, arith}
+use Rattle.std.proofs.lemmas.List.{get_or_default, same_lists}
 use Rattle.call_trees.specs.Tables.{table_of}
 use Rattle.call_trees.proofs.TableLemmas.{get_or-table, length-table}
 use Rattle.context_forks.specs.Forks.{calls_below}
@@ -23,7 +23,7 @@ pub steps_are : (calls : List Call) (below : List (List ℕ)) (grouping : Groupi
 steps_are calls below grouping numbers table size h =
     let f : ℕ → List Step = steps_from calls below grouping numbers in
     same_lists table (table_of f (length calls)) (size ∙ sym (length-table f (length calls)))
-        (λ k d lt. get_or_default table k d [] lt ∙ h k (omega (arith, lt, size)) ∙ sym (get_or-table f (length calls) k d (omega (arith, lt, size))))
+    (λ k d lt. get_or_default table k d [] lt ∙ h k (omega (arith, lt, size)) ∙ sym (get_or-table f (length calls) k d (omega (arith, lt, size))))
 
 -- what is made of calls with their contexts and threads, names, steps and messages
 abbrev pub mapping_made : PlacedCalls → ContextNames → GroupNumbers → MachineNames → List (List Step) → List (Option ℕ) → List (Option ℕ) → Mapping

@@ -1,9 +1,8 @@
 -- Requests: where they end, and their names.
-use Rattle.std.proofs.Common.{◌≡◌, ◌∙◌, ◌⊎◌, inl, inr, ℕ, zero, suc, ◌+◌, ◌-◌, ◌<◌, ◌≤◌, List, [], ◌∷◌, ◌++◌, Bool, true, false, cond, Option, Some, None, Bor, length, get_or, map, take, drop, ap, sym, refl, arith}
-use Rattle.std.specs.Prelude.{is_none, find, not}
-use Rattle.std.specs.List.{list_any, position_or_len}
+use Rattle.std.proofs.Common.{◌≡◌, ◌∙◌, ◌⊎◌, inl, inr, ℕ, ◌+◌, ◌-◌, ◌<◌, ◌≤◌, List, true, false, Option, None, length, get_or, drop, ap, arith}
+use Rattle.std.specs.Prelude.{is_none}
 use Rattle.std.proofs.lemmas.Bool.{cases_order}
-use Rattle.std.proofs.lemmas.List.{get_or-drop, get_or-map, length-drop, length-map}
+use Rattle.std.proofs.lemmas.List.{get_or-drop, length-drop, length-map}
 use Rattle.std.proofs.lemmas.List.Sums.{position_or_len_is}
 use Rattle.span_calls.specs.declared.call.Call.{Call}
 use Rattle.context_forks.specs.Forks.{callers_of}
@@ -19,8 +18,8 @@ module _ (calls : List Call) (call at : ℕ) (first : call < at) (within : at �
       let n = at - (call + 1) in
       let long : length (drop (call + 1) (callers_of calls)) ≡ length (callers_of calls) - (call + 1) = length-drop (call + 1) (callers_of calls) in
       let p = position_or_len_is (λ (o : Option ℕ). is_none o) (drop (call + 1) (callers_of calls)) (at - (call + 1)) None (omega (arith, long, size, within))
-          (λ k lt. ap is_none (get_or-drop (call + 1) (callers_of calls) k None) ∙ h (call + 1 + k) (omega arith) (omega (arith, lt, first)))
-          (λ lt. ap is_none (get_or-drop (call + 1) (callers_of calls) (at - (call + 1)) None ∙ ap (λ i. get_or (callers_of calls) i None) (let s : call + 1 + (at - (call + 1)) ≡ at = omega (arith, first) in s)) ∙ e (omega (arith, lt, long, size, first))) in
+      (λ k lt. ap is_none (get_or-drop (call + 1) (callers_of calls) k None) ∙ h (call + 1 + k) (omega arith) (omega (arith, lt, first)))
+      (λ lt. ap is_none (get_or-drop (call + 1) (callers_of calls) (at - (call + 1)) None ∙ ap (λ i. get_or (callers_of calls) i None) (let s : call + 1 + (at - (call + 1)) ≡ at = omega (arith, first) in s)) ∙ e (omega (arith, lt, long, size, first))) in
       omega (arith, p, first)
 
 -- no request begins at one more call

@@ -1,10 +1,12 @@
--- What the lines of calls are told from.
-use Rattle.std.specs.Prelude.{ℕ, ◌==◌, List, [], Bool, Option, slice_index, slice_index_or, unwrap_or}
+-- Calls, contexts and groups by number, as their lines need them.
+use Rattle.std.specs.Prelude.{ℕ, ◌==◌, List, [], Bool, Option, slice_index, slice_index_or}
+use Rattle.std.specs.Prelude.{unwrap_or}
 use Rattle.span_calls.specs.declared.call.Call.{Call}
 use Rattle.thread_steps.specs.declared.step.Step.{Step}
 use Rattle.context_names.specs.Machines.{MachineNames, machine_name}
 use Rattle.context_names.specs.Tasks.{TaskNames}
 
+-- what the lines of calls are told from
 pub record Mapping : Type 0 where
   -- the calls of all requests, each caller before what it calls
   pub calls : List Call

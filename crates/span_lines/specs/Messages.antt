@@ -1,6 +1,6 @@
--- The messages of calls. Where a caller makes calls to other machines, the first of them receives the
--- message that the caller sends at its start, and the one that ends last sends the answer, which the
--- caller receives at its end.
+-- The messages of calls. Where a caller makes calls to other machines, the first of them receives
+-- the message that the caller sends at its start, and the one that ends last sends the answer,
+-- which the caller receives at its end.
 use Rattle.std.specs.Prelude.{ℕ, List, [], Bool, true, false, Option, None, filter, if◌then◌else◌}
 use Rattle.std.specs.Prelude.{length, map, slice_get, slice_index_or}
 use Rattle.span_types.specs.declared.span_kind.SpanKind.{SpanKind}
@@ -40,8 +40,8 @@ module _ (calls : List Call) where
     abbrev pub far_calls : ℕ → List ℕ
     far_calls i = far_among i (slice_index_or below i [])
 
-    -- the call that receives what a call sends at its start, and the one whose answer it receives at
-    -- its end
+    -- the call that receives what a call sends at its start, and the one whose answer it receives
+    -- at its end
     abbrev pub first_far : ℕ → Option ℕ
     first_far i = slice_get (far_calls i) 0
 

@@ -1,6 +1,6 @@
 -- The requests of calls, and their names.
 use Rattle.std.specs.Prelude.{ℕ, ◌+◌, ◌++◌, List, Bool, false, Option, Some, None, codes, drop}
-use Rattle.std.specs.Prelude.{filter, find, if◌then◌else◌, is_none, length, map, slice_index_or}
+use Rattle.std.specs.Prelude.{filter, find, if◌then◌else◌, is_none, length, map}
 use Rattle.std.specs.List.{flat_map, position_or_len, range_with_len}
 use Rattle.std.specs.Str.{bytes_eq}
 use Rattle.trace_types.specs.declared.event.Event.{Event}
@@ -36,7 +36,8 @@ module _ (calls : List Call) where
 
   -- how many calls a request has that begins with this one: up to where the next one begins
   abbrev pub request_size : ℕ → ℕ
-  request_size i = 1 + position_or_len (λ (o : Option ℕ). is_none o) (drop (i + 1) (callers_of calls))
+  request_size i =
+      1 + position_or_len (λ (o : Option ℕ). is_none o) (drop (i + 1) (callers_of calls))
 
   -- these calls
   abbrev pub request_calls : ℕ → List ℕ

@@ -6,7 +6,6 @@ use Rattle.call_trees.specs.Tables.{table_of}
 use Rattle.linked_groups.specs.Groups.{groups_of}
 use Rattle.span_requests.specs.Callers.{caller_numbers}
 use Rattle.span_requests.specs.Entries.{AreEntries}
-use Rattle.span_requests.specs.SpansOnce.{spans_once}
 use Rattle.span_calls.specs.Calls.{AreCalls}
 use Rattle.span_calls.specs.Seen.{span_at}
 use Rattle.span_calls.specs.declared.call.Call.{Call}
@@ -72,13 +71,15 @@ module _ (calls : List Call) (p : Placing) (t : Threading) where
   }
 
 -- the threading of contexts of calls, where calls may overlap by a grace in nanoseconds
-pub record AreThreaded (grace : ℕ) (calls : List Call) (numbers : List ℕ) (contexts : List Frame) (t : Threading) : Type 0 where
+pub record AreThreaded (grace : ℕ) (calls : List Call) (numbers : List ℕ) (contexts : List Frame)
+    (t : Threading) : Type 0 where
   pub forks : t.forked ≡ forked_of grace calls numbers (length contexts)
   pub linked : t.groups ≡ groups_of (length contexts) (context_pairs grace calls numbers)
   pub run : AreThreads contexts t.forked t.threads
 
 -- the lines of each request that is asked for of spans, each of which is there once
-pub record AreRequestLines (spans : List Span) (grace : ℕ) (asked : Option (List ℕ)) (requests : List (List Event)) : Type 0 where
+pub record AreRequestLines (spans : List Span) (grace : ℕ) (asked : Option (List ℕ))
+    (requests : List (List Event)) : Type 0 where
   -- the numbers of the spans that begin requests, in the order of these
   pub entries : List ℕ
   pub within : All (λ e. e < length spans) entries

@@ -23,7 +23,8 @@ requests_text requests = flat_map (flat_map event_text) requests
 
 -- the text is that of the lines of the requests of spans, which may stand more than once; how many
 -- spans miss their parent, and how many requests are long
-pub record AreSpanLines (grace : ℕ) (asked : Option (List ℕ)) (input : List Span) (t : SpanText) : Type 0 where
+pub record AreSpanLines (grace : ℕ) (asked : Option (List ℕ)) (input : List Span)
+    (t : SpanText) : Type 0 where
   pub requests : List (List Event)
   pub are : AreRequestLines (spans_once input) grace asked requests
   pub text : t.text.items ≡ requests_text requests

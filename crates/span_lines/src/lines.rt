@@ -149,8 +149,8 @@ fn push_join(
 ) -> Result<(), AllocError>
     requires whole { IsWhole (mapping_lent mapping.now) }
     requires within { call < length mapping.now.calls.now }
-    ensures { OnOk result ((piece : Piece) → text.new.items ≡ text.old.items
-        ++ event_text (line_of (mapping_lent mapping.now) request.now task.now (Joins call piece))) }
+    ensures { OnOk result ((piece : Piece) → text.new.items ≡ text.old.items ++ event_text
+        (line_of (mapping_lent mapping.now) request.now task.now (Joins call piece))) }
 {
     let one = mapping.calls[call];
     let moment = seen_moment(mapping.calls, call, one.end, one.span.end);

@@ -1,7 +1,7 @@
-ghost use Rattle.std.specs.Prelude.{◌≡◌, ◌<◌, ◌++◌, ◌∷◌, [], List, ℕ, All, filter};
+ghost use Rattle.std.specs.Prelude.{◌≡◌, ◌<◌, ◌++◌, ◌∷◌, [], List, ℕ, All, Some, filter};
 ghost use Rattle.std.specs.Prelude.{length, slice_get, IfOk, IfSome};
 ghost use Rattle.context_forks.specs.Forks.{calls_below};
-ghost use Rattle.context_forks.specs.Partners.{last_with};
+ghost use Rattle.context_forks.specs.Partners.{last_to_end};
 ghost use Rattle.span_calls.specs.Calls.{AreBefore};
 ghost use Rattle.span_calls.specs.Seen.{are_apart};
 ghost use Rattle.span_lines.specs.Messages.{all_first_far, all_last_far, call_span, far_among};
@@ -14,8 +14,8 @@ use span_calls::Call;
 use span_types::SpanKind;
 use std::alloc::{AllocError, Global};
 
-/// Of the calls of a call that go to other machines by messages the first one, and the one that ends
-/// last; of several the first.
+/// Of the calls of a call that go to other machines by messages the first one, and the one that
+/// ends last; of several the first.
 #[derive(Clone, Copy, Debug)]
 pub(crate) struct FarCalls {
     pub(crate) first: Option<usize>,
@@ -52,7 +52,8 @@ fn are_apart(calls: &[Call<'_>], one: usize, other: usize) -> bool
 fn later_of(calls: &[Call<'_>], last: Option<usize>, call: usize) -> usize
     requires last { IfSome last (λ l. l < length calls.now) }
     requires call { call < length calls.now }
-    ensures later { result ≡ last_with calls.now last call }
+    ensures later { (list : List ℕ) → last ≡ last_to_end calls.now list
+        → Some result ≡ last_to_end calls.now (list ++ call ∷ []) }
     ensures within { result < length calls.now }
 {
     match last {
@@ -84,8 +85,8 @@ fn first_with(first: Option<usize>, call: usize) -> Option<usize>
 fn find_apart(calls: &[Call<'_>], caller: usize, below: &[usize]) -> FarCalls
     requires caller { caller < length calls.now }
     requires within { All (λ j. j < length calls.now) below.now }
-    ensures far { AreFar calls.now
-        (filter (λ j. are_apart (call_span calls.now caller) (call_span calls.now j)) below.now) result }
+    ensures far { AreFar calls.now (filter (λ j.
+        are_apart (call_span calls.now caller) (call_span calls.now j)) below.now) result }
     ensures first { IfSome result.first (λ j. j < length calls.now) }
     ensures last { IfSome result.last (λ j. j < length calls.now) }
 {

@@ -1,8 +1,9 @@
-ghost use Rattle.std.specs.Prelude.{◌≡◌, ◌<◌, ◌++◌, length, slice_index_or, string_bytes, IfOk, IfSome};
+ghost use Rattle.std.specs.Prelude.{◌≡◌, ◌<◌, ◌++◌, length, string_bytes, IfOk, IfSome};
 ghost use Rattle.std.specs.Option.{option_copied, option_map};
 ghost use Rattle.span_calls.specs.Calls.{AreBefore};
 ghost use Rattle.span_lines.specs.Messages.{call_span, caller_of_call};
-ghost use Rattle.span_lines.specs.Moments.{if_said, message_with, moment_on, moment_within, said_by};
+ghost use Rattle.span_lines.specs.Moments.{if_said, message_with, moment_on, moment_within};
+ghost use Rattle.span_lines.specs.Moments.{said_by};
 ghost use Rattle.span_lines.specs.Moments.{seen_moment};
 ghost use Rattle.span_lines.specs.inner.SeenMoments.{moment_seen};
 
@@ -27,8 +28,8 @@ fn moment_on(span: &Span, time: u64) -> SeenMoment<'_>
     }
 }
 
-/// Gives the moment that a caller sees at a call: the call's own, or the caller's start or end where
-/// it lies outside of these.
+/// Gives the moment that a caller sees at a call: the call's own, or the caller's start or end
+/// where it lies outside of these.
 fn moment_within<'a>(caller: &'a Span, call: &'a Span, seen: u64, own: u64) -> SeenMoment<'a>
     ensures { moment_seen result ≡ moment_within caller.now call.now seen own }
 {
@@ -41,8 +42,8 @@ fn moment_within<'a>(caller: &'a Span, call: &'a Span, seen: u64, own: u64) -> S
     }
 }
 
-/// Gives the moment that the caller of a call sees at it, if it has a caller: the call's own, or the
-/// caller's start or end where it lies outside of these.
+/// Gives the moment that the caller of a call sees at it, if it has a caller: the call's own, or
+/// the caller's start or end where it lies outside of these.
 pub(crate) fn seen_moment<'a>(
     calls: &[Call<'a>],
     call: usize,
@@ -66,13 +67,7 @@ fn if_said(said: Option<usize>, call: usize) -> Option<usize>
     ensures { result ≡ if_said said call }
 {
     match said {
-        Some(said) => {
-            if said == call {
-                Some(call)
-            } else {
-                None
-            }
-        }
+        Some(said) => { if said == call { Some(call) } else { None } }
         None => None,
     }
 }

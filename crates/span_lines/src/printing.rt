@@ -41,8 +41,8 @@ fn print_request(
     Ok(count > MOST_LINES)
 }
 
-/// Appends the lines of the request that begins with this call, if one does, and gives how many long
-/// requests that is.
+/// Appends the lines of the request that begins with this call, if one does, and gives how many
+/// long requests that is.
 fn print_at(
     alloc: Global,
     mapping: &LentMapping<'_, '_>,

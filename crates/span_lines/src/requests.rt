@@ -1,4 +1,5 @@
-ghost use Rattle.std.specs.Prelude.{◌≡◌, ◌<◌, ◌≤◌, ◌+◌, ◌∷◌, ◌++◌, [], All, List, length, map, IfOk, OnOk};
+ghost use Rattle.std.specs.Prelude.{◌≡◌, ◌<◌, ◌≤◌, ◌+◌, ◌∷◌, ◌++◌, [], All, List, length, map};
+ghost use Rattle.std.specs.Prelude.{IfOk, OnOk};
 ghost use Rattle.span_calls.specs.Seen.{span_at};
 ghost use Rattle.span_lines.specs.Requests.{is_first_entry, name_of_request, request_size};
 ghost use Rattle.span_lines.specs.inner.FirstEntries.{AreFirst};
@@ -12,10 +13,7 @@ use std::alloc::{AllocError, Global};
 use trace_types::Text;
 
 /// Notes the id of an entry, if it is the first of its trace.
-fn note_entry<'a>(
-    first: &mut IndexMap<&'a str, &'a str>,
-    entry: &'a Span,
-) -> Result<(), AllocError>
+fn note_entry<'a>(first: &mut IndexMap<&'a str, &'a str>, entry: &'a Span) -> Result<(), AllocError>
     ensures { OnOk result ((entries : List Span) → AreFirst entries first.old
         → AreFirst (entries ++ entry.now ∷ []) first.new) }
 {
@@ -54,8 +52,8 @@ fn is_first(first: &IndexMap<&str, &str>, entry: &Span) -> bool
     }
 }
 
-/// Makes the name of the request with this entry: its trace, and unless it is the first entry of its
-/// trace, its id. The only error is out of memory.
+/// Makes the name of the request with this entry: its trace, and unless it is the first entry of
+/// its trace, its id. The only error is out of memory.
 pub(crate) fn name_request(
     alloc: Global,
     first: &IndexMap<&str, &str>,

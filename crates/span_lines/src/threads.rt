@@ -99,8 +99,8 @@ fn print_call(
     print_thread(alloc, mapping, request, call, text)
 }
 
-/// Appends the lines of the threads that begin with one of these calls, and tells how many they are,
-/// up to the greatest number.
+/// Appends the lines of the threads that begin with one of these calls, and tells how many they
+/// are, up to the greatest number.
 pub(crate) fn print_calls(
     alloc: Global,
     mapping: &LentMapping<'_, '_>,
@@ -114,8 +114,8 @@ pub(crate) fn print_calls(
     requires within { end ≤ length mapping.now.calls.now }
     ensures text { OnOk result (text.new.items ≡ text.old.items ++ text_of
         (lines_among (mapping_lent mapping.now) request.now (range_with_len first (end - first)))) }
-    ensures count { IfOk result (λ n. n ≡ min usize.MAX (length
-        (lines_among (mapping_lent mapping.now) request.now (range_with_len first (end - first))))) }
+    ensures count { IfOk result (λ n. n ≡ min usize.MAX (length (lines_among
+        (mapping_lent mapping.now) request.now (range_with_len first (end - first))))) }
 {
     let mut count = 0usize;
     'calls: for call in first..end {

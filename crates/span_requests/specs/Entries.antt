@@ -1,15 +1,15 @@
 -- The requests of an input. A request is an entry and all that it calls, and what that calls, and so
 -- on; an entry is a span that no span calls.
-use Rattle.std.specs.Prelude.{ℕ, ◌≡◌, ◌&&◌, ◌++◌, List, Bool, Some, None, codes}
-use Rattle.std.specs.Prelude.{if◌then◌else◌, filter, slice_index_or, is_none, is_some, map, IsPermutation, IsSorted}
-use Rattle.std.specs.List.{list_any, position_or_len}
+use Rattle.std.specs.Prelude.{ℕ, List, Bool}
+use Rattle.std.specs.Prelude.{filter, slice_index_or, is_none, is_some, map, IsPermutation, IsSorted}
+use Rattle.std.specs.List.{position_or_len}
 use Rattle.std.specs.Cmp.Lexicographic.{slice_cmp}
 use Rattle.std.specs.declared.cmp.Ordering.{Ordering}
-use Rattle.std.specs.Ordering.{bool_cmp, is_lt, nat_cmp, ordering_then}
+use Rattle.std.specs.Ordering.{bool_cmp, nat_cmp, ordering_then}
 use Rattle.std.specs.Str.{bytes_eq}
 use Rattle.span_types.specs.declared.span.Span.{Span}
 use Rattle.trace_types.specs.Firsts.{firsts_of}
-use Rattle.span_requests.specs.Callers.{caller_above, caller_of, is_consumer}
+use Rattle.span_requests.specs.Callers.{caller_of, is_consumer}
 
 -- the order of the entries of a trace: what is done with messages last, what has a parent (which is
 -- missing) after what has none, then by start and id
@@ -41,21 +41,6 @@ module _ (spans : List Span) where
   pub record AreEntries (entries : List Span) : Type 0 where
     pub all : IsPermutation (filter is_entry spans) entries
     pub sorted : IsSorted request_cmp entries
-
-  -- this entry stands before that one in their trace
-  abbrev pub is_earlier_entry : Span → Span → Bool
-  is_earlier_entry e f = is_entry e && (bytes_eq e.trace f.trace && is_lt (entry_cmp e f))
-
-  -- the name of the request with this entry: its trace, and for all but the first entry its id
-  abbrev pub request_name : Span → List ℕ
-  request_name e =
-      if list_any (λ f. is_earlier_entry f e) spans then e.trace ++ codes "." ++ e.id else e.trace
-
-  -- the span is in the request with this entry: it is so many calls below it
-  pub record IsInRequest (entry s : Span) : Type 0 where
-    pub calls : ℕ
-    pub above : caller_above spans calls s ≡ Some entry
-    pub first : caller_of spans entry ≡ None
 
 -- the spans with these numbers; each of them is there
 abbrev pub spans_at : List Span → Span → List ℕ → List Span

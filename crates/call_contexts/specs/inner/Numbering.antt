@@ -1,7 +1,7 @@
 -- Contexts of the first calls.
 use Rattle.std.specs.Prelude.{ℕ, ◌≡◌, ◌<◌, ◌++◌, ◌∷◌, [], List, All, Some, length, slice_get, slice_index}
 use Rattle.std.specs.Prelude.{if◌then◌else◌}
-use Rattle.std.specs.List.{list_any}
+use Rattle.std.specs.List.{Contains, list_any}
 use Rattle.span_calls.specs.declared.call.Call.{Call}
 use Rattle.call_contexts.specs.Contexts.{Frame, HaveAbove, frame_at, frame_eq}
 
@@ -16,4 +16,5 @@ pub record AreSoFar (calls : List Call) (ordinals : List ℕ) (at : ℕ) (number
   pub own : (i : ℕ) (c : Call) → i < at → slice_get calls i ≡ Some c
       → slice_get frames (slice_index numbers i) ≡ Some (frame_at numbers (slice_index ordinals i) c)
   pub apart : (i j : ℕ) (f : Frame) → slice_get frames i ≡ Some f → slice_get frames j ≡ Some f → i ≡ j
+  pub used : (x : ℕ) → x < length frames → Contains numbers x
   pub before : HaveAbove frames

@@ -1,8 +1,13 @@
 -- Calls of one caller, in order.
-use Rattle.std.specs.Prelude.{ℕ, ◌≡◌, ◌≤◌, ◌<◌, ◌+◌, List, Some, All, length, slice_index, take}
+use Rattle.std.specs.Prelude.{ℕ, ◌≡◌, ◌≤◌, ◌<◌, ◌+◌, List, Option, Some, None, All, length, slice_index, take}
 use Rattle.std.specs.List.{AllPairs}
 use Rattle.span_calls.specs.declared.call.Call.{Call}
-use Rattle.context_forks.specs.Partners.{last_to_end, start_of}
+use Rattle.context_forks.specs.Partners.{last_to_end, later_of, start_of}
+
+-- which call ends last, where one more comes; of several the first
+abbrev pub last_with : List Call → Option ℕ → ℕ → ℕ
+last_with calls None j = j
+last_with calls (Some i) j = later_of calls i j
 
 -- these are calls, in the order in which they start
 pub record AreSiblings (calls : List Call) (below : List ℕ) : Type 0 where

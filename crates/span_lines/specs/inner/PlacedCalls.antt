@@ -48,7 +48,8 @@ pub record ArePlaced (p : PlacedCalls) : Type 0 where
   pub threads : length p.threads.now.threads.items ≡ length (frames_in p)
 
 -- the names of contexts and of groups are there, and lead to contexts
-pub record AreNamedBy (p : PlacedCalls) (names : ContextNames) (groups : GroupNumbers) : Type 0 where
+pub record AreNamedBy (p : PlacedCalls) (names : ContextNames) (groups : GroupNumbers)
+    : Type 0 where
   pub labels : length names.events ≡ length (frames_in p)
   pub bases : length names.tasks.bases ≡ length (frames_in p)
   pub tasks : length names.tasks.numbers ≡ length (frames_in p)
@@ -57,7 +58,8 @@ pub record AreNamedBy (p : PlacedCalls) (names : ContextNames) (groups : GroupNu
   pub heads : All (λ x. x < length (frames_in p)) groups.heads.items
 
 -- they are those of the contexts in this order
-pub record AreNamesOf (p : PlacedCalls) (order : List ℕ) (below : List (List ℕ)) (names : ContextNames) (groups : GroupNumbers) : Type 0 where
+pub record AreNamesOf (p : PlacedCalls) (order : List ℕ) (below : List (List ℕ))
+    (names : ContextNames) (groups : GroupNumbers) : Type 0 where
   pub labels : names.events
       ≡ labels_of order p.threads.now.threads.items (map event_base (frames_in p))
   pub tasks : names.tasks
@@ -68,7 +70,8 @@ pub record AreNamesOf (p : PlacedCalls) (order : List ℕ) (below : List (List �
       ≡ group_numbers (placing_in p order below) (threading_of p.threads.now)
 
 -- the lines of the requests of these calls, by the names of machines and the entries of traces
-pub record HaveLines (calls : List Call) (grace : ℕ) (machines : MachineNames) (entries : List Span) (requests : List (List Event)) : Type 0 where
+pub record HaveLines (calls : List Call) (grace : ℕ) (machines : MachineNames)
+    (entries : List Span) (requests : List (List Event)) : Type 0 where
   pub placing : Placing
   pub placed : AreContexts calls placing.numbers placing.contexts
   pub ordered : AreOrdered placing.contexts placing.order placing.below

@@ -14,4 +14,4 @@ loop-at-preserved c =
     let inv = c.loop-at.invariant in
     let low : i < length cur = omega (arith, c.loop-at.auto.spans, c.loop-at-test.true) in
     fold_more old cur i d c.loop-at-test.true inv (record (get_or cur i d) { name = c.in_ok-name.name })
-        (folded_at old cur i d c.loop-at-test.true inv c.in_ok-name.name (c.in_ok-name.ensures ∙ ap folded_name (c.as_str.ensures ∙ ap (λ (s : Span). s.name) (get_or_default cur i c.index-spans-at.result d low))))
+    (folded_at old cur i d c.loop-at-test.true inv c.in_ok-name.name (c.in_ok-name.ensures ∙ ap folded_name (c.as_str.ensures ∙ ap (λ (s : Span). s.name) (get_or_default cur i c.index-spans-at.result d low))))

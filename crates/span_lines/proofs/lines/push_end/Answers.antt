@@ -1,4 +1,4 @@
-use Rattle.std.proofs.Common.{◌≡◌, ◌∙◌, ◌++◌, ℕ, Option, ap, refl, sym}
+use Rattle.std.proofs.Common.{◌∙◌, ◌++◌, ℕ, Option, ap, refl, sym}
 use Rattle.std.specs.Prelude.{codes}
 use Rattle.std.proofs.lemmas.Result.{on_ok_weaker}
 use Rattle.span_types.specs.declared.span.Span.{Span}

@@ -1,12 +1,11 @@
-use Rattle.std.proofs.Common.{◌≡◌, ◌∙◌, ◌++◌, List, ℕ, [], ap, get_or, sym}
+use Rattle.std.proofs.Common.{◌≡◌, ◌∙◌, ◌++◌, [], ap, get_or, sym}
 use Rattle.std.specs.Prelude.{codes}
 use Rattle.std.proofs.lemmas.Result.{on_ok_weaker}
 use Rattle.event_text.specs.LineTexts.{event_text}
-use Rattle.span_types.specs.declared.span.Span.{Span}
 use Rattle.span_lines.specs.Lines.{line_at}
 use Rattle.span_lines.specs.Mappings.{head_label}
 use Rattle.span_lines.specs.Messages.{call_span, caller_of_call}
-use Rattle.span_lines.specs.Moments.{Moment, seen_moment}
+use Rattle.span_lines.specs.Moments.{seen_moment}
 use Rattle.span_lines.specs.inner.LentMappings.{mapping_lent}
 use Rattle.span_lines.specs.inner.SeenMoments.{moment_seen}
 use Rattle.span_lines.proofs.CallLemmas.{start_at, span_at}

@@ -1,8 +1,7 @@
-use Rattle.std.proofs.Common.{◌≡◌, ◌∙◌, ◌<◌, ◌+◌, Bool, refl, ℕ, Option, ap, get_or, length, subst, sym, All}
-use Rattle.std.specs.Prelude.{IfSome, Some}
+use Rattle.std.proofs.Common.{◌∙◌, ◌<◌, ◌+◌, Bool, refl, ℕ, Option, get_or, length, subst, sym}
+use Rattle.std.specs.Prelude.{Some}
 use Rattle.std.proofs.lemmas.List.Elements.{All-get_or}
 use Rattle.span_calls.specs.Seen.{are_apart}
-use Rattle.context_forks.specs.Partners.{last_with}
 use Rattle.span_lines.specs.Messages.{call_span}
 use Rattle.span_lines.specs.declared.messages.FarCalls.{FarCalls}
 use Rattle.span_lines.proofs.FarLemmas.{AreFarTo, far_more, far_same}
@@ -21,6 +20,6 @@ loop-call-preserved c =
       | then-are_apart w ↦ let last : Option ℕ = Some w.later_of.result in
           subst (λ (f : FarCalls). AreFarTo calls p below (at + 1) f) (sym w.far-is) (far_more calls p below at j c.loop-call-test.true refl c.loop-call.far (record { first = w.first_with.result; last = last }) low
           (sym c.are_apart.ensures ∙ w.if-are_apart.true) w.first_with.ensures.first (w.first_with.ensures.within (length calls) c.loop-call.invariant.first_in low)
-          (ap (λ (n : ℕ). Some n) w.later_of.ensures.later) (subst (λ n. n < length calls) w.later_of.ensures.later w.later_of.ensures.within) c.loop-call.invariant)
+          w.later_of.ensures.later w.later_of.ensures.within c.loop-call.invariant)
       | else-are_apart w ↦ subst (λ (f : FarCalls). AreFarTo calls p below (at + 1) f) (sym w.far-is) (far_same calls p below at j c.loop-call-test.true refl c.loop-call.far (sym c.are_apart.ensures ∙ w.if-are_apart.false) c.loop-call.invariant)
     ]

@@ -1,4 +1,4 @@
-use Rattle.std.proofs.Common.{◌≡◌, ◌∙◌, ◌<◌, ℕ, List, Option, All, [], ap, arith, length, subst, sym, slice_get, get_or}
+use Rattle.std.proofs.Common.{◌∙◌, ◌<◌, ℕ, List, Option, All, [], ap, arith, length, subst, sym, slice_get}
 use Rattle.std.specs.Prelude.{IfSome}
 use Rattle.std.proofs.lemmas.List.{get_or_default}
 use Rattle.std.proofs.lemmas.List.Elements.{All-push}

@@ -1,6 +1,5 @@
-use Rattle.std.proofs.Common.{◌≡◌, ◌∙◌, ◌++◌, List, ap, sym}
+use Rattle.std.proofs.Common.{◌∙◌, ◌++◌, List, ap, sym}
 use Rattle.trace_types.specs.declared.event.Event.{Event}
-use Rattle.span_types.specs.declared.span.Span.{Span}
 use Rattle.span_lines.specs.Messages.{call_span}
 use Rattle.span_lines.specs.Requests.{name_of_request, request_size}
 use Rattle.span_lines.specs.SpanTexts.{is_long}

@@ -1,4 +1,4 @@
-use Rattle.std.proofs.Common.{◌≡◌, ◌∙◌, ◌<◌, ℕ, Option, None, true, false, ap, length, arith, get_or, sym}
+use Rattle.std.proofs.Common.{◌∙◌, ap, length, arith}
 use Rattle.std.specs.Prelude.{is_none, not}
 use Rattle.context_forks.specs.Forks.{callers_of}
 use Rattle.span_lines.proofs.CallLemmas.{caller_at}
@@ -8,7 +8,7 @@ use Rattle.span_lines.proofs.requests.find_end.Goals as goal
 pub returns-then-is_none-clause-end : goal.returns-then-is_none-clause-end
 returns-then-is_none-clause-end c =
     end_is c.args.calls.now c.args.call c.loop-at.at (omega (arith, c.loop-at.auto.at)) (omega (arith, c.loop-at-test.true)) c.loop-at.invariant
-        (λ lt. ap is_none (caller_at c.args.calls.now c.loop-at.at c.index-calls-at.result c.loop-at-test.true) ∙ ap not c.if-is_none.ensures)
+    (λ lt. ap is_none (caller_at c.args.calls.now c.loop-at.at c.index-calls-at.result c.loop-at-test.true) ∙ ap not c.if-is_none.ensures)
 
 pub loop-at-preserved : goal.loop-at-preserved
 loop-at-preserved c = none_more (callers_of c.args.calls.now) c.args.call c.loop-at.at c.loop-at.invariant

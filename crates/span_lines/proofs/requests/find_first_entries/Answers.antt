@@ -15,4 +15,4 @@ loop-entry-preserved c =
     let n = get_or entries i 0 in
     let low : n < length spans = All-get_or (λ k. k < length spans) entries i 0 c.loop-entry-test.true c.requires in
     entries_more c.note_entry.new.first (span_at (lent_spans spans)) entries i c.index-spans-entry.result.now c.loop-entry-test.true
-        (sym (span_is spans n c.index-spans-entry.result low c.index-spans-entry.is)) (c.in_ok-note_entry.ensures (map (span_at (lent_spans spans)) (take i entries)) c.loop-entry.invariant)
+    (sym (span_is spans n c.index-spans-entry.result low c.index-spans-entry.is)) (c.in_ok-note_entry.ensures (map (span_at (lent_spans spans)) (take i entries)) c.loop-entry.invariant)

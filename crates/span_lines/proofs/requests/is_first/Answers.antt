@@ -1,8 +1,8 @@
-use Rattle.std.proofs.Common.{◌≡◌, ◌∙◌, Bor, List, ℕ, Option, Some, None, ap, sym}
+use Rattle.std.proofs.Common.{◌≡◌, ◌∙◌, Bor, List, ℕ, Option, Some, None, ap}
 use Rattle.std.specs.HashMap.{get_by}
 use Rattle.std.specs.Option.{option_copied}
 use Rattle.std.specs.Str.{bytes_eq}
-use Rattle.span_lines.proofs.EntryLemmas.{first_told, id_is}
+use Rattle.span_lines.proofs.EntryLemmas.{first_told}
 use Rattle.span_lines.proofs.requests.is_first.Goals as goal
 
 pub returns-in-Some : goal.returns-in-Some

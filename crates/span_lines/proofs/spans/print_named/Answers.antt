@@ -1,12 +1,9 @@
-use Rattle.std.proofs.Common.{◌≡◌, ◌∙◌, ℕ, List, Option, ap, length, refl, subst, sym}
+use Rattle.std.proofs.Common.{◌≡◌, ◌∙◌, ℕ, List, Option, ap, length, subst, sym}
 use Rattle.std.proofs.lemmas.Result.{IfOk-weaker}
 use Rattle.call_trees.proofs.TableLemmas.{length-table}
-use Rattle.context_forks.specs.Forks.{calls_below}
 use Rattle.span_types.specs.declared.span.Span.{Span}
-use Rattle.thread_steps.specs.Parts.{Grouping, grouping_of}
 use Rattle.thread_steps.specs.Steps.{steps_from}
 use Rattle.call_trees.specs.Tables.{table_of}
-use Rattle.thread_steps.specs.declared.step.Step.{Step}
 use Rattle.span_lines.specs.Mappings.{Mapping}
 use Rattle.span_lines.specs.Messages.{all_first_far, all_last_far, first_far, last_far}
 use Rattle.span_lines.specs.Requests.{lines_by_request}

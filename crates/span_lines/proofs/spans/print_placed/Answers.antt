@@ -1,4 +1,4 @@
-use Rattle.std.proofs.Common.{◌≡◌, ◌∙◌, ℕ, List, map, subst}
+use Rattle.std.proofs.Common.{◌∙◌, ℕ, List, map, subst}
 use Rattle.std.proofs.lemmas.Result.{IfOk-weaker}
 use Rattle.span_types.specs.declared.span.Span.{Span}
 use Rattle.call_contexts.specs.ContextOrder.{AreOrdered}

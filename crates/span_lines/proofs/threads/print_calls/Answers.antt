@@ -1,4 +1,4 @@
-use Rattle.std.proofs.Common.{◌≡◌, ◌∙◌, arith}
+use Rattle.std.proofs.Common.{arith}
 use Rattle.span_lines.specs.inner.LentMappings.{mapping_lent}
 use Rattle.span_lines.proofs.PrintLemmas.{calls_count, calls_text}
 use Rattle.span_lines.proofs.threads.print_calls.Goals as goal

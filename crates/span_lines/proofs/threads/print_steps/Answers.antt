@@ -1,4 +1,4 @@
-use Rattle.std.proofs.Common.{◌≡◌, ◌∙◌, None, take}
+use Rattle.std.proofs.Common.{None, take}
 use Rattle.span_lines.specs.inner.LentMappings.{mapping_lent}
 use Rattle.span_lines.specs.inner.Printed.{piece_through}
 use Rattle.span_lines.proofs.StepLemmas.{named_more, text_more}

@@ -1,4 +1,4 @@
-use Rattle.std.proofs.Common.{◌≡◌, ◌∙◌, None, ap, get_or, length, sym}
+use Rattle.std.proofs.Common.{◌∙◌, None, ap, get_or, length, sym}
 use Rattle.span_lines.specs.inner.LentMappings.{mapping_lent}
 use Rattle.span_lines.proofs.StepLemmas.{lines_count}
 use Rattle.span_lines.proofs.threads.print_thread.Goals as goal
