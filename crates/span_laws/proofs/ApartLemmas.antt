@@ -1,7 +1,7 @@
 -- Lists of which no two elements are related, and lists of keys of which none stands twice.
-use Rattle.std.proofs.Common.{◌≡◌, ◌⊎◌, inl, inr, ⊎_elim, ℕ, zero, suc, ◌+◌, ◌<◌, ◌≤◌, List, [], ◌∷◌, ◌++◌, Bool, true, false, cond, map, filter, Option, Some, None, slice_index_or, refl, sym, ap, subst, ◌∙◌, arith, eq-or-lt_of_le}
+use Rattle.std.proofs.Common.{◌≡◌, ◌⊎◌, inl, inr, ⊎_elim, ℕ, zero, suc, ◌+◌, ◌<◌, ◌≤◌, List, [], ◌∷◌, ◌++◌, Bool, true, false, cond, map, filter, Option, Some, None, slice_index_or, get_or, refl, sym, ap, subst, ◌∙◌, arith, eq-or-lt_of_le, length}
 use Rattle.std.specs.Prelude.{⊤}
-use Rattle.std.specs.List.{flat_map, range_with_len}
+use Rattle.std.specs.List.{Contains, flat_map, range_with_len}
 use Rattle.trace_types.specs.Repeats.{AreDistinct}
 
 -- x is one of these
@@ -76,6 +76,19 @@ in_to_filter {X} p (y ∷ xs) x h t = by (p y) refl (λ i. in_to_filter p xs x i
     by true e more (inr i) = inr (more i)
     by false e more (inl s) = let w : false ≡ true = sym e ∙ ap p s ∙ t in cc
     by false e more (inr i) = more i
+
+pub at_in : {X : Type 0} (xs : List X) (i : ℕ) (d : X) → i < length xs → In xs (get_or xs i d)
+at_in [] i d l = absurd (omega (arith, l))
+at_in (x ∷ xs) zero d l = inl refl
+at_in (x ∷ xs) (suc i) d l = inr (at_in xs i d (omega (arith, l)))
+
+pub contains_in : {X : Type 0} (xs : List X) (x : X) → Contains xs x → In xs x
+contains_in xs x (k, l, e) = subst (In xs) e (at_in xs k x l)
+
+pub in_contains : {X : Type 0} (xs : List X) (x : X) → In xs x → Contains xs x
+in_contains [] x h = absurd h
+in_contains (y ∷ xs) x (inl e) = (0, omega arith, e)
+in_contains (y ∷ xs) x (inr h) = let p = in_contains xs x h in let l = p.1 in (suc p.0, omega (arith, l), p.2)
 
 -- ---- all of them
 
@@ -181,17 +194,17 @@ in_to_present (None ∷ keys) k (inr h) = in_to_present keys k h
 in_to_present (Some j ∷ keys) k (inl e) = inl (some_is j k e)
 in_to_present (Some j ∷ keys) k (inr h) = inr (in_to_present keys k h)
 
-at_in : {K : Type 0} (keys : List (Option K)) (i : ℕ) (k : K) → slice_index_or keys i None ≡ Some k → In (present keys) k
-at_in {K} [] i k e = let w : ◌≡◌ {A = Option K} None (Some k) = e in cc
-at_in (o ∷ keys) zero k e = in_to_present (o ∷ keys) k (inl e)
-at_in (None ∷ keys) (suc i) k e = at_in keys i k e
-at_in (Some j ∷ keys) (suc i) k e = inr (at_in keys i k e)
+key_in : {K : Type 0} (keys : List (Option K)) (i : ℕ) (k : K) → slice_index_or keys i None ≡ Some k → In (present keys) k
+key_in {K} [] i k e = let w : ◌≡◌ {A = Option K} None (Some k) = e in cc
+key_in (o ∷ keys) zero k e = in_to_present (o ∷ keys) k (inl e)
+key_in (None ∷ keys) (suc i) k e = key_in keys i k e
+key_in (Some j ∷ keys) (suc i) k e = inr (key_in keys i k e)
 
 no_repeat : {K : Type 0} (keys : List (Option K)) → Once (present keys) → (i j : ℕ) (k : K) → i < j → slice_index_or keys i None ≡ Some k → slice_index_or keys j None ≡ Some k → ⊥
 no_repeat {K} [] o i j k l e f = let w : ◌≡◌ {A = Option K} None (Some k) = e in cc
 no_repeat keys o i zero k l e f = omega (arith, l)
 no_repeat {K} (None ∷ keys) o zero (suc j) k l e f = let w : ◌≡◌ {A = Option K} None (Some k) = e in cc
-no_repeat (Some x ∷ keys) o zero (suc j) k l e f = every_in (λ y. x ≡ y → ⊥) (present keys) o.0 k (at_in keys j k f) (some_is x k e)
+no_repeat (Some x ∷ keys) o zero (suc j) k l e f = every_in (λ y. x ≡ y → ⊥) (present keys) o.0 k (key_in keys j k f) (some_is x k e)
 no_repeat (None ∷ keys) o (suc i) (suc j) k l e f = no_repeat keys o i j k (omega (arith, l)) e f
 no_repeat (Some x ∷ keys) o (suc i) (suc j) k l e f = no_repeat keys o.1 i j k (omega (arith, l)) e f
 

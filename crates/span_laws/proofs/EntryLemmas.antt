@@ -25,11 +25,11 @@ use Rattle.span_lines.specs.Messages.{call_span}
 use Rattle.span_lines.specs.Requests.{begins_request, name_of_request, request_lines, request_starts}
 use Rattle.span_lines.specs.SpanLines.{AreRequestLines, group_numbers, mapping_of}
 use Rattle.span_laws.specs.LineLaws.{HavePlainTraces, IsStartOfEntry, RequestsBeginWithEntries, RequestsHaveOwnNames}
-use Rattle.span_laws.proofs.ApartLemmas.{In, Once, every_in, in_filter, in_flat, in_range, once_range, pairs_filter}
+use Rattle.span_laws.proofs.ApartLemmas.{In, Once, every_in, in_filter, in_flat, in_range, once_range, pairs_filter, at_in, contains_in}
 use Rattle.span_laws.proofs.HeadLemmas as head
 use Rattle.span_laws.proofs.HeadLemmas.{same_or}
 use Rattle.span_laws.proofs.OrderLemmas.{IsPlain, one_name}
-use Rattle.span_laws.proofs.SoundLemmas.{a_call, at_in, contains_in, none_is}
+use Rattle.span_laws.proofs.SoundLemmas.{a_call, none_is}
 use Rattle.span_laws.proofs.TraceLemmas as trace
 
 request_of : (m : Mapping) (r : List ℕ) (x : ℕ) (piece : Option Piece) (steps : List Step) (e : Event) → In (lines_from m r x piece steps) e → e.request ≡ r

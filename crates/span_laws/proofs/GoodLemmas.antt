@@ -24,10 +24,9 @@ use Rattle.context_names.specs.Tasks.{task_name}
 use Rattle.name_laws.specs.GoodNames.{EventsAreGood, HaveTexts, IsLineText, IsShortPiece, MachinesAreGood, TasksAreGood, endings}
 use Rattle.span_lines.specs.Mappings.{name_of}
 use Rattle.span_laws.specs.GoodLines.{IsGiven}
-use Rattle.span_laws.proofs.ApartLemmas.{Every, In, every_from_in, in_filter, in_flat}
+use Rattle.span_laws.proofs.ApartLemmas.{Every, In, every_from_in, in_filter, in_flat, at_in}
 use Rattle.span_laws.proofs.FarLemmas.{place}
 use Rattle.span_laws.proofs.SizeLemmas.{IsSmall}
-use Rattle.span_laws.proofs.SoundLemmas.{at_in}
 
 -- ---- contexts that are first in their groups
 

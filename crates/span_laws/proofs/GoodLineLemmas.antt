@@ -31,17 +31,18 @@ use Rattle.span_lines.specs.Messages.{call_span, caller_of_call}
 use Rattle.span_lines.specs.Moments.{Moment, message_with, moment_of, moment_on, moment_within, said_by, seen_moment}
 use Rattle.span_lines.specs.Requests.{begins_request, name_of_request, request_calls, request_lines, request_size, request_starts}
 use Rattle.span_lines.specs.SpanLines.{AreRequestLines, group_numbers, mapping_of}
-use Rattle.span_laws.specs.GoodLines.{AreShort, IsGiven, IsGood, IsLineMessage, LinesAreGood}
-use Rattle.span_laws.proofs.ApartLemmas.{In, in_filter, in_flat, in_map, in_range}
+use Rattle.span_laws.specs.GoodLines.{IsGiven, IsGood, IsLineMessage, LinesAreGood}
+use Rattle.span_laws.proofs.ApartLemmas.{In, in_filter, in_flat, in_map, in_range, at_in}
 use Rattle.span_laws.proofs.BoundLemmas.{Told, calls_told}
 use Rattle.span_laws.proofs.FarLemmas.{first_far_is, last_far_is, place}
+use Rattle.span_laws.proofs.FewLemmas.{AreShort, short_of}
 use Rattle.span_laws.proofs.GoodLemmas.{head_low, machine_good, short_piece}
 use Rattle.span_laws.proofs.HeadLemmas as head
 use Rattle.span_laws.proofs.MessageLemmas.{picked, said_is}
 use Rattle.span_laws.proofs.RangeLemmas.{closed}
 use Rattle.thread_steps.specs.ThreadLaws.{AreClosed}
 use Rattle.span_laws.proofs.SizeLemmas.{Begin, IsSmall, thread_small}
-use Rattle.span_laws.proofs.SoundLemmas.{AllLaws, a_call, at_in, none_is}
+use Rattle.span_laws.proofs.SoundLemmas.{AllLaws, a_call, none_is}
 use Rattle.span_laws.proofs.StampLemmas.{Stamp, lines_are, stamped}
 use Rattle.span_laws.proofs.TextLemmas.{message_good, request_good}
 use Rattle.span_laws.proofs.TraceLemmas as trace
@@ -228,4 +229,4 @@ module _ (laws : AllLaws) (names : NameLaws) (input : List Span) (grace : ℕ) (
   all_good = λ k d l. one_good (get_or requests k d) (at_in requests k d l)
 
 pub lines_good : AllLaws → NameLaws → LinesAreGood
-lines_good laws names = λ input grace asked requests there given a short. all_good laws names input grace asked requests there given a short
+lines_good laws names = λ input grace asked requests there given small a. all_good laws names input grace asked requests there given a (short_of laws.calls laws.once input grace asked requests there given a small)

@@ -2,6 +2,7 @@ pub mod ApartLemmas
 pub mod BoundLemmas
 pub mod EntryLemmas
 pub mod FarLemmas
+pub mod FewLemmas
 pub mod GoodLemmas
 pub mod GoodLineLemmas
 pub mod GroupLemmas

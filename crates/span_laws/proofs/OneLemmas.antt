@@ -21,13 +21,14 @@ use Rattle.span_lines.specs.Mappings.{Mapping, begins_thread, context_of}
 use Rattle.span_lines.specs.Messages.{call_span}
 use Rattle.span_lines.specs.Requests.{begins_request, name_of_request, request_calls, request_lines, request_size, request_starts}
 use Rattle.span_lines.specs.SpanLines.{AreRequestLines, mapping_of}
-use Rattle.span_laws.specs.LineLaws.{AreFew, AreToldOnce, SpansAreToldOnce, end_place, is_end_line, is_start_line, place_of, start_place}
-use Rattle.span_laws.proofs.ApartLemmas.{In, Once, Pairs, every_from_in, every_in, in_filter, in_flat, in_map, in_range, in_to_filter, in_to_flat, in_to_map, in_to_range, once_range, pairs_filter, pairs_flat, pairs_map, pairs_weaker}
+use Rattle.span_laws.specs.LineLaws.{AreToldOnce, SpansAreToldOnce, end_place, is_end_line, is_start_line, place_of, start_place}
+use Rattle.span_laws.proofs.ApartLemmas.{In, Once, Pairs, every_from_in, every_in, in_filter, in_flat, in_map, in_range, in_to_filter, in_to_flat, in_to_map, in_to_range, once_range, pairs_filter, pairs_flat, pairs_map, pairs_weaker, at_in, in_contains}
+use Rattle.span_laws.proofs.FewLemmas.{AreFew, few_of}
 use Rattle.span_laws.proofs.HeadLemmas.{flat_agree_in, same_or}
 use Rattle.span_laws.proofs.NamedLemmas.{map_flat, map_map}
 use Rattle.span_laws.proofs.RangeLemmas.{closed, has_caller}
 use Rattle.span_laws.proofs.RequestLemmas as request
-use Rattle.span_laws.proofs.SoundLemmas.{AllLaws, a_call, at_in, in_contains, none_is}
+use Rattle.span_laws.proofs.SoundLemmas.{AllLaws, a_call, none_is}
 use Rattle.span_laws.proofs.StampLemmas.{ends_of, starts_of}
 use Rattle.span_laws.proofs.ToldLemmas.{ends_flat, filtered_flat, starts_flat, thread_ends, thread_starts}
 use Rattle.span_laws.proofs.TraceLemmas as trace
@@ -245,4 +246,6 @@ module _ (laws : AllLaws) (input : List Span) (grace : ℕ) (asked : Option (Lis
   }
 
 pub told_once : AllLaws → SpansAreToldOnce
-told_once laws = λ input grace asked requests there a few. (starts_told laws input grace asked requests there a few, ends_told laws input grace asked requests there a few)
+told_once laws = λ input grace asked requests there small a.
+    let few = few_of laws.calls laws.once input grace asked requests there a small in
+    (starts_told laws input grace asked requests there a few, ends_told laws input grace asked requests there a few)

@@ -19,8 +19,9 @@ use Rattle.span_lines.specs.Mappings.{Mapping}
 use Rattle.span_lines.specs.Messages.{call_span}
 use Rattle.span_lines.specs.Requests.{begins_request, name_of_request, request_lines, request_starts}
 use Rattle.span_lines.specs.SpanLines.{AreRequestLines, group_numbers, mapping_of}
-use Rattle.span_laws.specs.LineLaws.{AreFew, AreSound, RequestsAreSound, SoundLinesAreTaken}
-use Rattle.span_laws.proofs.ApartLemmas.{In, in_filter, in_map, in_range}
+use Rattle.span_laws.specs.LineLaws.{AreSound, RequestsAreSound, SoundLinesAreTaken}
+use Rattle.span_laws.proofs.ApartLemmas.{In, in_filter, in_map, in_range, at_in, contains_in, in_contains}
+use Rattle.span_laws.proofs.FewLemmas.{AreFew, few_of}
 use Rattle.span_laws.proofs.HeadLemmas as head
 use Rattle.span_laws.proofs.RequestLemmas as request
 use Rattle.span_laws.proofs.RequestLemmas.{Laws}
@@ -35,19 +36,6 @@ pub record AllLaws : Type 0 where
   pub calls : InputsHaveCalls
   pub once : SpansAreCalledOnce
   pub together : CallsAreTogether
-
-pub at_in : {X : Type 0} (xs : List X) (i : ℕ) (d : X) → i < length xs → In xs (get_or xs i d)
-at_in [] i d l = absurd (omega (arith, l))
-at_in (x ∷ xs) zero d l = inl refl
-at_in (x ∷ xs) (suc i) d l = inr (at_in xs i d (omega (arith, l)))
-
-pub contains_in : {X : Type 0} (xs : List X) (x : X) → Contains xs x → In xs x
-contains_in xs x (k, l, e) = subst (In xs) e (at_in xs k x l)
-
-pub in_contains : {X : Type 0} (xs : List X) (x : X) → In xs x → Contains xs x
-in_contains [] x h = absurd h
-in_contains (y ∷ xs) x (inl e) = (0, omega arith, e)
-in_contains (y ∷ xs) x (inr h) = let p = in_contains xs x h in let l = p.1 in (suc p.0, omega (arith, l), p.2)
 
 pub none_is : (o : Option ℕ) → is_none o ≡ true → o ≡ None
 none_is None e = refl
@@ -108,7 +96,7 @@ module _ (laws : AllLaws) (input : List Span) (grace : ℕ) (asked : Option (Lis
   all_sound = λ k d l. lines_sound (get_or requests k d) (at_in requests k d l)
 
 pub requests_sound : AllLaws → RequestsAreSound
-requests_sound laws = λ input grace asked requests there a few. all_sound laws input grace asked requests there a few
+requests_sound laws = λ input grace asked requests there small a. all_sound laws input grace asked requests there a (few_of laws.calls laws.once input grace asked requests there a small)
 
 pub taken : SoundLinesAreTaken
 taken lines Memory s f = f

@@ -40,18 +40,13 @@ pub record AreSound (lines : List Event) : Type 0 where
   pub received : AreReceived lines
   pub sent : AreSent lines
 
--- calls, contexts and machines are numbered with 64 bits
-pub record AreFew (spans : List Span) (grace : ℕ) (asked : Option (List ℕ)) (requests : List (List Event)) (r : AreRequestLines spans grace asked requests) : Type 0 where
-  pub calls : length r.calls < 2 ^ 64
-  pub contexts : length r.placing.contexts < 2 ^ 64
-  pub machines : length r.machines.machines < 2 ^ 64
-
--- the lines of each request are sound, of an input in which no parents form a circle
+-- the lines of each request are sound, of an input of fewer than 2^64 spans in which no parents form a
+-- circle
 abbrev pub RequestsAreSound : Type 0
 RequestsAreSound = (input : List Span) (grace : ℕ) (asked : Option (List ℕ))
     (requests : List (List Event)) → HaveEntries input
-    → (r : AreRequestLines (spans_once input) grace asked requests)
-    → AreFew (spans_once input) grace asked requests r → All AreSound requests
+    → length (spans_once input) < 2 ^ 64 → AreRequestLines (spans_once input) grace asked requests
+    → All AreSound requests
 
 -- a fault that sound lines may have: too many of them, or times that are years apart
 abbrev pub IsOfSizeOrClock : TraceFault → Type 0
@@ -133,7 +128,7 @@ pub record AreToldOnce (spans : List Span) (asked : Option (List ℕ)) (test : E
 abbrev pub SpansAreToldOnce : Type 0
 SpansAreToldOnce = (input : List Span) (grace : ℕ) (asked : Option (List ℕ))
     (requests : List (List Event)) → HaveEntries input
+    → length (spans_once input) < 2 ^ 64
     → (r : AreRequestLines (spans_once input) grace asked requests)
-    → AreFew (spans_once input) grace asked requests r
     → AreToldOnce (spans_once input) asked is_start_line (start_place r.machines) (flat_map (λ ls. ls) requests)
     × AreToldOnce (spans_once input) asked is_end_line (end_place r.machines) (flat_map (λ ls. ls) requests)
