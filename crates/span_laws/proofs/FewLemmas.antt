@@ -1,5 +1,5 @@
 -- There are no more contexts than calls, no more calls than spans, and no more machines than spans.
-use Rattle.std.proofs.Common.{◌≡◌, ◌≢◌, ◌⊎◌, inl, inr, ⊎_elim, ℕ, zero, suc, ◌+◌, ◌^◌, ◌<◌, ◌≤◌, List, [], ◌∷◌, length, map, Option, Some, None, get_or, slice_get, refl, sym, ap, subst, ◌∙◌, arith}
+use Rattle.std.proofs.Common.{◌≡◌, ◌≢◌, inl, inr, ⊎_elim, ℕ, zero, suc, ◌^◌, ◌<◌, ◌≤◌, List, [], ◌∷◌, length, map, Option, Some, None, get_or, slice_get, refl, sym, ap, subst, ◌∙◌, arith}
 use Rattle.std.specs.List.{All, AllPairs, Contains, range_with_len}
 use Rattle.std.specs.Str.{IsUtf8, bytes_eq}
 use Rattle.std.proofs.lemmas.List.{get_or-map, length-map}
@@ -9,7 +9,7 @@ use Rattle.trace_types.proofs.ShortLemmas.{firsts-short}
 use Rattle.span_types.specs.declared.span.Span.{Span}
 use Rattle.span_requests.specs.Callers.{caller_numbers}
 use Rattle.span_requests.specs.SpansOnce.{spans_once}
-use Rattle.span_calls.specs.Seen.{no_span, span_at}
+use Rattle.span_calls.specs.Seen.{no_span}
 use Rattle.span_calls.specs.declared.call.Call.{Call}
 use Rattle.call_laws.specs.CallLaws.{AreAskedFor, AreCallsOf, InputsHaveCalls, SpansAreCalledOnce}
 use Rattle.span_requests.specs.Faults.{HaveEntries}
@@ -20,7 +20,7 @@ use Rattle.context_names.specs.Machines.{machines_of}
 use Rattle.name_laws.specs.GoodNames.{HaveTexts}
 use Rattle.span_lines.specs.Messages.{call_span}
 use Rattle.span_laws.specs.GoodLines.{IsGiven}
-use Rattle.span_laws.proofs.ApartLemmas.{Every, In, Once, every_from_in, every_in, in_range, in_to_range, once_range, at_in, contains_in}
+use Rattle.span_laws.proofs.ApartLemmas.{Every, In, Once, every_in, in_range, in_to_range, once_range, contains_in}
 use Rattle.span_laws.proofs.TraceLemmas as trace
 
 -- ---- lists of which one has all that the other has

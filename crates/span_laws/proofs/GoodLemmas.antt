@@ -1,31 +1,24 @@
 -- The lines of spans as readers give them are good.
-use Rattle.std.proofs.Common.{◌≡◌, ◌⊎◌, inl, inr, ⊎_elim, ℕ, zero, suc, ◌+◌, ◌^◌, ◌<◌, ◌≤◌, ◌==◌, List, [], ◌∷◌, ◌++◌, Bool, true, false, cond, codes, length, map, filter, flat_map, nat_lt, Option, Some, None, IfSome, get_or, slice_get, refl, sym, ap, subst, ◌∙◌, arith}
-use Rattle.std.specs.Prelude.{⊤}
-use Rattle.std.specs.List.{All, list_any, range_with_len, position_or_len}
+use Rattle.std.proofs.Common.{◌≡◌, ◌⊎◌, inl, inr, ⊎_elim, ℕ, zero, suc, ◌+◌, ◌^◌, ◌<◌, ◌≤◌, ◌==◌, List, [], ◌∷◌, Bool, false, length, map, filter, Option, Some, None, IfSome, get_or, sym, ap, subst, ◌∙◌, arith}
+use Rattle.std.specs.List.{All, range_with_len, position_or_len}
 use Rattle.std.specs.Str.{IsUtf8, bytes_eq}
 use Rattle.std.proofs.lemmas.List.{length-map}
 use Rattle.std.proofs.lemmas.List.Elements.{All-map}
 use Rattle.std.proofs.lemmas.List.FromFn.{length-map-range_with_len, length-range_with_len, get_or-range_with_len}
 use Rattle.std.proofs.lemmas.List.Sorted.{All-permutation}
 use Rattle.trace_types.proofs.ShortLemmas.{firsts_all}
-use Rattle.trace_types.specs.Firsts.{firsts_of}
-use Rattle.trace_types.specs.Times.{latest_time}
-use Rattle.trace_types.specs.declared.event.Event.{Event}
 use Rattle.span_types.specs.declared.span.Span.{Span}
 use Rattle.span_names.specs.Names.{base_of, most_of_event}
 use Rattle.span_names.specs.declared.piece.Piece.{Piece}
 use Rattle.call_contexts.specs.ContextOrder.{AreOrdered, all_above, title_of}
-use Rattle.call_contexts.specs.Contexts.{Frame, HaveAbove}
+use Rattle.call_contexts.specs.Contexts.{Frame}
 use Rattle.call_trees.proofs.GroupLemmas.{group_at, groups_length}
 use Rattle.call_trees.specs.Below.{is_number}
 use Rattle.context_names.specs.Machines.{AreNamed, MachineNames, machines_of}
 use Rattle.context_names.specs.Pieces.{are_of_one_group, forked_among, forked_in_order, heads, heads_by_group}
-use Rattle.context_names.specs.Tasks.{task_name}
-use Rattle.name_laws.specs.GoodNames.{EventsAreGood, HaveTexts, IsLineText, IsShortPiece, MachinesAreGood, TasksAreGood, endings}
-use Rattle.span_lines.specs.Mappings.{name_of}
+use Rattle.name_laws.specs.GoodNames.{IsLineText, IsShortPiece, MachinesAreGood}
 use Rattle.span_laws.specs.GoodLines.{IsGiven}
-use Rattle.span_laws.proofs.ApartLemmas.{Every, In, every_from_in, in_filter, in_flat, at_in}
-use Rattle.span_laws.proofs.FarLemmas.{place}
+use Rattle.span_laws.proofs.ApartLemmas.{Every, In, in_filter, in_flat, at_in}
 use Rattle.span_laws.proofs.SizeLemmas.{IsSmall}
 
 -- ---- contexts that are first in their groups

@@ -1,6 +1,5 @@
 -- Each line of spans as readers give them is good.
-use Rattle.std.proofs.Common.{◌≡◌, ◌⊎◌, inl, inr, ⊎_elim, ℕ, zero, suc, ◌+◌, ◌^◌, ◌<◌, ◌≤◌, List, [], ◌∷◌, ◌++◌, Bool, true, false, cond, codes, length, map, filter, flat_map, nat_lt, Option, Some, None, is_none, get_or, slice_get, refl, sym, ap, subst, ◌∙◌, arith}
-use Rattle.std.specs.Prelude.{⊤}
+use Rattle.std.proofs.Common.{◌≡◌, inl, inr, ℕ, ◌+◌, ◌^◌, ◌<◌, ◌≤◌, List, [], ◌∷◌, ◌++◌, Bool, true, false, codes, length, map, filter, nat_lt, Option, Some, None, get_or, refl, sym, ap, subst, ◌∙◌, arith}
 use Rattle.std.specs.List.{All, list_any, range_with_len}
 use Rattle.std.specs.Str.{bytes_eq}
 use Rattle.trace_types.specs.Times.{latest_time}
@@ -28,7 +27,7 @@ use Rattle.thread_steps.specs.declared.step.Step.TheVariants.{Starts, Ends, Fork
 use Rattle.span_lines.specs.Lines.{event_of, line_of, thread_lines}
 use Rattle.span_lines.specs.Mappings.{Mapping, begins_thread, context_of, name_of}
 use Rattle.span_lines.specs.Messages.{call_span, caller_of_call}
-use Rattle.span_lines.specs.Moments.{Moment, message_with, moment_of, moment_on, moment_within, said_by, seen_moment}
+use Rattle.span_lines.specs.Moments.{Moment, message_with, moment_of, said_by, seen_moment}
 use Rattle.span_lines.specs.Requests.{begins_request, name_of_request, request_calls, request_lines, request_size, request_starts}
 use Rattle.span_lines.specs.SpanLines.{AreRequestLines, group_numbers, mapping_of}
 use Rattle.span_laws.specs.GoodLines.{IsGiven, IsGood, IsLineMessage, LinesAreGood}

@@ -1,6 +1,6 @@
 -- The lines of requests are sound.
-use Rattle.std.proofs.Common.{◌≡◌, inl, inr, ℕ, zero, suc, ◌<◌, List, [], ◌∷◌, true, false, length, map, Option, Some, None, is_none, get_or, refl, sym, subst, arith}
-use Rattle.std.specs.List.{All, Contains, range_with_len}
+use Rattle.std.proofs.Common.{◌≡◌, ℕ, ◌<◌, List, [], ◌∷◌, true, false, length, map, Option, Some, None, is_none, get_or, refl, sym, subst, arith}
+use Rattle.std.specs.List.{All, range_with_len}
 use Rattle.trace_types.specs.declared.event.Event.{Event}
 use Rattle.segment_cut.specs.declared.trace_fault.TraceFault.TheVariants.{Memory, TooManyEvents, RepeatedEvent, RepeatedSend, RepeatedRecv, ClockRange}
 use Rattle.span_types.specs.declared.span.Span.{Span}

@@ -1,16 +1,15 @@
 -- Texts that a line may have.
-use Rattle.std.proofs.Common.{◌≡◌, ℕ, zero, suc, ◌+◌, ◌<◌, ◌≤◌, ◌==◌, List, [], ◌∷◌, ◌++◌, Bool, true, false, cond, ◌||◌, codes, length, get_or, nat_lt, Option, Some, None, IsAscii, IsUtf8, refl, sym, ap, subst, ◌∙◌, arith, le-ltb, ne_eqb}
-use Rattle.std.specs.Prelude.{⊤}
+use Rattle.std.proofs.Common.{◌≡◌, ℕ, zero, suc, ◌<◌, ◌≤◌, ◌==◌, List, [], ◌∷◌, ◌++◌, Bool, true, false, cond, ◌||◌, codes, length, get_or, nat_lt, refl, sym, subst, arith, le-ltb, ne_eqb}
 use Rattle.std.specs.List.{All, list_any}
 use Rattle.std.proofs.lemmas.Bool.{or_from}
 use Rattle.std.proofs.lemmas.List.{length-append}
 use Rattle.std.proofs.lemmas.Str.{IsUtf8-from_ascii}
-use Rattle.event_lines.specs.EventFaults.{is_bad_text, is_control_character}
+use Rattle.event_lines.specs.EventFaults.{is_control_character}
 use Rattle.name_laws.proofs.BaseLemmas.{not_control}
 use Rattle.name_laws.specs.GoodNames.{IsLineText}
 use Rattle.span_types.specs.declared.span.Span.{Span}
 use Rattle.span_lines.specs.Requests.{is_first_entry, name_of_request}
-use Rattle.span_laws.specs.GoodLines.{IsGiven, IsIdText}
+use Rattle.span_laws.specs.GoodLines.{IsGiven}
 use Rattle.span_laws.proofs.ApartLemmas.{Every}
 use Rattle.span_laws.proofs.OrderLemmas.{dotted}
 
