@@ -1,5 +1,5 @@
--- The calling context of a call: which operation of which service it is, as the so-manieth call of
--- its like that its caller makes, below the context of its caller.
+-- The calling context of a call: which operation of which service it is, and which call of its like
+-- that its caller makes, below the context of its caller.
 use Rattle.std.specs.Prelude.{ℕ, ◌≡◌, ◌<◌, ◌==◌, ◌&&◌, List, Bool, All, Option, Some, None, nat_eq}
 use Rattle.std.specs.Prelude.{length, map, slice_get, slice_index}
 use Rattle.std.specs.List.{Contains}

@@ -1,5 +1,5 @@
-/// A calling context: an operation of a service, as the so-manieth call of its like that its caller
-/// makes, below the context of the caller.
+/// A calling context: an operation of a service, and which call of its like that its caller makes,
+/// below the context of the caller.
 #[derive(Clone, Copy, Debug, PartialEq, Eq, Hash)]
 pub struct Context<'a> {
     /// The number of the context of the caller, which is lower.

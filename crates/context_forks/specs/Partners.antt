@@ -1,6 +1,7 @@
 -- Calls of one caller that overlap. A thread runs one operation at a time: it goes into a call and
--- comes back from it. So calls that overlap by more than the grace (in nanoseconds) run in threads of
--- their own, and so does a call that reaches out of its caller.
+-- comes back from it. So calls run in threads of their own where each of them ends by more than the
+-- grace (in nanoseconds) after the other one starts, and so does a call that reaches out of its
+-- caller.
 use Rattle.std.specs.Prelude.{ℕ, ◌-◌, ◌&&◌, ◌||◌, List, [], ◌∷◌, ◌++◌, Bool, false, Option, Some, None, filter}
 use Rattle.std.specs.Prelude.{nat_lt, if◌then◌else◌, map, slice_index}
 use Rattle.std.specs.List.{flat_map}

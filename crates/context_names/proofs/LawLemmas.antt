@@ -20,7 +20,7 @@ use Rattle.trace_types.specs.Firsts.{firsts_of}
 use Rattle.trace_types.proofs.ShortLemmas.{filter-short, firsts-short}
 use Rattle.context_names.specs.Bases.{event_base, frame_of_number, no_frame, task_base}
 use Rattle.context_names.specs.Labels.{Label, label_at, label_eq, label_numbers}
-use Rattle.context_names.specs.NameLaws.{AreInOrder, ContextsStandOnce, GroupsDiffer, HaveOneAbove, IsForkedBelow, LabelsDiffer, MachinesDiffer, TasksDiffer, NumbersAreFew}
+use Rattle.context_names.specs.NameLaws.{AreFewInOrder, ContextsStandOnce, GroupsDiffer, HaveOneAbove, IsForkedBelow, LabelsDiffer, MachinesDiffer, TasksDiffer, NumbersAreFew}
 use Rattle.call_contexts.specs.Contexts.{Frame}
 use Rattle.context_names.specs.Numbers.{base_at, base_numbers, numbered_names}
 use Rattle.context_names.specs.Pieces.{are_of_one_group, forked_among, forked_in_order, head_numbers, heads, numbers_by_group, thread_above}
@@ -254,7 +254,7 @@ firsts_in same [] x h = h
 firsts_in same (z ∷ xs) x (inl e) = inl e
 firsts_in same (z ∷ xs) x (inr g) = inr (firsts_in same xs x (filter-in (λ y. not (same z y)) (firsts_of same xs) x g).0)
 
-module _ (contexts : List Frame) (order : List ℕ) (below : List (List ℕ)) (threads : List ℕ) (forked : List Bool) (groups : List ℕ) (h : AreInOrder contexts order below) (size : length groups ≡ length contexts)
+module _ (contexts : List Frame) (order : List ℕ) (below : List (List ℕ)) (threads : List ℕ) (forked : List Bool) (groups : List ℕ) (h : AreFewInOrder contexts order below) (size : length groups ≡ length contexts)
     (grouped : All (λ g. g < length groups) groups) (one : HaveOneAbove contexts groups) where
   abbrev key : ℕ → ℕ
   key z = thread_above threads (frame_of_number contexts z).above z

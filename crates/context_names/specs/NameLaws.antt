@@ -13,7 +13,7 @@ use Rattle.context_names.specs.Pieces.{numbers_by_group}
 use Rattle.context_names.specs.Tasks.{task_name, task_names}
 
 -- these contexts are in order, and their numbers have 64 bits
-pub record AreInOrder (contexts : List Frame) (order : List ℕ) (below : List (List ℕ)) : Type 0 where
+pub record AreFewInOrder (contexts : List Frame) (order : List ℕ) (below : List (List ℕ)) : Type 0 where
   pub above : HaveAbove contexts
   pub ordered : AreOrdered contexts order below
   pub size : length contexts < 2 ^ 64
@@ -32,7 +32,7 @@ ContextsStandOnce = (contexts : List Frame) (order : List ℕ) (below : List (Li
 -- two contexts of one thread have two names
 abbrev pub LabelsDiffer : Type 0
 LabelsDiffer = (contexts : List Frame) (order : List ℕ) (below : List (List ℕ)) (threads : List ℕ)
-    → AreInOrder contexts order below → (x y : ℕ) → x < length contexts → y < length contexts
+    → AreFewInOrder contexts order below → (x y : ℕ) → x < length contexts → y < length contexts
     → slice_index threads x ≡ slice_index threads y
     → slice_index_or (labels_of order threads (map event_base contexts)) x []
     ≡ slice_index_or (labels_of order threads (map event_base contexts)) y []
@@ -41,7 +41,7 @@ LabelsDiffer = (contexts : List Frame) (order : List ℕ) (below : List (List �
 -- two threads have no piece of one name, and no thread has two; a thread is that of its first context
 abbrev pub TasksDiffer : Type 0
 TasksDiffer = (contexts : List Frame) (order : List ℕ) (below : List (List ℕ)) (threads : List ℕ)
-    → AreInOrder contexts order below → (x y : ℕ) → x < length contexts → y < length contexts
+    → AreFewInOrder contexts order below → (x y : ℕ) → x < length contexts → y < length contexts
     → slice_index threads x ≡ x → slice_index threads y ≡ y
     → (p q : Option Piece) → HasSize p → HasSize q
     → task_name (task_names order threads (map task_base contexts)) x p
@@ -69,7 +69,7 @@ pub record IsForkedBelow (contexts : List Frame) (forked : List Bool) (x a : ℕ
 -- of contexts that one thread forks, those of two groups have two numbers
 abbrev pub GroupsDiffer : Type 0
 GroupsDiffer = (contexts : List Frame) (order : List ℕ) (below : List (List ℕ)) (threads : List ℕ)
-    (forked : List Bool) (groups : List ℕ) → AreInOrder contexts order below
+    (forked : List Bool) (groups : List ℕ) → AreFewInOrder contexts order below
     → length groups ≡ length contexts → All (λ g. g < length groups) groups
     → HaveOneAbove contexts groups → (x a y b : ℕ)
     → IsForkedBelow contexts forked x a → IsForkedBelow contexts forked y b

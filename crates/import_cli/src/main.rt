@@ -1,4 +1,4 @@
-//! The program `mystery import`: event lines without waits.
+//! The program `mystery import`: event lines of spans, and event lines without waits.
 //! `import_run::run` is the whole program; `main` gives it the arguments, the files and the
 //! streams, and ends with its status.
 #![tactic(auto)]

@@ -19,7 +19,8 @@ use Rattle.thread_steps.specs.Steps.{steps_within}
 use Rattle.thread_steps.specs.declared.step.Step.{Step}
 use Rattle.thread_steps.specs.declared.step.Step.TheVariants.{Starts}
 use Rattle.context_names.specs.Tasks.{task_name}
-use Rattle.span_lines.specs.Lines.{line_of, lines_from, piece_after, thread_lines}
+use Rattle.span_lines.specs.Lines.{line_of, lines_from, thread_lines}
+use Rattle.thread_steps.specs.StepKeys.{piece_behind}
 use Rattle.span_lines.specs.Mappings.{Mapping, begins_thread, context_of}
 use Rattle.span_lines.specs.Messages.{call_span}
 use Rattle.span_lines.specs.Requests.{begins_request, name_of_request, request_lines, request_starts}
@@ -35,7 +36,7 @@ use Rattle.span_laws.proofs.TraceLemmas as trace
 request_of : (m : Mapping) (r : List ℕ) (x : ℕ) (piece : Option Piece) (steps : List Step) (e : Event) → In (lines_from m r x piece steps) e → e.request ≡ r
 request_of m r x piece [] e h = absurd h
 request_of m r x piece (step ∷ later) e (inl q) = sym (ap (λ (f : Event). f.request) q)
-request_of m r x piece (step ∷ later) e (inr h) = request_of m r x (piece_after piece step) later e h
+request_of m r x piece (step ∷ later) e (inr h) = request_of m r x (piece_behind piece step) later e h
 
 requests_of : (m : Mapping) (r : List ℕ) (i : ℕ) (e : Event) → In (request_lines m r i) e → e.request ≡ r
 requests_of m r i e h = let p = in_flat (thread_lines m r) _ e h in request_of m r (context_of m p.0) None (get_or m.steps p.0 []) e p.2

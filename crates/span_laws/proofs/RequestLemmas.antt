@@ -9,7 +9,7 @@ use Rattle.call_contexts.specs.Contexts.{AreContexts, above_by}
 use Rattle.call_laws.specs.ContextLaws.{ContextsAreOfOneCall, GroupsHaveOneAbove}
 use Rattle.context_forks.specs.Forks.{callers_of, context_pairs}
 use Rattle.context_names.specs.Machines.{MachineNames}
-use Rattle.context_names.specs.NameLaws.{AreInOrder, GroupsDiffer, HaveOneAbove, IsForkedBelow, LabelsDiffer, TasksDiffer}
+use Rattle.context_names.specs.NameLaws.{AreFewInOrder, GroupsDiffer, HaveOneAbove, IsForkedBelow, LabelsDiffer, TasksDiffer}
 use Rattle.span_names.specs.NameLaws.{HasSize}
 use Rattle.thread_steps.specs.Parts.{Grouping}
 use Rattle.thread_steps.specs.StepKeys.{AreToldApart, IsForkedBy, StepsDiffer}
@@ -150,7 +150,7 @@ module _ (laws : Laws) (grace : ℕ) (calls : List Call) (before : AreBefore cal
 
   -- ---- one thread
 
-  in_order : AreInOrder p.contexts p.order p.below
+  in_order : AreFewInOrder p.contexts p.order p.below
   in_order = record { above = placed.before; ordered = ordered; size = few }
 
   one_above : HaveOneAbove p.contexts t.groups

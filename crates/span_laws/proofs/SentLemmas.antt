@@ -25,7 +25,8 @@ use Rattle.span_names.specs.declared.piece.Piece.{Piece}
 use Rattle.thread_steps.proofs.TableLemmas.{caller_before}
 use Rattle.thread_steps.specs.declared.step.Step.{Step}
 use Rattle.context_names.specs.Tasks.{task_name}
-use Rattle.span_lines.specs.Lines.{line_of, lines_from, piece_after}
+use Rattle.span_lines.specs.Lines.{line_of, lines_from}
+use Rattle.thread_steps.specs.StepKeys.{piece_behind}
 use Rattle.span_lines.specs.Mappings.{Mapping, context_of, name_of}
 use Rattle.span_lines.specs.Messages.{call_span}
 use Rattle.span_lines.specs.Moments.{moment_of}
@@ -53,22 +54,22 @@ pub record Says (m : Mapping) (e : Event) (s : Step) : Type 0 where
 line_step : (m : Mapping) (r : List ℕ) (x : ℕ) (piece : Option Piece) (steps : List Step) (e : Event) → In (lines_from m r x piece steps) e → (s : Step) × In steps s × Says m e s
 line_step m r x piece [] e h = absurd h
 line_step m r x piece (step ∷ later) e (inl q) = (step, inl refl, subst (λ (f : Event). Says m f step) q (record { send = refl; recv = refl; machine = refl }))
-line_step m r x piece (step ∷ later) e (inr h) = let p = line_step m r x (piece_after piece step) later e h in (p.0, inr p.1, p.2)
+line_step m r x piece (step ∷ later) e (inr h) = let p = line_step m r x (piece_behind piece step) later e h in (p.0, inr p.1, p.2)
 
 step_line : (m : Mapping) (r : List ℕ) (x : ℕ) (piece : Option Piece) (steps : List Step) (s : Step) → In steps s → (e : Event) × In (lines_from m r x piece steps) e × Says m e s
 step_line m r x piece [] s h = absurd h
 step_line m r x piece (step ∷ later) s (inl q) =
-    let e : Event = line_of m r (task_name m.tasks x (piece_after piece step)) step in
+    let e : Event = line_of m r (task_name m.tasks x (piece_behind piece step)) step in
     (e, inl refl, subst (λ (z : Step). Says m e z) q (record { send = refl; recv = refl; machine = refl }))
-step_line m r x piece (step ∷ later) s (inr h) = let p = step_line m r x (piece_after piece step) later s h in (p.0, inr p.1, p.2)
+step_line m r x piece (step ∷ later) s (inr h) = let p = step_line m r x (piece_behind piece step) later s h in (p.0, inr p.1, p.2)
 
 thread_sends : (m : Mapping) (r : List ℕ) (x : ℕ) (piece : Option Piece) (steps : List Step) → map (λ (e : Event). e.send) (lines_from m r x piece steps) ≡ map (λ s. (moment_of m s).send) steps
 thread_sends m r x piece [] = refl
-thread_sends m r x piece (step ∷ later) = ap (λ l. (moment_of m step).send ∷ l) (thread_sends m r x (piece_after piece step) later)
+thread_sends m r x piece (step ∷ later) = ap (λ l. (moment_of m step).send ∷ l) (thread_sends m r x (piece_behind piece step) later)
 
 thread_receipts : (m : Mapping) (r : List ℕ) (x : ℕ) (piece : Option Piece) (steps : List Step) → map (λ (e : Event). e.recv) (lines_from m r x piece steps) ≡ map (λ s. (moment_of m s).recv) steps
 thread_receipts m r x piece [] = refl
-thread_receipts m r x piece (step ∷ later) = ap (λ l. (moment_of m step).recv ∷ l) (thread_receipts m r x (piece_after piece step) later)
+thread_receipts m r x piece (step ∷ later) = ap (λ l. (moment_of m step).recv ∷ l) (thread_receipts m r x (piece_behind piece step) later)
 
 module _ (m : Mapping) (steps : ℕ → List Step) (r : List ℕ) where
   all_sends : (heads : List ℕ) → sends_of (flat_map (lines_by m steps r) heads) ≡ map (λ s. (moment_of m s).send) (flat_map steps heads)

@@ -6,10 +6,10 @@ use Rattle.std.proofs.lemmas.Option.{slice_get-get_or}
 use Rattle.context_names.specs.Tasks.{task_name}
 use Rattle.span_names.specs.declared.piece.Piece.{Piece}
 use Rattle.thread_steps.specs.Parts.{Grouping}
-use Rattle.thread_steps.specs.StepKeys.{EndIn, Fork, Happening, Join, StartIn, StepKey, happening_of, keys_from}
+use Rattle.thread_steps.specs.StepKeys.{EndIn, Fork, Happening, Join, StartIn, StepKey, happening_of, keys_from, piece_behind}
 use Rattle.thread_steps.specs.declared.step.Step.{Step}
 use Rattle.thread_steps.specs.declared.step.Step.TheVariants.{Starts, Ends, Forks, Joins}
-use Rattle.span_lines.specs.Lines.{event_of, line_of, lines_from, piece_after}
+use Rattle.span_lines.specs.Lines.{event_of, line_of, lines_from}
 use Rattle.span_lines.specs.Mappings.{Mapping, head_label, label_of}
 use Rattle.span_laws.proofs.ApartLemmas.{In, Pairs, Once, every_in, every_from_in, in_to_map, pairs_weaker}
 
@@ -19,7 +19,7 @@ Stamp = Option Piece × Step
 
 abbrev pub stamped : Option Piece → List Step → List Stamp
 stamped piece [] = []
-stamped piece (step ∷ later) = (piece_after piece step, step) ∷ stamped (piece_after piece step) later
+stamped piece (step ∷ later) = (piece_behind piece step, step) ∷ stamped (piece_behind piece step) later
 
 -- the calls that start, those that end, and the pieces that begin
 abbrev pub starts_of : List Step → List ℕ
@@ -75,7 +75,7 @@ more_began (Joins j r) later (piece, Ends i) h = h
 more_began (Joins j r) later (piece, Forks i) h = tt
 more_began (Joins j r) later (piece, Joins i q) h = (inr h.0, h.1)
 
-first_began : (piece : Option Piece) (step : Step) (later : List Step) → Began (step ∷ later) (piece_after piece step, step)
+first_began : (piece : Option Piece) (step : Step) (later : List Step) → Began (step ∷ later) (piece_behind piece step, step)
 first_began piece (Starts i) later = inl refl
 first_began piece (Ends i) later = inl refl
 first_began piece (Forks i) later = tt
@@ -84,7 +84,7 @@ first_began piece (Joins i q) later = (inl refl, refl)
 pub began : (piece : Option Piece) (steps : List Step) (z : Stamp) → In (stamped piece steps) z → Began steps z
 began piece [] z h = absurd h
 began piece (step ∷ later) z (inl e) = subst (Began (step ∷ later)) e (first_began piece step later)
-began piece (step ∷ later) z (inr h) = more_began step later z (began (piece_after piece step) later z h)
+began piece (step ∷ later) z (inr h) = more_began step later z (began (piece_behind piece step) later z h)
 
 -- ---- events
 
@@ -170,4 +170,4 @@ module _ (m : Mapping) (grouping : Grouping) (steps : List Step)
 pub lines_are : (m : Mapping) (request : List ℕ) (thread : ℕ) (piece : Option Piece) (steps : List Step)
     → lines_from m request thread piece steps ≡ map (λ (z : Stamp). line_of m request (task_name m.tasks thread z.0) z.1) (stamped piece steps)
 lines_are m request thread piece [] = refl
-lines_are m request thread piece (step ∷ later) = ap (λ ls. line_of m request (task_name m.tasks thread (piece_after piece step)) step ∷ ls) (lines_are m request thread (piece_after piece step) later)
+lines_are m request thread piece (step ∷ later) = ap (λ ls. line_of m request (task_name m.tasks thread (piece_behind piece step)) step ∷ ls) (lines_are m request thread (piece_behind piece step) later)

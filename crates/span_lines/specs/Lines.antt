@@ -4,17 +4,11 @@ use Rattle.trace_types.specs.declared.event.Event.{Event}
 use Rattle.context_names.specs.Machines.{MachineNames}
 use Rattle.context_names.specs.Tasks.{task_name}
 use Rattle.span_names.specs.declared.piece.Piece.{Piece}
+use Rattle.thread_steps.specs.StepKeys.{piece_behind}
 use Rattle.thread_steps.specs.declared.step.Step.{Step}
 use Rattle.thread_steps.specs.declared.step.Step.TheVariants.{Starts, Ends, Forks, Joins}
 use Rattle.span_lines.specs.Mappings.{Mapping, context_of, head_label, label_of, name_of}
 use Rattle.span_lines.specs.Moments.{Moment, moment_of}
-
--- the piece that a thread is in after a step: behind a join it is a new one
-abbrev pub piece_after : Option Piece → Step → Option Piece
-piece_after piece (Starts i) = piece
-piece_after piece (Ends i) = piece
-piece_after piece (Forks i) = piece
-piece_after piece (Joins i next) = Some next
 
 -- the line of an event at a moment, in a task of a request
 abbrev pub line_at : MachineNames → (request task event : List ℕ) → Moment → Event
@@ -45,8 +39,8 @@ module _ (m : Mapping) where
   abbrev pub lines_from : (request : List ℕ) → (thread : ℕ) → Option Piece → List Step → List Event
   lines_from request thread piece [] = []
   lines_from request thread piece (step ∷ later) =
-      line_of request (task_name m.tasks thread (piece_after piece step)) step
-      ∷ lines_from request thread (piece_after piece step) later
+      line_of request (task_name m.tasks thread (piece_behind piece step)) step
+      ∷ lines_from request thread (piece_behind piece step) later
 
   -- the lines of the thread that begins with this call
   abbrev pub thread_lines : (request : List ℕ) → ℕ → List Event

@@ -5,6 +5,7 @@ use Rattle.trace_types.specs.declared.event.Event.{Event}
 use Rattle.event_text.specs.LineTexts.{event_text}
 use Rattle.span_types.specs.declared.span.Span.{Span}
 use Rattle.span_requests.specs.Callers.{misses_parent}
+use Rattle.span_requests.specs.Faults.{HaveEntries, HaveOwnIds}
 use Rattle.span_requests.specs.SpansOnce.{spans_once}
 use Rattle.span_lines.specs.SpanLines.{AreRequestLines}
 use Rattle.span_lines.specs.declared.span_text.SpanText.{SpanText}
@@ -21,10 +22,13 @@ is_long lines = nat_lt most_lines (length lines)
 abbrev pub requests_text : List (List Event) → List ℕ
 requests_text requests = flat_map (flat_map event_text) requests
 
--- the text is that of the lines of the requests of spans, which may stand more than once; how many
--- spans miss their parent, and how many requests are long
+-- no span is refused: none repeats the id of another one with other content, and no parents form a
+-- circle. The text is that of the lines of the requests of spans, which may stand more than once; how
+-- many spans miss their parent, and how many requests are long
 pub record AreSpanLines (grace : ℕ) (asked : Option (List ℕ)) (input : List Span)
     (t : SpanText) : Type 0 where
+  pub own : HaveOwnIds input
+  pub ends : HaveEntries input
   pub requests : List (List Event)
   pub are : AreRequestLines (spans_once input) grace asked requests
   pub text : t.text.items ≡ requests_text requests

@@ -2,7 +2,8 @@ ghost use Rattle.std.specs.Prelude.{◌≡◌, ◌<◌, ◌≤◌, ◌-◌, ◌+
 ghost use Rattle.std.specs.Prelude.{min, IfOk, OnOk};
 ghost use Rattle.std.specs.List.{range_with_len};
 ghost use Rattle.context_names.specs.Tasks.{task_name};
-ghost use Rattle.span_lines.specs.Lines.{lines_from, piece_after, thread_lines};
+ghost use Rattle.span_lines.specs.Lines.{lines_from, thread_lines};
+ghost use Rattle.thread_steps.specs.StepKeys.{piece_behind};
 ghost use Rattle.span_lines.specs.inner.LentMappings.{IsWhole, mapping_lent};
 ghost use Rattle.span_lines.specs.inner.Printed.{lines_among, text_of};
 ghost use Rattle.span_names.specs.declared.piece.Piece.{Piece};
@@ -26,7 +27,7 @@ fn name_task(
     requires bases { thread < length tasks.now.bases }
     requires numbers { thread < length tasks.now.numbers }
     ensures { OnOk result ((piece : Option Piece) → task.old ≡ task_name tasks.now thread piece
-        → task.new ≡ task_name tasks.now thread (piece_after piece step)) }
+        → task.new ≡ task_name tasks.now thread (piece_behind piece step)) }
 {
     if let Step::Joins { piece, .. } = step {
         *task = tasks.name(alloc, thread, Some(piece))?;

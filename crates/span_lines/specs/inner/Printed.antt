@@ -6,7 +6,8 @@ use Rattle.event_text.specs.LineTexts.{event_text}
 use Rattle.span_types.specs.declared.span.Span.{Span}
 use Rattle.span_names.specs.declared.piece.Piece.{Piece}
 use Rattle.thread_steps.specs.declared.step.Step.{Step}
-use Rattle.span_lines.specs.Lines.{piece_after, thread_lines}
+use Rattle.span_lines.specs.Lines.{thread_lines}
+use Rattle.thread_steps.specs.StepKeys.{piece_behind}
 use Rattle.span_lines.specs.Mappings.{Mapping, begins_thread}
 use Rattle.span_lines.specs.Messages.{call_span}
 use Rattle.span_lines.specs.Requests.{begins_request, name_of_request, request_lines}
@@ -19,7 +20,7 @@ text_of lines = flat_map event_text lines
 -- the piece that a thread is in after steps
 abbrev pub piece_through : Option Piece → List Step → Option Piece
 piece_through piece [] = piece
-piece_through piece (step ∷ later) = piece_through (piece_after piece step) later
+piece_through piece (step ∷ later) = piece_through (piece_behind piece step) later
 
 -- the lines of the threads that begin with one of these calls of a request
 abbrev pub lines_among : Mapping → (request : List ℕ) → List ℕ → List Event

@@ -36,6 +36,8 @@ returns-clause-lines c =
     let found = c.in_ok-long.ensures entries first in
     let have : HaveLines c.in_ok-calls.calls.items c.args.grace machines entries found.0 = subst (λ (cs : List Call). HaveLines cs c.args.grace machines entries found.0) c.deref-3.ensures.value found.1 in
     record {
+      own = c.in_ok-requests.ensures.own;
+      ends = c.in_ok-requests.ensures.ends;
       requests = found.0;
       are = record {
         entries = r.entries.items;
