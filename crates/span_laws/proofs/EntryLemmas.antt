@@ -1,5 +1,5 @@
 -- Requests by their entries.
-use Rattle.std.proofs.Common.{◌≡◌, ◌≢◌, inl, inr, ℕ, zero, suc, ◌+◌, ◌<◌, List, [], ◌∷◌, ◌++◌, Bool, true, false, cond, length, map, filter, flat_map, Option, None, is_none, drop, get_or, refl, sym, ap, subst, ◌∙◌, arith}
+use Rattle.std.proofs.Common.{◌≡◌, ◌≢◌, inl, inr, ℕ, zero, suc, ◌+◌, ◌<◌, List, [], ◌∷◌, ◌++◌, Bool, true, false, cond, length, map, filter, flat_map, Option, None, is_none, codes, drop, get_or, refl, sym, ap, subst, ◌∙◌, arith}
 use Rattle.std.specs.List.{All, Contains, position_or_len, range_with_len}
 use Rattle.std.proofs.lemmas.List.{get_or-map, length-map}
 use Rattle.std.proofs.lemmas.Option.{slice_get-get_or}
@@ -21,16 +21,17 @@ use Rattle.thread_steps.specs.declared.step.Step.TheVariants.{Starts}
 use Rattle.context_names.specs.Tasks.{task_name}
 use Rattle.span_lines.specs.Lines.{line_of, lines_from, thread_lines}
 use Rattle.thread_steps.specs.StepKeys.{piece_behind}
-use Rattle.span_lines.specs.Mappings.{Mapping, begins_thread, context_of}
+use Rattle.span_lines.specs.Mappings.{Mapping, begins_thread, context_of, label_of}
 use Rattle.span_lines.specs.Messages.{call_span}
 use Rattle.span_lines.specs.Requests.{begins_request, name_of_request, request_lines, request_starts}
 use Rattle.span_lines.specs.SpanLines.{AreRequestLines, group_numbers, mapping_of}
-use Rattle.span_laws.specs.LineLaws.{HavePlainTraces, IsStartOfEntry, RequestsBeginWithEntries, RequestsHaveOwnNames}
+use Rattle.span_laws.specs.LineLaws.{HavePlainTraces, IsStartOfEntry, RequestsBeginWithEntries, RequestsHaveOwnNames, start_place}
 use Rattle.span_laws.proofs.ApartLemmas.{In, Once, every_in, in_filter, in_flat, in_range, once_range, pairs_filter, at_in, contains_in}
 use Rattle.span_laws.proofs.HeadLemmas as head
 use Rattle.span_laws.proofs.HeadLemmas.{same_or}
 use Rattle.span_laws.proofs.OrderLemmas.{IsPlain, one_name}
 use Rattle.span_laws.proofs.SoundLemmas.{a_call, none_is}
+use Rattle.span_laws.proofs.ToldLemmas.{own_ending}
 use Rattle.span_laws.proofs.TraceLemmas as trace
 
 request_of : (m : Mapping) (r : List ℕ) (x : ℕ) (piece : Option Piece) (steps : List Step) (e : Event) → In (lines_from m r x piece steps) e → e.request ≡ r
@@ -123,7 +124,7 @@ module _ (calls_law : InputsHaveCalls) (once_law : SpansAreCalledOnce) (input : 
       by grouping g zero l e = absurd (omega (arith, l))
       by grouping g (suc n) l e = (_, e)
 
-  first_line : EntriesAreCalledByNone → (k : ℕ) → k < length requests → (e : Event) × (later : List Event) × (get_or requests k [] ≡ e ∷ later) × IsStartOfEntry spans e
+  first_line : EntriesAreCalledByNone → (k : ℕ) → k < length requests → (e : Event) × (later : List Event) × (get_or requests k [] ≡ e ∷ later) × IsStartOfEntry spans entries a.machines e
   first_line none_law k l =
       let w = start_is k l in
       let i = start k in
@@ -139,9 +140,11 @@ module _ (calls_law : InputsHaveCalls) (once_law : SpansAreCalledOnce) (input : 
         request_at k l ∙ ap (flat_map (thread_lines m (name i))) (range_first i (position_or_len (λ (o : Option ℕ). is_none o) (drop (i + 1) (callers_of a.calls))) begins) ∙ ap (λ (s : List Step). lines_from m (name i) (context_of m i) None s ++ flat_map (thread_lines m (name i)) rest) f.1,
         record {
           number = get_or h.are.numbers i 0;
-          first = none_law spans (caller_numbers spans) asked a.entries a.calls h i (get_or a.calls i d) (slice_get-get_or a.calls i d w.0) (sym (head.caller_at grace a.calls before d a.placing a.placed a.threading a.threaded a.machines i w.0) ∙ w.1);
           there = start_within k l;
-          time = ap (λ (s : Span). s.start) (start_span k l);
+          first = none_law spans (caller_numbers spans) asked a.entries a.calls h i (get_or a.calls i d) (slice_get-get_or a.calls i d w.0) (sym (head.caller_at grace a.calls before d a.placing a.placed a.threading a.threaded a.machines i w.0) ∙ w.1);
+          starts = own_ending (label_of m i) (codes " start");
+          place = ap (start_place a.machines) (start_span k l);
+          request = ap (name_of_request entries) (start_span k l);
         },
       )
     where

@@ -18,7 +18,7 @@ unlike : (b : Bool) → (b ≡ true → ⊥) → b ≡ false
 unlike true f = absurd (f refl)
 unlike false f = refl
 
-own_ending : (name ending : List ℕ) → ends_with ending (name ++ ending) ≡ true
+pub own_ending : (name ending : List ℕ) → ends_with ending (name ++ ending) ≡ true
 own_ending name ending =
     let n : length (name ++ ending) - length ending ≡ length name = (let a = length-append name ending in omega (arith, a)) in
     (bytes_eq-Decides (drop (length (name ++ ending) - length ending) (name ++ ending)) ending).1 (ap (λ k. drop k (name ++ ending)) n ∙ drop-append_seam name ending)

@@ -1,5 +1,5 @@
 -- What the event lines of requests are: statements that laws prove.
-use Rattle.std.specs.Prelude.{ℕ, ◌≡◌, ◌≢◌, ◌<◌, ◌^◌, List, [], ◌∷◌, Option, Some, None, length, slice_index_or, ⊤, ◌-◌, Bool, codes, drop, filter, map}
+use Rattle.std.specs.Prelude.{ℕ, ◌≡◌, ◌≢◌, ◌<◌, ◌^◌, List, [], ◌∷◌, Option, Some, None, length, slice_index_or, ⊤, ◌-◌, Bool, true, codes, drop, filter, map}
 use Rattle.std.specs.List.{All, Contains, flat_map}
 use Rattle.std.specs.Str.{bytes_eq}
 use Rattle.trace_types.specs.Events.{named_events, receipts_of, sends_of}
@@ -19,6 +19,7 @@ use Rattle.call_laws.specs.CallLaws.{AreAskedFor}
 use Rattle.context_names.specs.Machines.{MachineNames}
 use Rattle.span_calls.specs.Seen.{span_at}
 use Rattle.span_lines.specs.Mappings.{name_of}
+use Rattle.span_lines.specs.Requests.{name_of_request}
 use Rattle.span_lines.specs.SpanLines.{AreRequestLines}
 
 -- what an event sends another one receives, on another machine
@@ -75,21 +76,6 @@ RequestsHaveOwnNames = (input : List Span) (grace : ℕ) (asked : Option (List �
     → Contains (slice_index_or requests k []) e → Contains (slice_index_or requests l []) f
     → e.request ≡ f.request → k ≡ l
 
--- the line is the start of the span with this number, which nothing called
-pub record IsStartOfEntry (spans : List Span) (e : Event) : Type 0 where
-  pub number : ℕ
-  pub first : slice_index_or (caller_numbers spans) number None ≡ None
-  pub there : number < length spans
-  pub time : e.time ≡ (span_at spans number).start
-
--- the first line of a request is the start of its entry
-abbrev pub RequestsBeginWithEntries : Type 0
-RequestsBeginWithEntries = (input : List Span) (grace : ℕ) (asked : Option (List ℕ))
-    (requests : List (List Event)) → HaveEntries input
-    → AreRequestLines (spans_once input) grace asked requests → (k : ℕ) → k < length requests
-    → (e : Event) × (later : List Event) × (slice_index_or requests k [] ≡ e ∷ later)
-    × IsStartOfEntry (spans_once input) e
-
 -- the text ends with these bytes
 abbrev pub ends_with : List ℕ → List ℕ → Bool
 ends_with ending text = bytes_eq (drop (length text - length ending) text) ending
@@ -115,6 +101,26 @@ start_place machines s = record { machine = name_of machines s.machine; time = s
 
 abbrev pub end_place : MachineNames → Span → Place
 end_place machines s = record { machine = name_of machines s.machine; time = s.end }
+
+-- the line is the start of the span with this number, which nothing called, in the request that is
+-- named for that span among these entries
+pub record IsStartOfEntry (spans entries : List Span) (machines : MachineNames) (e : Event) : Type 0 where
+  pub number : ℕ
+  pub there : number < length spans
+  pub first : slice_index_or (caller_numbers spans) number None ≡ None
+  pub starts : is_start_line e ≡ true
+  pub place : place_of e ≡ start_place machines (span_at spans number)
+  pub request : e.request ≡ name_of_request entries (span_at spans number)
+
+-- the first line of a request is the start of its entry: on the entry's machine, at its time, and in
+-- the request of its name
+abbrev pub RequestsBeginWithEntries : Type 0
+RequestsBeginWithEntries = (input : List Span) (grace : ℕ) (asked : Option (List ℕ))
+    (requests : List (List Event)) → HaveEntries input
+    → (r : AreRequestLines (spans_once input) grace asked requests) → (k : ℕ)
+    → k < length requests
+    → (e : Event) × (later : List Event) × (slice_index_or requests k [] ≡ e ∷ later)
+    × IsStartOfEntry (spans_once input) (map (span_at (spans_once input)) r.entries) r.machines e
 
 -- lines that pass the test stand at the places of the spans of the requests that are asked for, each
 -- span once
