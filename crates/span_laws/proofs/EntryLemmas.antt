@@ -39,7 +39,7 @@ request_of m r x piece [] e h = absurd h
 request_of m r x piece (step ∷ later) e (inl q) = sym (ap (λ (f : Event). f.request) q)
 request_of m r x piece (step ∷ later) e (inr h) = request_of m r x (piece_behind piece step) later e h
 
-requests_of : (m : Mapping) (r : List ℕ) (i : ℕ) (e : Event) → In (request_lines m r i) e → e.request ≡ r
+pub requests_of : (m : Mapping) (r : List ℕ) (i : ℕ) (e : Event) → In (request_lines m r i) e → e.request ≡ r
 requests_of m r i e h = let p = in_flat (thread_lines m r) _ e h in request_of m r (context_of m p.0) None (get_or m.steps p.0 []) e p.2
 
 plain : (text : List ℕ) → All (λ c. c ≢ 46) text → IsPlain text

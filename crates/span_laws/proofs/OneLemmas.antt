@@ -1,17 +1,21 @@
--- Each span of the requests that are asked for starts and ends on one line.
-use Rattle.std.proofs.Common.{◌≡◌, ◌⊎◌, inl, inr, ⊎_elim, ℕ, zero, suc, ◌+◌, ◌<◌, ◌≤◌, List, [], ◌∷◌, length, map, filter, flat_map, Option, Some, None, IsSome, is_none, get_or, slice_get, refl, sym, ap, subst, ◌∙◌, arith}
-use Rattle.std.specs.List.{range_with_len}
+-- Each span of the requests that are asked for starts and ends on one line, in the request of its entry.
+use Rattle.std.proofs.Common.{◌≡◌, ◌≢◌, ◌⊎◌, inl, inr, ⊎_elim, ℕ, zero, suc, ◌+◌, ◌<◌, ◌≤◌, List, [], ◌∷◌, true, length, map, filter, flat_map, Option, Some, None, IsSome, is_none, get_or, slice_get, refl, sym, ap, subst, ◌∙◌, arith}
+use Rattle.std.specs.List.{All, AllPairs, Contains, range_with_len}
+use Rattle.std.specs.Option.{option_and_then}
+use Rattle.std.proofs.lemmas.List.{get_or-map, length-map}
 use Rattle.std.proofs.lemmas.List.Folds.{flat_map-map}
+use Rattle.std.proofs.lemmas.Option.{slice_get-get_or}
 use Rattle.trace_types.specs.declared.event.Event.{Event}
 use Rattle.span_types.specs.declared.span.Span.{Span}
+use Rattle.span_requests.specs.CallerNumbers.{number_above}
 use Rattle.span_requests.specs.Callers.{caller_numbers}
 use Rattle.span_requests.specs.Faults.{HaveEntries}
 use Rattle.span_requests.specs.SpansOnce.{spans_once}
 use Rattle.span_calls.proofs.CallLemmas.{before_from}
-use Rattle.span_calls.specs.Calls.{AreBefore}
+use Rattle.span_calls.specs.Calls.{AreBefore, is_asked}
 use Rattle.span_calls.specs.Seen.{span_at}
 use Rattle.span_calls.specs.declared.call.Call.{Call}
-use Rattle.call_laws.specs.CallLaws.{AreAskedFor, AreCallsOf, IsAskedFor}
+use Rattle.call_laws.specs.CallLaws.{AreAskedFor, AreCallsOf, EntriesAreCalledByNone, IsAskedFor}
 use Rattle.context_forks.specs.Forks.{callers_of}
 use Rattle.thread_steps.proofs.TableLemmas.{caller_before}
 use Rattle.thread_steps.specs.ThreadLaws.{AreClosed}
@@ -21,12 +25,14 @@ use Rattle.span_lines.specs.Mappings.{Mapping, begins_thread, context_of}
 use Rattle.span_lines.specs.Messages.{call_span}
 use Rattle.span_lines.specs.Requests.{begins_request, name_of_request, request_calls, request_lines, request_size, request_starts}
 use Rattle.span_lines.specs.SpanLines.{AreRequestLines, mapping_of}
-use Rattle.span_laws.specs.LineLaws.{AreToldOnce, SpansAreToldOnce, end_place, is_end_line, is_start_line, place_of, start_place}
+use Rattle.span_laws.specs.LineLaws.{AreToldOnce, Place, SpansAreToldOnce, end_place, is_end_line, is_start_line, place_of, start_place}
+use Rattle.span_laws.specs.RequestLaws.{AreAskedEntries, AreInRequest, IsAskedEntry, IsInRequest, RequestsTellTheirSpans, TellRequest, TellRequests}
 use Rattle.span_laws.proofs.ApartLemmas.{In, Once, Pairs, every_from_in, every_in, in_filter, in_flat, in_map, in_range, in_to_filter, in_to_flat, in_to_map, in_to_range, once_range, pairs_filter, pairs_flat, pairs_map, pairs_weaker, at_in, in_contains}
+use Rattle.span_laws.proofs.EntryLemmas.{requests_of}
 use Rattle.span_laws.proofs.FewLemmas.{AreFew, few_of}
 use Rattle.span_laws.proofs.HeadLemmas.{flat_agree_in, same_or}
 use Rattle.span_laws.proofs.NamedLemmas.{map_flat, map_map}
-use Rattle.span_laws.proofs.RangeLemmas.{closed, has_caller}
+use Rattle.span_laws.proofs.RangeLemmas.{above, closed, has_caller}
 use Rattle.span_laws.proofs.RequestLemmas as request
 use Rattle.span_laws.proofs.SoundLemmas.{AllLaws, a_call, none_is}
 use Rattle.span_laws.proofs.StampLemmas.{ends_of, starts_of}
@@ -47,6 +53,24 @@ pairs_at R [] h i j d l w = absurd (omega (arith, w))
 pairs_at R (x ∷ xs) h i zero d l w = absurd (omega (arith, l))
 pairs_at R (x ∷ xs) h zero (suc j) d l w = every_in (R x) xs h.0 (get_or xs j d) (at_in xs j d (omega (arith, w)))
 pairs_at R (x ∷ xs) h (suc i) (suc j) d l w = pairs_at R xs h.1 i j d (omega (arith, l)) (omega (arith, w))
+
+some_is : (i r : ℕ) → ◌≡◌ {A = Option ℕ} (Some i) (Some r) → i ≡ r
+some_is i r e = ap value e
+  where
+    value : Option ℕ → ℕ
+    value (Some x) = x
+    value None = i
+
+-- there is one number above another one that has no caller itself
+one_top : (callers : List (Option ℕ)) (k l n e f : ℕ) → number_above callers k n ≡ Some e → get_or callers e None ≡ None → number_above callers l n ≡ Some f → get_or callers f None ≡ None → e ≡ f
+one_top callers zero zero n e f a x b y = sym (some_is n e a) ∙ some_is n f b
+one_top callers zero (suc l) n e f a x b y = let w : ◌≡◌ {A = Option ℕ} None (Some f) = sym (ap (option_and_then (number_above callers l)) (ap (λ i. get_or callers i None) (some_is n e a) ∙ x)) ∙ b in cc
+one_top callers (suc k) zero n e f a x b y = let w : ◌≡◌ {A = Option ℕ} None (Some e) = sym (ap (option_and_then (number_above callers k)) (ap (λ i. get_or callers i None) (some_is n f b) ∙ y)) ∙ a in cc
+one_top callers (suc k) (suc l) n e f a x b y = by (get_or callers n None) refl (λ c. one_top callers k l c e f)
+  where
+    by : (o : Option ℕ) → get_or callers n None ≡ o → ((c : ℕ) → number_above callers k c ≡ Some e → get_or callers e None ≡ None → number_above callers l c ≡ Some f → get_or callers f None ≡ None → e ≡ f) → e ≡ f
+    by None q more = let w : ◌≡◌ {A = Option ℕ} None (Some e) = ap (option_and_then (number_above callers k)) (sym q) ∙ a in cc
+    by (Some c) q more = more c (ap (option_and_then (number_above callers k)) (sym q) ∙ a) x (ap (option_and_then (number_above callers l)) (sym q) ∙ b) y
 
 map_agree_in : {X Y : Type 0} (f g : X → Y) (xs : List X) → ((x : X) → In xs x → f x ≡ g x) → map f xs ≡ map g xs
 map_agree_in f g [] e = refl
@@ -183,24 +207,39 @@ module _ (laws : AllLaws) (input : List Span) (grace : ℕ) (asked : Option (Lis
   number_apart : (i j : ℕ) → i < length a.calls → j < length a.calls → number i ≡ number j → i ≡ j
   number_apart i j x y e = ⊎_elim (λ q. q) (λ f. absurd (⊎_elim (λ l. once.apart i j 0 l (omega (arith, y, size)) e) (λ l. once.apart j i 0 l (omega (arith, x, size)) (sym e)) (lower i j f))) (same_or i j)
 
-  asked_for : (order : List ℕ) → Once order → ((i : ℕ) → In order i → i < length a.calls) → ((i : ℕ) → i < length a.calls → In order i) → AreAskedFor spans (caller_numbers spans) asked (map number order)
-  asked_for order o within all = record {
-    apart = λ i j d l w. pairs_at (λ x y. x ≡ y → ⊥) (map number order)
-        (pairs_map (λ x y. x ≡ y → ⊥) number order (pairs_weaker (λ i j. i ≡ j → ⊥) (λ i j. number i ≡ number j → ⊥) order (λ i j x y apart e. apart (number_apart i j (within i x) (within j y) e)) o)) i j d l w;
-    within = λ k d l. let p = in_map number order (get_or (map number order) k d) (at_in (map number order) k d l) in subst (λ n. n < length spans) p.2 (trace.number_within input asked a.entries a.calls h once p.0 (within p.0 p.1));
-    each = λ k d l. let p = in_map number order (get_or (map number order) k d) (at_in (map number order) k d l) in subst (IsAskedFor spans (caller_numbers spans) asked) p.2 (once.each p.0 0 (let w = within p.0 p.1 in omega (arith, w, size)));
-    all = λ n l q.
-        let c = once.all n l q in
-        let i = c.0 in
-        let w = c.1 in
-        let e : number i ≡ n = get_or_any h.are.numbers i 0 n w ∙ c.2 in
-        in_contains (map number order) n (subst (In (map number order)) e (in_to_map number order i (all i (omega (arith, w, size)))));
-  }
+  abbrev AreCalls : List ℕ → Type 0
+  AreCalls order = (i : ℕ) → In order i → i < length a.calls
+
+  numbers_apart : (order : List ℕ) → Once order → AreCalls order → AllPairs (λ m n. m ≢ n) (map number order)
+  numbers_apart order o within = λ i j d l w. pairs_at (λ x y. x ≡ y → ⊥) (map number order)
+      (pairs_map (λ x y. x ≡ y → ⊥) number order (pairs_weaker (λ i j. i ≡ j → ⊥) (λ i j. number i ≡ number j → ⊥) order (λ i j x y apart e. apart (number_apart i j (within i x) (within j y) e)) o)) i j d l w
+
+  -- what holds of the number of each call holds of all these
+  all_numbers : (P : ℕ → Type 0) (order : List ℕ) → ((i : ℕ) → In order i → P (number i)) → All P (map number order)
+  all_numbers P order f = λ k d l. let p = in_map number order (get_or (map number order) k d) (at_in (map number order) k d l) in subst P p.2 (f p.0 p.1)
+
+  -- a span that is asked for is the span of a call
+  call_of : (n : ℕ) → n < length spans → IsAskedFor spans (caller_numbers spans) asked n → (i : ℕ) × (i < length a.calls) × (number i ≡ n)
+  call_of n l q =
+      let c = once.all n l q in
+      let w = c.1 in
+      (c.0, omega (arith, w, size), get_or_any h.are.numbers c.0 0 n w ∙ c.2)
     where
       get_or_any : (xs : List ℕ) (i d e : ℕ) → i < length xs → get_or xs i d ≡ get_or xs i e
       get_or_any [] i d e l = absurd (omega (arith, l))
       get_or_any (x ∷ xs) zero d e l = refl
       get_or_any (x ∷ xs) (suc i) d e l = get_or_any xs i d e (omega (arith, l))
+
+  number_in : (order : List ℕ) (i n : ℕ) → number i ≡ n → In order i → Contains (map number order) n
+  number_in order i n e there = in_contains (map number order) n (subst (In (map number order)) e (in_to_map number order i there))
+
+  asked_for : (order : List ℕ) → Once order → AreCalls order → ((i : ℕ) → i < length a.calls → In order i) → AreAskedFor spans (caller_numbers spans) asked (map number order)
+  asked_for order o within all = record {
+    apart = numbers_apart order o within;
+    within = all_numbers (λ n. n < length spans) order (λ i k. trace.number_within input asked a.entries a.calls h once i (within i k));
+    each = all_numbers (IsAskedFor spans (caller_numbers spans) asked) order (λ i k. once.each i 0 (let w = within i k in omega (arith, w, size)));
+    all = λ n l q. let c = call_of n l q in number_in order c.0 n c.2 (all c.0 c.1);
+  }
 
   -- ---- lines
 
@@ -219,11 +258,11 @@ module _ (laws : AllLaws) (input : List Span) (grace : ℕ) (asked : Option (Lis
       ∙ flat_agree_in (λ g. map place_of (filter is_end_line (thread_lines m (name r) g))) (λ g. map (λ i. end_place a.machines (call_span a.calls i)) (ends_of (steps_of g))) (filter (begins_thread m) (request_calls a.calls r)) (λ g i. thread_ends m (name r) (context_of m g) None (steps_of g))
       ∙ sym (ap (map (λ i. end_place a.machines (call_span a.calls i))) (ends_flat steps_of (filter (begins_thread m) (request_calls a.calls r))) ∙ map_flat (λ i. end_place a.machines (call_span a.calls i)) (λ g. ends_of (steps_of g)) (filter (begins_thread m) (request_calls a.calls r)))
 
-  starts_told : AreToldOnce spans asked is_start_line (start_place a.machines) (flat_map (λ (ls : List Event). ls) requests)
+  starts_told : AreToldOnce spans (AreAskedFor spans (caller_numbers spans) asked) is_start_line (start_place a.machines) (flat_map (λ (ls : List Event). ls) requests)
   unfolding start_order
   starts_told = record {
     numbers = map number start_order;
-    asked_for = asked_for start_order start_order_once start_within start_all;
+    such = asked_for start_order start_order_once start_within start_all;
     told = ap (λ (ls : List Event). map place_of (filter is_start_line ls)) flat_is
         ∙ filtered_flat place_of is_start_line (λ i. request_lines m (name i) i) starts
         ∙ flat_agree_in (λ r. map place_of (filter is_start_line (request_lines m (name r) r))) (λ r. map (λ i. start_place a.machines (call_span a.calls i)) (starts_of (steps_in r))) starts (λ r i. request_starts_at r)
@@ -232,11 +271,11 @@ module _ (laws : AllLaws) (input : List Span) (grace : ℕ) (asked : Option (Lis
         ∙ sym (map_map (λ n. start_place a.machines (span_at spans n)) number start_order);
   }
 
-  ends_told : AreToldOnce spans asked is_end_line (end_place a.machines) (flat_map (λ (ls : List Event). ls) requests)
+  ends_told : AreToldOnce spans (AreAskedFor spans (caller_numbers spans) asked) is_end_line (end_place a.machines) (flat_map (λ (ls : List Event). ls) requests)
   unfolding end_order
   ends_told = record {
     numbers = map number end_order;
-    asked_for = asked_for end_order end_order_once end_within end_all;
+    such = asked_for end_order end_order_once end_within end_all;
     told = ap (λ (ls : List Event). map place_of (filter is_end_line ls)) flat_is
         ∙ filtered_flat place_of is_end_line (λ i. request_lines m (name i) i) starts
         ∙ flat_agree_in (λ r. map place_of (filter is_end_line (request_lines m (name r) r))) (λ r. map (λ i. end_place a.machines (call_span a.calls i)) (ends_of (steps_in r))) starts (λ r i. request_ends_at r)
@@ -245,7 +284,117 @@ module _ (laws : AllLaws) (input : List Span) (grace : ℕ) (asked : Option (Lis
         ∙ sym (map_map (λ n. end_place a.machines (span_at spans n)) number end_order);
   }
 
+  -- ---- each request
+
+  above_span : (k i r : ℕ) → i < length a.calls → number_above (callers_of a.calls) k i ≡ Some r → number_above (caller_numbers spans) k (number i) ≡ Some (number r)
+  above_span zero i r lt e = ap (λ j. Some (number j)) (some_is i r e)
+  above_span (suc k) i r lt e = by (get_or (callers_of a.calls) i None) refl (λ c. above_span k c r)
+    where
+      by : (o : Option ℕ) → get_or (callers_of a.calls) i None ≡ o → ((c : ℕ) → c < length a.calls → number_above (callers_of a.calls) k c ≡ Some r → number_above (caller_numbers spans) k (number c) ≡ Some (number r))
+          → number_above (caller_numbers spans) (suc k) (number i) ≡ Some (number r)
+      by None q more = let w : ◌≡◌ {A = Option ℕ} None (Some r) = ap (option_and_then (number_above (callers_of a.calls) k)) (sym q) ∙ e in cc
+      by (Some c) q more =
+          let low = caller_before a.calls before c i q in
+          ap (option_and_then (number_above (caller_numbers spans) k)) (trace.caller_is input asked a.entries a.calls h once i c lt low q)
+          ∙ more c (omega (arith, low, lt)) (ap (option_and_then (number_above (callers_of a.calls) k)) (sym q) ∙ e)
+
+  -- a call of a request is below its entry
+  below : (r : ℕ) → In starts r → (i : ℕ) → r ≤ i → i < r + request_size a.calls r → IsInRequest spans (number r) (number i)
+  below r s i low high =
+      let w = start_is r s in
+      let u = above a.calls before (a_call a.calls r w.0) together r w.0 w.1 i low high in
+      let b = (range r s).bound in
+      record { calls = u.0; above = above_span u.0 i r (omega (arith, high, b)) u.1 }
+
+  module _ (none_law : EntriesAreCalledByNone) where
+    first_of : (r : ℕ) → In starts r → get_or (caller_numbers spans) (number r) None ≡ None
+    first_of r s =
+        let w = start_is r s in
+        let d = a_call a.calls r w.0 in
+        none_law spans (caller_numbers spans) asked a.entries a.calls h r (get_or a.calls r d) (slice_get-get_or a.calls r d w.0)
+        (sym (get_or-map (λ (c : Call). c.caller) a.calls r d None w.0) ∙ w.1)
+
+    wanted_of : (r : ℕ) → In starts r → is_asked asked (span_at spans (number r)) ≡ true
+    wanted_of r s =
+        let w = (start_is r s).0 in
+        let q = once.each r 0 (omega (arith, w, size)) in
+        let e : number r ≡ q.entry = one_top (caller_numbers spans) 0 q.calls (number r) (number r) q.entry refl (first_of r s) q.above q.first in
+        ap (λ n. is_asked asked (span_at spans n)) e ∙ q.wanted
+
+    in_request : (r : ℕ) → In starts r → (order : List ℕ) → Once order → ((i : ℕ) → In order i → (r ≤ i) × (i < r + request_size a.calls r)) → ((i : ℕ) → r ≤ i → i < r + request_size a.calls r → In order i) → AreInRequest spans (number r) (map number order)
+    in_request r s order o within all = record {
+      apart = numbers_apart order o calls;
+      within = all_numbers (λ n. n < length spans) order (λ i k. trace.number_within input asked a.entries a.calls h once i (calls i k));
+      each = all_numbers (IsInRequest spans (number r)) order (λ i k. let w = within i k in below r s i w.0 w.1);
+      all = λ n l q.
+          let c = call_of n l (record { calls = q.calls; entry = number r; above = q.above; first = first_of r s; wanted = wanted_of r s }) in
+          let p = owner c.0 c.1 in
+          let u = below p.0 p.1 c.0 p.2 p.3 in
+          let top = one_top (caller_numbers spans) q.calls u.calls n (number r) (number p.0) q.above (first_of r s) (ap (number_above (caller_numbers spans) u.calls) (sym c.2) ∙ u.above) (first_of p.0 p.1) in
+          let e = number_apart r p.0 (start_is r s).0 (start_is p.0 p.1).0 top in
+          let w = subst (λ (z : ℕ). (z ≤ c.0) × (c.0 < z + request_size a.calls z)) (sym e) (p.2, p.3) in
+          number_in order c.0 n c.2 (all c.0 w.0 w.1);
+    }
+      where
+        calls : AreCalls order
+        calls i k = let w = (within i k).1 in let b = (range r s).bound in omega (arith, w, b)
+
+    tells : (r : ℕ) → In starts r → TellRequest spans (map (span_at spans) a.entries) a.machines (number r) (request_lines m (name r) r)
+    tells r s = record {
+      starts = record {
+        numbers = map number (starts_of (steps_in r));
+        such = in_request r s (starts_of (steps_in r)) (request.all_starts_once laws.request grace a.calls before (a_call a.calls r w.0) a.placing a.placed a.ordered few.contexts a.threading a.threaded a.machines together r w.0 w.1) (start_in r s) (starts_there r s);
+        told = request_starts_at r ∙ places (start_place a.machines) (starts_of (steps_in r)) (start_in r s);
+      };
+      ends = record {
+        numbers = map number (ends_of (steps_in r));
+        such = in_request r s (ends_of (steps_in r)) (request.all_ends_once laws.request grace a.calls before (a_call a.calls r w.0) a.placing a.placed a.ordered few.contexts a.threading a.threaded a.machines together r w.0 w.1) (end_in r s) (ends_there r s);
+        told = request_ends_at r ∙ places (end_place a.machines) (ends_of (steps_in r)) (end_in r s);
+      };
+      named = λ k d l. requests_of m (name r) r (get_or (request_lines m (name r) r) k d) (at_in (request_lines m (name r) r) k d l)
+          ∙ ap (name_of_request (map (span_at spans) a.entries)) (trace.span_is input asked a.entries a.calls h once r w.0);
+    }
+      where
+        w : (r < length a.calls) × (get_or (callers_of a.calls) r None ≡ None)
+        w = start_is r s
+
+        places : (place : Span → Place) (order : List ℕ) → ((i : ℕ) → In order i → (r ≤ i) × (i < r + request_size a.calls r)) → map (λ i. place (call_span a.calls i)) order ≡ map (λ n. place (span_at spans n)) (map number order)
+        places place order within =
+            map_agree_in (λ i. place (call_span a.calls i)) (λ i. place (span_at spans (number i))) order
+            (λ i k. ap place (trace.span_is input asked a.entries a.calls h once i (let u = (within i k).1 in let b = (range r s).bound in omega (arith, u, b))))
+            ∙ sym (map_map (λ n. place (span_at spans n)) number order)
+
+    entries_asked : AreAskedEntries spans asked (map number starts)
+    entries_asked = record {
+      apart = numbers_apart starts starts_once_each (λ r s. (start_is r s).0);
+      each = all_numbers (IsAskedEntry spans asked) starts (λ r s. record { there = trace.number_within input asked a.entries a.calls h once r (start_is r s).0; first = first_of r s; wanted = wanted_of r s });
+      all = λ n q.
+          let c = call_of n q.there (record { calls = 0; entry = n; above = refl; first = q.first; wanted = q.wanted }) in
+          let e = trace.no_caller input asked a.entries a.calls h once c.0 c.1 (ap (λ k. get_or (caller_numbers spans) k None) c.2 ∙ q.first) in
+          let lt = c.1 in
+          number_in starts c.0 n c.2 (in_to_filter (begins_request a.calls) (range_with_len 0 (length a.calls)) c.0 (in_to_range 0 (length a.calls) c.0 (omega arith) (omega (arith, lt))) (ap (λ (o : Option ℕ). is_none o) e));
+    }
+
+    requests_size : length requests ≡ length starts
+    requests_size = ap length a.lines ∙ length-map starts (λ i. request_lines m (name i) i)
+
+    all_told : TellRequests spans (map (span_at spans) a.entries) a.machines asked requests
+    all_told = record {
+      numbers = map number starts;
+      asked_for = entries_asked;
+      size = requests_size ∙ sym (length-map starts number);
+      each = λ k l.
+          let w : k < length starts = omega (arith, l, requests_size) in
+          let n = get_or-map number starts k 0 0 w in
+          let q = ap (λ (xs : List (List Event)). get_or xs k []) a.lines ∙ get_or-map (λ i. request_lines m (name i) i) starts k 0 [] w in
+          subst (λ z. TellRequest spans (map (span_at spans) a.entries) a.machines z (get_or requests k [])) (sym n)
+          (subst (λ (ls : List Event). TellRequest spans (map (span_at spans) a.entries) a.machines (number (get_or starts k 0)) ls) (sym q) (tells (get_or starts k 0) (at_in starts k 0 w)));
+    }
+
 pub told_once : AllLaws → SpansAreToldOnce
 told_once laws = λ input grace asked requests there small a.
     let few = few_of laws.calls laws.once input grace asked requests there a small in
     (starts_told laws input grace asked requests there a few, ends_told laws input grace asked requests there a few)
+
+pub tell_spans : AllLaws → EntriesAreCalledByNone → RequestsTellTheirSpans
+tell_spans laws none_law = λ input grace asked requests there small a. all_told laws input grace asked requests there a (few_of laws.calls laws.once input grace asked requests there a small) none_law

@@ -104,17 +104,28 @@ module _ (input : List Span) (asked : Option (List ℕ)) (entries : List ℕ) (c
       let v = and_parts (bytes_eq (span_at spans n).trace (span_at spans k).trace) (is_parent_id (span_at spans n).parent (span_at spans k).id) u.1 in
       (bytes_eq-Decides (span_at spans n).trace (span_at spans k).trace).0 v.0
 
-  -- a call is of the trace of its caller
-  pub one_trace : (i c : ℕ) → i < length calls → c < i → get_or (callers_of calls) i None ≡ Some c → (call_span calls i).trace ≡ (call_span calls c).trace
-  one_trace i c lt below e = by (get_or (caller_numbers spans) (number i) None) refl (sym (caller_place i lt) ∙ e)
+  -- the caller of the span of a call is the span of the call's caller
+  pub caller_is : (i c : ℕ) → i < length calls → c < i → get_or (callers_of calls) i None ≡ Some c → get_or (caller_numbers spans) (number i) None ≡ Some (number c)
+  caller_is i c lt below e = by (get_or (caller_numbers spans) (number i) None) refl (sym (caller_place i lt) ∙ e)
     where
-      by : (o : Option ℕ) → get_or (caller_numbers spans) (number i) None ≡ o → option_and_then (λ k. position (λ x. x == k) (take i h.are.numbers)) (get_or (caller_numbers spans) (number i) None) ≡ Some c → (call_span calls i).trace ≡ (call_span calls c).trace
+      by : (o : Option ℕ) → get_or (caller_numbers spans) (number i) None ≡ o → option_and_then (λ k. position (λ x. x == k) (take i h.are.numbers)) (get_or (caller_numbers spans) (number i) None) ≡ Some c → get_or (caller_numbers spans) (number i) None ≡ Some (number c)
       by None q f = let w : ◌≡◌ {A = Option ℕ} None (Some c) = ap (option_and_then (λ k. position (λ x. x == k) (take i h.are.numbers))) (sym q) ∙ f in cc
       by (Some k) q f =
           let g = ap (option_and_then (λ j. position (λ x. x == j) (take i h.are.numbers))) (sym q) ∙ f in
           let w = position-Some (λ x. x == k) (take i h.are.numbers) c 0 g in
           let n : number c ≡ k = sym (get_or-take i h.are.numbers c 0 below) ∙ eqb-true (get_or (take i h.are.numbers) c 0) k w.1 in
-          ap (λ (s : Span). s.trace) (span_is i lt) ∙ caller_span (number i) k (number_within i lt) q ∙ ap (λ j. (span_at spans j).trace) (sym n) ∙ ap (λ (s : Span). s.trace) (sym (span_is c (omega (arith, below, lt))))
+          q ∙ ap (λ j. Some j) (sym n)
+
+  -- the call of a span that has no caller has none
+  pub no_caller : (i : ℕ) → i < length calls → get_or (caller_numbers spans) (number i) None ≡ None → get_or (callers_of calls) i None ≡ None
+  no_caller i lt e = caller_place i lt ∙ ap (option_and_then (λ k. position (λ x. x == k) (take i h.are.numbers))) e
+
+  -- a call is of the trace of its caller
+  pub one_trace : (i c : ℕ) → i < length calls → c < i → get_or (callers_of calls) i None ≡ Some c → (call_span calls i).trace ≡ (call_span calls c).trace
+  one_trace i c lt below e =
+      ap (λ (s : Span). s.trace) (span_is i lt)
+      ∙ caller_span (number i) (number c) (number_within i lt) (caller_is i c lt below e)
+      ∙ ap (λ (s : Span). s.trace) (sym (span_is c (omega (arith, below, lt))))
 
   -- two calls of one trace whose spans have one id are one
   pub one_id : (i j : ℕ) → i < length calls → j < length calls → (call_span calls i).trace ≡ (call_span calls j).trace → (call_span calls i).id ≡ (call_span calls j).id → i ≡ j

@@ -1,2 +1,3 @@
 pub mod GoodLines
 pub mod LineLaws
+pub mod RequestLaws

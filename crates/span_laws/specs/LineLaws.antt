@@ -122,11 +122,11 @@ RequestsBeginWithEntries = (input : List Span) (grace : ℕ) (asked : Option (Li
     → (e : Event) × (later : List Event) × (slice_index_or requests k [] ≡ e ∷ later)
     × IsStartOfEntry (spans_once input) (map (span_at (spans_once input)) r.entries) r.machines e
 
--- lines that pass the test stand at the places of the spans of the requests that are asked for, each
--- span once
-pub record AreToldOnce (spans : List Span) (asked : Option (List ℕ)) (test : Event → Bool) (place : Span → Place) (lines : List Event) : Type 0 where
+-- lines that pass the test stand at the places of spans with such numbers, one line a span
+pub record AreToldOnce (spans : List Span) (are_such : List ℕ → Type 0) (test : Event → Bool)
+    (place : Span → Place) (lines : List Event) : Type 0 where
   pub numbers : List ℕ
-  pub asked_for : AreAskedFor spans (caller_numbers spans) asked numbers
+  pub such : are_such numbers
   pub told : map place_of (filter test lines) ≡ map (λ n. place (span_at spans n)) numbers
 
 -- each span of the requests that are asked for starts on one line and ends on one, on its own machine
@@ -136,5 +136,9 @@ SpansAreToldOnce = (input : List Span) (grace : ℕ) (asked : Option (List ℕ))
     (requests : List (List Event)) → HaveEntries input
     → length (spans_once input) < 2 ^ 64
     → (r : AreRequestLines (spans_once input) grace asked requests)
-    → AreToldOnce (spans_once input) asked is_start_line (start_place r.machines) (flat_map (λ ls. ls) requests)
-    × AreToldOnce (spans_once input) asked is_end_line (end_place r.machines) (flat_map (λ ls. ls) requests)
+    → AreToldOnce (spans_once input)
+    (AreAskedFor (spans_once input) (caller_numbers (spans_once input)) asked)
+    is_start_line (start_place r.machines) (flat_map (λ ls. ls) requests)
+    × AreToldOnce (spans_once input)
+    (AreAskedFor (spans_once input) (caller_numbers (spans_once input)) asked)
+    is_end_line (end_place r.machines) (flat_map (λ ls. ls) requests)

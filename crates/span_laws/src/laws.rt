@@ -3,6 +3,7 @@ ghost use Rattle.span_laws.specs.GoodLines.{LinesAreGood};
 ghost use Rattle.span_laws.specs.LineLaws.{RequestsAreSound, RequestsBeginWithEntries};
 ghost use Rattle.span_laws.specs.LineLaws.{RequestsHaveOwnNames, SoundLinesAreTaken};
 ghost use Rattle.span_laws.specs.LineLaws.{SpansAreToldOnce};
+ghost use Rattle.span_laws.specs.RequestLaws.{RequestsTellTheirSpans};
 
 use call_laws::laws::{
     calls_are_together, contexts_are_of_one_call, entries_are_called_by_none,
@@ -79,6 +80,28 @@ pub fn spans_are_told_once()
     inputs_have_calls();
     spans_are_called_once();
     calls_are_together();
+}
+
+/// There is a list of lines for each request that is asked for. Each of the request's spans starts on
+/// one of them and ends on one, no other span does, and all have the name of the request.
+pub fn requests_tell_their_spans()
+    ensures { RequestsTellTheirSpans }
+{
+    labels_differ();
+    tasks_differ();
+    groups_differ();
+    machines_differ();
+    numbers_are_few();
+    steps_differ();
+    each_stands_once();
+    no_other_stands();
+    calls_stand_with_callers();
+    contexts_are_of_one_call();
+    groups_have_one_above();
+    inputs_have_calls();
+    spans_are_called_once();
+    calls_are_together();
+    entries_are_called_by_none();
 }
 
 /// Each line of spans as readers give them is one that an event line may be.
