@@ -25,7 +25,7 @@ use Rattle.span_lines.specs.Mappings.{Mapping, begins_thread, context_of, label_
 use Rattle.span_lines.specs.Messages.{call_span}
 use Rattle.span_lines.specs.Requests.{begins_request, name_of_request, request_lines, request_starts}
 use Rattle.span_lines.specs.SpanLines.{AreRequestLines, group_numbers, mapping_of}
-use Rattle.span_laws.specs.LineLaws.{HavePlainTraces, IsStartOfEntry, RequestsBeginWithEntries, RequestsHaveOwnNames, start_place}
+use Rattle.span_laws.specs.LineLaws.{BeginWithEntry, HavePlainTraces, RequestsBeginWithEntries, RequestsHaveOwnNames, is_start_line, place_of, start_place}
 use Rattle.span_laws.proofs.ApartLemmas.{In, Once, every_in, in_filter, in_flat, in_range, once_range, pairs_filter, at_in, contains_in}
 use Rattle.span_laws.proofs.HeadLemmas as head
 use Rattle.span_laws.proofs.HeadLemmas.{same_or}
@@ -124,8 +124,12 @@ module _ (calls_law : InputsHaveCalls) (once_law : SpansAreCalledOnce) (input : 
       by grouping g zero l e = absurd (omega (arith, l))
       by grouping g (suc n) l e = (_, e)
 
-  first_line : EntriesAreCalledByNone → (k : ℕ) → k < length requests → (e : Event) × (later : List Event) × (get_or requests k [] ≡ e ∷ later) × IsStartOfEntry spans entries a.machines e
-  first_line none_law k l =
+  -- the line is the start of this call, in the request that begins with it
+  abbrev pub IsFirstOf : ℕ → Event → Type 0
+  IsFirstOf i e = (is_start_line e ≡ true) × (place_of e ≡ start_place a.machines (call_span a.calls i)) × (e.request ≡ name i)
+
+  pub first_line : (k : ℕ) → k < length requests → (e : Event) × (later : List Event) × (get_or requests k [] ≡ e ∷ later) × IsFirstOf (start k) e
+  first_line k l =
       let w = start_is k l in
       let i = start k in
       let d = a_call a.calls i w.0 in
@@ -138,14 +142,7 @@ module _ (calls_law : InputsHaveCalls) (once_law : SpansAreCalledOnce) (input : 
         e,
         later,
         request_at k l ∙ ap (flat_map (thread_lines m (name i))) (range_first i (position_or_len (λ (o : Option ℕ). is_none o) (drop (i + 1) (callers_of a.calls))) begins) ∙ ap (λ (s : List Step). lines_from m (name i) (context_of m i) None s ++ flat_map (thread_lines m (name i)) rest) f.1,
-        record {
-          number = get_or h.are.numbers i 0;
-          there = start_within k l;
-          first = none_law spans (caller_numbers spans) asked a.entries a.calls h i (get_or a.calls i d) (slice_get-get_or a.calls i d w.0) (sym (head.caller_at grace a.calls before d a.placing a.placed a.threading a.threaded a.machines i w.0) ∙ w.1);
-          starts = own_ending (label_of m i) (codes " start");
-          place = ap (start_place a.machines) (start_span k l);
-          request = ap (name_of_request entries) (start_span k l);
-        },
+        (own_ending (label_of m i) (codes " start"), refl, refl),
       )
     where
       none_either : (b : Bool) (o : Option ℕ) → o ≡ None → is_none (cond b None o) ≡ true
@@ -158,8 +155,29 @@ module _ (calls_law : InputsHaveCalls) (once_law : SpansAreCalledOnce) (input : 
           one_more : (x : ℕ) → 1 + x ≡ suc x
           one_more x = omega arith
 
+  begin : EntriesAreCalledByNone → (k : ℕ) → k < length requests → (entry : ℕ) × BeginWithEntry spans entries a.machines entry (get_or requests k [])
+  begin none_law k l =
+      let w = start_is k l in
+      let i = start k in
+      let d = a_call a.calls i w.0 in
+      let f = first_line k l in (
+        get_or h.are.numbers i 0,
+        (
+          f.0,
+          f.1,
+          f.2,
+          record {
+            there = start_within k l;
+            first = none_law spans (caller_numbers spans) asked a.entries a.calls h i (get_or a.calls i d) (slice_get-get_or a.calls i d w.0) (sym (head.caller_at grace a.calls before d a.placing a.placed a.threading a.threaded a.machines i w.0) ∙ w.1);
+            starts = f.3.0;
+            place = f.3.1 ∙ ap (start_place a.machines) (start_span k l);
+            request = f.3.2 ∙ ap (name_of_request entries) (start_span k l);
+          },
+        ),
+      )
+
 pub own_names : InputsHaveCalls → SpansAreCalledOnce → RequestsHaveOwnNames
 own_names calls_law once_law = λ input grace asked requests there plain_all a k l x y e f c g s. names_apart calls_law once_law input grace asked requests there a plain_all k l x y e f c g s
 
 pub begin_with_entries : InputsHaveCalls → SpansAreCalledOnce → EntriesAreCalledByNone → RequestsBeginWithEntries
-begin_with_entries calls_law once_law none_law = λ input grace asked requests there a k l. first_line calls_law once_law input grace asked requests there a none_law k l
+begin_with_entries calls_law once_law none_law = λ input grace asked requests there a k l. begin calls_law once_law input grace asked requests there a none_law k l

@@ -25,10 +25,10 @@ use Rattle.span_lines.specs.Mappings.{Mapping, begins_thread, context_of}
 use Rattle.span_lines.specs.Messages.{call_span}
 use Rattle.span_lines.specs.Requests.{begins_request, name_of_request, request_calls, request_lines, request_size, request_starts}
 use Rattle.span_lines.specs.SpanLines.{AreRequestLines, mapping_of}
-use Rattle.span_laws.specs.LineLaws.{AreToldOnce, Place, SpansAreToldOnce, end_place, is_end_line, is_start_line, place_of, start_place}
+use Rattle.span_laws.specs.LineLaws.{AreToldOnce, BeginWithEntry, Place, SpansAreToldOnce, end_place, is_end_line, is_start_line, place_of, start_place}
 use Rattle.span_laws.specs.RequestLaws.{AreAskedEntries, AreInRequest, IsAskedEntry, IsInRequest, RequestsTellTheirSpans, TellRequest, TellRequests}
 use Rattle.span_laws.proofs.ApartLemmas.{In, Once, Pairs, every_from_in, every_in, in_filter, in_flat, in_map, in_range, in_to_filter, in_to_flat, in_to_map, in_to_range, once_range, pairs_filter, pairs_flat, pairs_map, pairs_weaker, at_in, in_contains}
-use Rattle.span_laws.proofs.EntryLemmas.{requests_of}
+use Rattle.span_laws.proofs.EntryLemmas.{first_line, requests_of}
 use Rattle.span_laws.proofs.FewLemmas.{AreFew, few_of}
 use Rattle.span_laws.proofs.HeadLemmas.{flat_agree_in, same_or}
 use Rattle.span_laws.proofs.NamedLemmas.{map_flat, map_map}
@@ -339,8 +339,10 @@ module _ (laws : AllLaws) (input : List Span) (grace : ℕ) (asked : Option (Lis
         calls : AreCalls order
         calls i k = let w = (within i k).1 in let b = (range r s).bound in omega (arith, w, b)
 
-    tells : (r : ℕ) → In starts r → TellRequest spans (map (span_at spans) a.entries) a.machines (number r) (request_lines m (name r) r)
-    tells r s = record {
+    tells : (r : ℕ) → In starts r → BeginWithEntry spans (map (span_at spans) a.entries) a.machines (number r) (request_lines m (name r) r)
+        → TellRequest spans (map (span_at spans) a.entries) a.machines (number r) (request_lines m (name r) r)
+    tells r s begin = record {
+      begin = begin;
       starts = record {
         numbers = map number (starts_of (steps_in r));
         such = in_request r s (starts_of (steps_in r)) (request.all_starts_once laws.request grace a.calls before (a_call a.calls r w.0) a.placing a.placed a.ordered few.contexts a.threading a.threaded a.machines together r w.0 w.1) (start_in r s) (starts_there r s);
@@ -387,8 +389,23 @@ module _ (laws : AllLaws) (input : List Span) (grace : ℕ) (asked : Option (Lis
           let w : k < length starts = omega (arith, l, requests_size) in
           let n = get_or-map number starts k 0 0 w in
           let q = ap (λ (xs : List (List Event)). get_or xs k []) a.lines ∙ get_or-map (λ i. request_lines m (name i) i) starts k 0 [] w in
+          let r = get_or starts k 0 in
+          let s = at_in starts k 0 w in
+          let span = trace.span_is input asked a.entries a.calls h once r (start_is r s).0 in
+          let f = first_line laws.calls laws.once input grace asked requests entries_there a k l in
           subst (λ z. TellRequest spans (map (span_at spans) a.entries) a.machines z (get_or requests k [])) (sym n)
-          (subst (λ (ls : List Event). TellRequest spans (map (span_at spans) a.entries) a.machines (number (get_or starts k 0)) ls) (sym q) (tells (get_or starts k 0) (at_in starts k 0 w)));
+          (subst (λ (ls : List Event). TellRequest spans (map (span_at spans) a.entries) a.machines (number r) ls) (sym q) (tells r s (
+            f.0,
+            f.1,
+            sym q ∙ f.2,
+            record {
+              there = trace.number_within input asked a.entries a.calls h once r (start_is r s).0;
+              first = first_of r s;
+              starts = f.3.0;
+              place = f.3.1 ∙ ap (start_place a.machines) span;
+              request = f.3.2 ∙ ap (name_of_request (map (span_at spans) a.entries)) span;
+            },
+          )));
     }
 
 pub told_once : AllLaws → SpansAreToldOnce

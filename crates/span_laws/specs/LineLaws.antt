@@ -102,15 +102,20 @@ start_place machines s = record { machine = name_of machines s.machine; time = s
 abbrev pub end_place : MachineNames → Span → Place
 end_place machines s = record { machine = name_of machines s.machine; time = s.end }
 
--- the line is the start of the span with this number, which nothing called, in the request that is
--- named for that span among these entries
-pub record IsStartOfEntry (spans entries : List Span) (machines : MachineNames) (e : Event) : Type 0 where
-  pub number : ℕ
-  pub there : number < length spans
-  pub first : slice_index_or (caller_numbers spans) number None ≡ None
+-- the line is the start of the entry with this number, a span that nothing called, in the request that
+-- is named for it among these
+pub record IsStartOfEntry (spans entries : List Span) (machines : MachineNames) (entry : ℕ)
+    (e : Event) : Type 0 where
+  pub there : entry < length spans
+  pub first : slice_index_or (caller_numbers spans) entry None ≡ None
   pub starts : is_start_line e ≡ true
-  pub place : place_of e ≡ start_place machines (span_at spans number)
-  pub request : e.request ≡ name_of_request entries (span_at spans number)
+  pub place : place_of e ≡ start_place machines (span_at spans entry)
+  pub request : e.request ≡ name_of_request entries (span_at spans entry)
+
+-- the first of these lines is that start
+abbrev pub BeginWithEntry : (spans entries : List Span) → MachineNames → ℕ → List Event → Type 0
+BeginWithEntry spans entries machines entry lines = (e : Event) × (later : List Event)
+    × (lines ≡ e ∷ later) × IsStartOfEntry spans entries machines entry e
 
 -- the first line of a request is the start of its entry: on the entry's machine, at its time, and in
 -- the request of its name
@@ -119,8 +124,8 @@ RequestsBeginWithEntries = (input : List Span) (grace : ℕ) (asked : Option (Li
     (requests : List (List Event)) → HaveEntries input
     → (r : AreRequestLines (spans_once input) grace asked requests) → (k : ℕ)
     → k < length requests
-    → (e : Event) × (later : List Event) × (slice_index_or requests k [] ≡ e ∷ later)
-    × IsStartOfEntry (spans_once input) (map (span_at (spans_once input)) r.entries) r.machines e
+    → (entry : ℕ) × BeginWithEntry (spans_once input)
+    (map (span_at (spans_once input)) r.entries) r.machines entry (slice_index_or requests k [])
 
 -- lines that pass the test stand at the places of spans with such numbers, one line a span
 pub record AreToldOnce (spans : List Span) (are_such : List ℕ → Type 0) (test : Event → Bool)

@@ -13,7 +13,8 @@ use Rattle.span_calls.specs.Calls.{is_asked}
 use Rattle.span_calls.specs.Seen.{span_at}
 use Rattle.span_lines.specs.Requests.{name_of_request}
 use Rattle.span_lines.specs.SpanLines.{AreRequestLines}
-use Rattle.span_laws.specs.LineLaws.{AreToldOnce, end_place, is_end_line, is_start_line, start_place}
+use Rattle.span_laws.specs.LineLaws.{AreToldOnce, BeginWithEntry, end_place, is_end_line}
+use Rattle.span_laws.specs.LineLaws.{is_start_line, start_place}
 
 -- the span with this number is an entry, that of a request that is asked for
 pub record IsAskedEntry (spans : List Span) (asked : Option (List ℕ)) (n : ℕ) : Type 0 where
@@ -39,10 +40,12 @@ pub record AreInRequest (spans : List Span) (entry : ℕ) (numbers : List ℕ) :
   pub each : All (IsInRequest spans entry) numbers
   pub all : (n : ℕ) → n < length spans → IsInRequest spans entry n → Contains numbers n
 
--- these lines tell the request with this entry: each of its spans starts on one of them and ends on
--- one, no other span does, and all are in the request that is named for the entry among these
+-- these lines tell the request with this entry: the first is the start of the entry, each of its spans
+-- starts on one of them and ends on one, no other span does, and all are in the request that is named
+-- for the entry among these
 pub record TellRequest (spans entries : List Span) (machines : MachineNames) (entry : ℕ)
     (lines : List Event) : Type 0 where
+  pub begin : BeginWithEntry spans entries machines entry lines
   pub starts : AreToldOnce spans (AreInRequest spans entry) is_start_line (start_place machines) lines
   pub ends : AreToldOnce spans (AreInRequest spans entry) is_end_line (end_place machines) lines
   pub named : All (λ (e : Event). e.request ≡ name_of_request entries (span_at spans entry)) lines
