@@ -20,3 +20,5 @@ pub mod StampLemmas
 pub mod TextLemmas
 pub mod ToldLemmas
 pub mod TraceLemmas
+pub mod WalkLemmas
+pub mod ListLemmas

@@ -1,5 +1,5 @@
 -- Each span of the requests that are asked for starts and ends on one line, in the request of its entry.
-use Rattle.std.proofs.Common.{◌≡◌, ◌≢◌, ◌⊎◌, inl, inr, ⊎_elim, ℕ, zero, suc, ◌+◌, ◌<◌, ◌≤◌, List, [], ◌∷◌, true, length, map, filter, flat_map, Option, Some, None, IsSome, is_none, get_or, slice_get, refl, sym, ap, subst, ◌∙◌, arith}
+use Rattle.std.proofs.Common.{◌≡◌, ◌≢◌, ⊎_elim, ℕ, zero, suc, ◌+◌, ◌<◌, ◌≤◌, List, [], ◌∷◌, true, length, map, filter, flat_map, Option, Some, None, IsSome, is_none, get_or, slice_get, refl, sym, ap, subst, ◌∙◌, arith}
 use Rattle.std.specs.List.{All, AllPairs, Contains, range_with_len}
 use Rattle.std.specs.Option.{option_and_then}
 use Rattle.std.proofs.lemmas.List.{get_or-map, length-map}
@@ -27,10 +27,11 @@ use Rattle.span_lines.specs.Requests.{begins_request, name_of_request, request_c
 use Rattle.span_lines.specs.SpanLines.{AreRequestLines, mapping_of}
 use Rattle.span_laws.specs.LineLaws.{AreToldOnce, BeginWithEntry, Place, SpansAreToldOnce, end_place, is_end_line, is_start_line, place_of, start_place}
 use Rattle.span_laws.specs.RequestLaws.{AreAskedEntries, AreInRequest, IsAskedEntry, IsInRequest, RequestsTellTheirSpans, TellRequest, TellRequests}
-use Rattle.span_laws.proofs.ApartLemmas.{In, Once, Pairs, every_from_in, every_in, in_filter, in_flat, in_map, in_range, in_to_filter, in_to_flat, in_to_map, in_to_range, once_range, pairs_filter, pairs_flat, pairs_map, pairs_weaker, at_in, in_contains}
+use Rattle.span_laws.proofs.ApartLemmas.{In, Once, every_from_in, in_filter, in_flat, in_map, in_range, in_to_filter, in_to_flat, in_to_map, in_to_range, once_range, pairs_filter, pairs_flat, pairs_map, pairs_weaker, at_in, in_contains}
 use Rattle.span_laws.proofs.EntryLemmas.{first_line, requests_of}
 use Rattle.span_laws.proofs.FewLemmas.{AreFew, few_of}
-use Rattle.span_laws.proofs.HeadLemmas.{flat_agree_in, same_or}
+use Rattle.span_laws.proofs.HeadLemmas.{filter_agree_in, flat_agree_in, same_or}
+use Rattle.span_laws.proofs.ListLemmas.{all_in, lower, map_agree_in, one_top, pairs_at, some_is, some_none}
 use Rattle.span_laws.proofs.NamedLemmas.{map_flat, map_map}
 use Rattle.span_laws.proofs.RangeLemmas.{above, closed, has_caller}
 use Rattle.span_laws.proofs.RequestLemmas as request
@@ -38,43 +39,7 @@ use Rattle.span_laws.proofs.SoundLemmas.{AllLaws, a_call, none_is}
 use Rattle.span_laws.proofs.StampLemmas.{ends_of, starts_of}
 use Rattle.span_laws.proofs.ToldLemmas.{ends_flat, filtered_flat, starts_flat, thread_ends, thread_starts}
 use Rattle.span_laws.proofs.TraceLemmas as trace
-
-lower : (k l : ℕ) → (k ≡ l → ⊥) → (k < l) ⊎ (l < k)
-lower zero zero f = absurd (f refl)
-lower zero (suc l) f = inl (omega arith)
-lower (suc k) zero f = inr (omega arith)
-lower (suc k) (suc l) f = ⊎_elim (λ h. inl (omega (arith, h))) (λ h. inr (omega (arith, h))) (lower k l (λ q. f (ap suc q)))
-
-some_none : (o : Option ℕ) (c : ℕ) → o ≡ Some c → o ≡ None → ⊥
-some_none o c e f = let w : ◌≡◌ {A = Option ℕ} (Some c) None = sym e ∙ f in cc
-
-pairs_at : {X : Type 0} (R : X → X → Type 0) (xs : List X) → Pairs R xs → (i j : ℕ) (d : X) → i < j → j < length xs → R (get_or xs i d) (get_or xs j d)
-pairs_at R [] h i j d l w = absurd (omega (arith, w))
-pairs_at R (x ∷ xs) h i zero d l w = absurd (omega (arith, l))
-pairs_at R (x ∷ xs) h zero (suc j) d l w = every_in (R x) xs h.0 (get_or xs j d) (at_in xs j d (omega (arith, w)))
-pairs_at R (x ∷ xs) h (suc i) (suc j) d l w = pairs_at R xs h.1 i j d (omega (arith, l)) (omega (arith, w))
-
-some_is : (i r : ℕ) → ◌≡◌ {A = Option ℕ} (Some i) (Some r) → i ≡ r
-some_is i r e = ap value e
-  where
-    value : Option ℕ → ℕ
-    value (Some x) = x
-    value None = i
-
--- there is one number above another one that has no caller itself
-one_top : (callers : List (Option ℕ)) (k l n e f : ℕ) → number_above callers k n ≡ Some e → get_or callers e None ≡ None → number_above callers l n ≡ Some f → get_or callers f None ≡ None → e ≡ f
-one_top callers zero zero n e f a x b y = sym (some_is n e a) ∙ some_is n f b
-one_top callers zero (suc l) n e f a x b y = let w : ◌≡◌ {A = Option ℕ} None (Some f) = sym (ap (option_and_then (number_above callers l)) (ap (λ i. get_or callers i None) (some_is n e a) ∙ x)) ∙ b in cc
-one_top callers (suc k) zero n e f a x b y = let w : ◌≡◌ {A = Option ℕ} None (Some e) = sym (ap (option_and_then (number_above callers k)) (ap (λ i. get_or callers i None) (some_is n f b) ∙ y)) ∙ a in cc
-one_top callers (suc k) (suc l) n e f a x b y = by (get_or callers n None) refl (λ c. one_top callers k l c e f)
-  where
-    by : (o : Option ℕ) → get_or callers n None ≡ o → ((c : ℕ) → number_above callers k c ≡ Some e → get_or callers e None ≡ None → number_above callers l c ≡ Some f → get_or callers f None ≡ None → e ≡ f) → e ≡ f
-    by None q more = let w : ◌≡◌ {A = Option ℕ} None (Some e) = ap (option_and_then (number_above callers k)) (sym q) ∙ a in cc
-    by (Some c) q more = more c (ap (option_and_then (number_above callers k)) (sym q) ∙ a) x (ap (option_and_then (number_above callers l)) (sym q) ∙ b) y
-
-map_agree_in : {X Y : Type 0} (f g : X → Y) (xs : List X) → ((x : X) → In xs x → f x ≡ g x) → map f xs ≡ map g xs
-map_agree_in f g [] e = refl
-map_agree_in f g (x ∷ xs) e = (λ i. e x (inl refl) i ∷ map_agree_in f g xs (λ y h. e y (inr h)) i)
+use Rattle.span_laws.proofs.WalkLemmas.{filter_map_is, firsts_are, is_first, map_at}
 
 module _ (laws : AllLaws) (input : List Span) (grace : ℕ) (asked : Option (List ℕ)) (requests : List (List Event)) (entries_there : HaveEntries input)
     (a : AreRequestLines (spans_once input) grace asked requests) (few : AreFew (spans_once input) grace asked requests a) where
@@ -307,12 +272,14 @@ module _ (laws : AllLaws) (input : List Span) (grace : ℕ) (asked : Option (Lis
       record { calls = u.0; above = above_span u.0 i r (omega (arith, high, b)) u.1 }
 
   module _ (none_law : EntriesAreCalledByNone) where
+    no_caller_of : (i : ℕ) → i < length a.calls → get_or (callers_of a.calls) i None ≡ None → get_or (caller_numbers spans) (number i) None ≡ None
+    no_caller_of i lt e =
+        let d = a_call a.calls i lt in
+        none_law spans (caller_numbers spans) asked a.entries a.calls h i (get_or a.calls i d) (slice_get-get_or a.calls i d lt)
+        (sym (get_or-map (λ (c : Call). c.caller) a.calls i d None lt) ∙ e)
+
     first_of : (r : ℕ) → In starts r → get_or (caller_numbers spans) (number r) None ≡ None
-    first_of r s =
-        let w = start_is r s in
-        let d = a_call a.calls r w.0 in
-        none_law spans (caller_numbers spans) asked a.entries a.calls h r (get_or a.calls r d) (slice_get-get_or a.calls r d w.0)
-        (sym (get_or-map (λ (c : Call). c.caller) a.calls r d None w.0) ∙ w.1)
+    first_of r s = let w = start_is r s in no_caller_of r w.0 w.1
 
     wanted_of : (r : ℕ) → In starts r → is_asked asked (span_at spans (number r)) ≡ true
     wanted_of r s =
@@ -377,12 +344,40 @@ module _ (laws : AllLaws) (input : List Span) (grace : ℕ) (asked : Option (Lis
           number_in starts c.0 n c.2 (in_to_filter (begins_request a.calls) (range_with_len 0 (length a.calls)) c.0 (in_to_range 0 (length a.calls) c.0 (omega arith) (omega (arith, lt))) (ap (λ (o : Option ℕ). is_none o) e));
     }
 
+    -- a call begins a request where nothing called its span
+    begins_is : (i : ℕ) → i < length a.calls → begins_request a.calls i ≡ is_first (caller_numbers spans) [] (number i)
+    begins_is i lt = by (get_or (callers_of a.calls) i None) refl
+      where
+        by : (o : Option ℕ) → get_or (callers_of a.calls) i None ≡ o → begins_request a.calls i ≡ is_first (caller_numbers spans) [] (number i)
+        by None e = ap (λ (o : Option ℕ). is_none o) (e ∙ sym (no_caller_of i lt e))
+        by (Some c) e = ap (λ (o : Option ℕ). is_none o) e ∙ sym (ap (λ (o : Option ℕ). is_none o) (trace.caller_is input asked a.entries a.calls h once i c lt (caller_before a.calls before c i e) e))
+
+    abbrev wanted : List ℕ
+    wanted = filter (λ e. is_asked asked (span_at spans e)) a.entries
+
+    entry_of : (e : ℕ) → In wanted e → In a.entries e
+    entry_of e i = (in_filter (λ n. is_asked asked (span_at spans n)) a.entries e i).0
+
+    in_order : map number starts ≡ wanted
+    in_order =
+        let all : List ℕ = range_with_len 0 (length a.calls) in
+        let order = h.are.listed.order in
+        let first = is_first (caller_numbers spans) order in
+        ap (map number) (filter_agree_in (begins_request a.calls) (λ i. first (number i)) all (λ i k. let w = (in_range 0 (length a.calls) i k).1 in begins_is i (omega (arith, w))))
+        ∙ sym (filter_map_is first number all)
+        ∙ ap (λ n. filter first (map number (range_with_len 0 n))) (sym size)
+        ∙ ap (filter first) (map_at h.are.numbers 0 ∙ h.are.listed.listed)
+        ∙ firsts_are (caller_numbers spans) order wanted
+        (λ e i. ap (λ (o : Option ℕ). is_none o) (all_in (λ n. get_or (caller_numbers spans) n None ≡ None) a.entries h.roots.first e (entry_of e i)))
+        (λ e i. let l = all_in (λ n. n < length spans) a.entries a.within e (entry_of e i) in let same = h.same in omega (arith, l, same))
+
     requests_size : length requests ≡ length starts
     requests_size = ap length a.lines ∙ length-map starts (λ i. request_lines m (name i) i)
 
-    all_told : TellRequests spans (map (span_at spans) a.entries) a.machines asked requests
+    all_told : TellRequests spans a.entries a.machines asked requests
     all_told = record {
       numbers = map number starts;
+      in_order = in_order;
       asked_for = entries_asked;
       size = requests_size ∙ sym (length-map starts number);
       each = λ k l.

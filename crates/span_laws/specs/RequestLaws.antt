@@ -1,6 +1,6 @@
 -- Which spans the lines of each request tell: a statement that a law proves.
 use Rattle.std.specs.Prelude.{ℕ, ◌≡◌, ◌≢◌, ◌<◌, ◌^◌, List, [], Option, Some, None, true, length, map}
-use Rattle.std.specs.Prelude.{slice_index, slice_index_or}
+use Rattle.std.specs.Prelude.{filter, slice_index, slice_index_or}
 use Rattle.std.specs.List.{All, AllPairs, Contains}
 use Rattle.trace_types.specs.declared.event.Event.{Event}
 use Rattle.span_types.specs.declared.span.Span.{Span}
@@ -50,14 +50,16 @@ pub record TellRequest (spans entries : List Span) (machines : MachineNames) (en
   pub ends : AreToldOnce spans (AreInRequest spans entry) is_end_line (end_place machines) lines
   pub named : All (λ (e : Event). e.request ≡ name_of_request entries (span_at spans entry)) lines
 
--- there is a list of lines for each request that is asked for, which tells it
-pub record TellRequests (spans entries : List Span) (machines : MachineNames)
+-- there is a list of lines for each request that is asked for, in the order of these entries, which
+-- tells it
+pub record TellRequests (spans : List Span) (entries : List ℕ) (machines : MachineNames)
     (asked : Option (List ℕ)) (requests : List (List Event)) : Type 0 where
   pub numbers : List ℕ
+  pub in_order : numbers ≡ filter (λ e. is_asked asked (span_at spans e)) entries
   pub asked_for : AreAskedEntries spans asked numbers
   pub size : length requests ≡ length numbers
-  pub each : (k : ℕ) → k < length requests
-      → TellRequest spans entries machines (slice_index numbers k) (slice_index_or requests k [])
+  pub each : (k : ℕ) → k < length requests → TellRequest spans (map (span_at spans) entries)
+      machines (slice_index numbers k) (slice_index_or requests k [])
 
 -- both lines of each span that is asked for stand in one request, that of the span's entry
 abbrev pub RequestsTellTheirSpans : Type 0
@@ -65,5 +67,4 @@ RequestsTellTheirSpans = (input : List Span) (grace : ℕ) (asked : Option (List
     (requests : List (List Event)) → HaveEntries input
     → length (spans_once input) < 2 ^ 64
     → (r : AreRequestLines (spans_once input) grace asked requests)
-    → TellRequests (spans_once input) (map (span_at (spans_once input)) r.entries) r.machines asked
-    requests
+    → TellRequests (spans_once input) r.entries r.machines asked requests

@@ -82,9 +82,9 @@ pub fn spans_are_told_once()
     calls_are_together();
 }
 
-/// There is a list of lines for each request that is asked for. The first is the start of its entry,
-/// each of its spans starts on one of them and ends on one, no other span does, and all have the
-/// request's name.
+/// There is a list of lines for each request that is asked for, in the order of entries. The first is
+/// the start of the entry, each span of the request starts on one of them and ends on one, no other
+/// span does, and all have the request's name.
 pub fn requests_tell_their_spans()
     ensures { RequestsTellTheirSpans }
 {
