@@ -1,0 +1,5 @@
+pub mod CountLemmas
+pub mod FileLemmas
+pub mod InputLemmas
+pub mod JudgingLemmas
+pub mod MessageLemmas

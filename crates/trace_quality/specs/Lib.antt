@@ -1,0 +1,4 @@
+pub mod Facts
+pub mod Messages
+pub mod Times
+pub mod Waits
