@@ -21,27 +21,19 @@ pub record CommandRow : Type 0 where
   pub member : Option (List ℕ)
   pub command : ℕ → Command
 
--- the row of a command that takes no number
-abbrev pub plain_row : List ℕ → Command → CommandRow
-plain_row name command = record { name = name; member = None; command = λ _. command }
-
--- the row of a command that takes one
-abbrev pub number_row : List ℕ → List ℕ → (ℕ → Command) → CommandRow
-number_row name member command = record { name = name; member = Some member; command = command }
-
 -- the ten commands
 abbrev pub command_rows : List CommandRow
 command_rows =
-    plain_row (codes "add") Add
-    ∷ number_row (codes "drop") (codes "day") Drop
-    ∷ number_row (codes "keep") (codes "days") Keep
-    ∷ number_row (codes "watch") (codes "every") Watch
-    ∷ number_row (codes "grace") (codes "micros") Grace
-    ∷ plain_row (codes "model") Model
-    ∷ plain_row (codes "paths") Paths
-    ∷ plain_row (codes "slack") Slack
-    ∷ plain_row (codes "report") Report
-    ∷ plain_row (codes "graph") Graph
+    record { name = codes "add"; member = None; command = λ _. Add }
+    ∷ record { name = codes "drop"; member = Some (codes "day"); command = Drop }
+    ∷ record { name = codes "keep"; member = Some (codes "days"); command = Keep }
+    ∷ record { name = codes "watch"; member = Some (codes "every"); command = Watch }
+    ∷ record { name = codes "grace"; member = Some (codes "micros"); command = Grace }
+    ∷ record { name = codes "model"; member = None; command = λ _. Model }
+    ∷ record { name = codes "paths"; member = None; command = λ _. Paths }
+    ∷ record { name = codes "slack"; member = None; command = λ _. Slack }
+    ∷ record { name = codes "report"; member = None; command = λ _. Report }
+    ∷ record { name = codes "graph"; member = None; command = λ _. Graph }
     ∷ []
 
 -- the row with this name

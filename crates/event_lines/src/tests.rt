@@ -10,7 +10,12 @@ const FLAT: &str = r#"
 {"request":"r1","machine":"m","task":"a","event":"s@d","nanos":1500,"send":"x","recv":"y"}
 {"more":"x","number":5,"time":7,"event":"\u0065","task":"t","machine":"m","request":"r"}
  {"request":"r1","machine":"m","task":"","event":"s","time":0}
+{"zero":0,"request":"r1","machine":"m","task":"a","event":"s","time":1}
 "#;
+
+/// A line with a truth value, of which a JSON value is made.
+const NOT_FLAT: &str =
+    r#"{"true":true,"request":"r1","machine":"m","task":"a","event":"s","time":1}"#;
 
 /// Lines that are read byte by byte.
 const PLAIN: &str = r#"
@@ -29,6 +34,8 @@ const NOT_PLAIN: &str = r#"
 {"request":"\u0072","machine":"m","task":"a","event":"s","time":1}
 {"request":"r1","machine":"m","task":"a","event":"s","time":1,"more":true}
 {"request":"r1","machine":"m","task":"a","event":"s","time":1,"do":"add"}
+{"zero":0,"request":"r1","machine":"m","task":"a","event":"s","time":1}
+{"true":true,"request":"r1","machine":"m","task":"a","event":"s","time":1}
 {"request":"r1","machine":"m","task":"a","event":"s","time":18446744073709551616}
 {"request":"r1","machine":"m","task":"a","event":"s","time":1}}
 {"request":"r1","machine":"m","task":"a","event":"s","time":1 }
@@ -46,6 +53,8 @@ fn flat_event_lines_need_no_json_value(rt: HostRuntime) -> Result<(), Fail> {
             assert!(rt; fields.is_some(), "{line}");
         }
     }
+    let fields = flat_fields(NOT_FLAT.as_bytes(), &mut scratch)?;
+    assert!(rt; fields.is_none());
     Ok(())
 }
 

@@ -37,8 +37,9 @@ fn push_receipt(bytes: &mut Vec<u8>, message: Option<&[u8]>) -> Result<(), Alloc
     }
 }
 
-/// Appends the beginning of the line of an event: its request and its machine.
-fn push_place(bytes: &mut Vec<u8>, request: &[u8], machine: &[u8]) -> Result<(), AllocError>
+/// Appends the beginning of the line of an event: its request and its machine. The members of its
+/// task and name follow, and then the rest. The only error is an allocation failure.
+pub fn push_place(bytes: &mut Vec<u8>, request: &[u8], machine: &[u8]) -> Result<(), AllocError>
     ensures { OnOk result (bytes.new.items ≡ bytes.old.items ++ place_text request.now machine.now) }
 {
     bytes.extend_from_slice(b"{\"request\":")?;
@@ -48,9 +49,10 @@ fn push_place(bytes: &mut Vec<u8>, request: &[u8], machine: &[u8]) -> Result<(),
     Ok(())
 }
 
-/// Appends the members of the line of an event that say its task and its name.
+/// Appends the members of the line of an event that say its task and its name. The only error is an
+/// allocation failure.
 #[tactic(auto, unfolding(crate::specs::LineTexts::name_text))]
-fn push_name(bytes: &mut Vec<u8>, task: &[u8], event: &[u8]) -> Result<(), AllocError>
+pub fn push_name(bytes: &mut Vec<u8>, task: &[u8], event: &[u8]) -> Result<(), AllocError>
     ensures { OnOk result (bytes.new.items ≡ bytes.old.items ++ name_text task.now event.now) }
 {
     bytes.extend_from_slice(b",\"task\":")?;
@@ -59,9 +61,10 @@ fn push_name(bytes: &mut Vec<u8>, task: &[u8], event: &[u8]) -> Result<(), Alloc
     push_quoted(bytes, event)
 }
 
-/// Appends the rest of the line of an event, from its time on.
+/// Appends the rest of the line of an event, from its time on. The only error is an allocation
+/// failure.
 #[tactic(auto, unfolding(crate::specs::LineTexts::rest_text))]
-fn push_rest(
+pub fn push_rest(
     bytes: &mut Vec<u8>,
     time: u64,
     send: Option<&[u8]>,

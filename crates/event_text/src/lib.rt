@@ -6,4 +6,4 @@ mod event_line;
 mod quoting;
 
 pub use command_line::push_command;
-pub use event_line::push_event;
+pub use event_line::{push_event, push_name, push_place, push_rest};

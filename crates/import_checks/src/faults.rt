@@ -1,17 +1,23 @@
 use crate::running::{SETTING, Setting, expect};
 use std::test::Fail;
 
-const USAGE: &[u8] = b"usage: mystery import events [FILE]...\n";
+const USAGE: &[u8] =
+    b"usage: mystery import FORM [--grace MICROS] [--entry NAME] [--fold] [FILE]...\n";
 
 const ADD: &[u8] = b"{\"do\":\"add\"}\n";
 
-const OUTSIDE_THE_GRAMMAR: [&[&str]; 10] = [
+const OUTSIDE_THE_GRAMMAR: [&[&str]; 15] = [
     &[],
     &[""],
     &["f"],
-    &["otlp", "f"],
-    &["jaeger", "f"],
-    &["zipkin", "f"],
+    &["otlp", "f", "--fold"],
+    &["otlp", "--entry"],
+    &["otlp", "--grace", "x", "f"],
+    &["otlp", "--grace", "3600000001", "f"],
+    &["jaeger", "--every", "f"],
+    &["zipkin", "-", "-"],
+    &["events", "--fold", "f"],
+    &["events", "--grace", "5", "f"],
     &["events", "f", ""],
     &["events", "-", "-"],
     &["events", "--route", "f"],

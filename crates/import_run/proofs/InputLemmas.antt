@@ -1,57 +1,25 @@
 -- Files that were read one after another.
-use Rattle.std.proofs.Common.{◌≡◌, ℕ, suc, ◌+◌, ◌<◌, ◌≤◌, ◌++◌, List, [], ◌∷◌, All, Result, Ok, Err, Some, length, map, take, slice_get, true, refl, sym, ap, subst, ◌∙◌, arith, append_assoc, append-nil}
+use Rattle.std.proofs.Common.{◌≡◌, ℕ, suc, ◌+◌, ◌^◌, ◌<◌, ◌≤◌, ◌++◌, List, [], ◌∷◌, All, Some, length, map, take, drop, slice_get, Bool, true, false, cond, ◌==◌, refl, sym, ap, subst, ◌∙◌, arith, append_assoc, lit≤}
+use Rattle.std.specs.Prelude.{codes, sum_by}
 use Rattle.std.proofs.lemmas.List.{length-map, length-take-le, map-append, take_at, take_more}
 use Rattle.std.proofs.lemmas.List.Elements.{All-append, All-cons, All-head, All-nil, All-tail}
 use Rattle.std.proofs.lemmas.List.Sums.{sum_by-append, sum_by-cons}
 use Rattle.std.proofs.lemmas.Option.{get_or_from_slice_get, slice_get_within}
-use Rattle.event_lines.specs.InputLines.{LineFault, lines_said}
-use Rattle.event_lines.specs.declared.line.Line.{Line}
-use Rattle.mystery_io.specs.Counts.{CountsCalls}
+use Rattle.event_lines.specs.LineParts.{lines_of_runs}
+use Rattle.mystery_io.specs.Counts.{CountsCalls, counted_up}
 use Rattle.mystery_io.specs.ReadFaults.{FilesSeen, OpensFirst}
 use Rattle.mystery_io.specs.Readings.{AreEnded, AreEndedBeforeLast, Reading, new_readings}
-use Rattle.mystery_io.proofs.GivenLemmas.{new_are}
-use Rattle.import_run.specs.Endings.{HasLines, ReadsUpTo, StopsReading}
-use Rattle.import_run.specs.Inputs.{FileFault, bytes_given, files_said, files_said_from, said_after, size_given}
-use Rattle.import_run.specs.inner.InputReadings.{HasOneCause, HasRead, ReadsOne, StopsAt}
+use Rattle.import_run.specs.CommandLines.{file_name, file_names}
+use Rattle.import_run.specs.Endings.{AreGood, ReadsFirst, ReadsUpTo, StopsReading}
+use Rattle.span_files.specs.InputSpans.{input_said}
+use Rattle.import_run.specs.Inputs.{bytes_given, files_said, size_given}
+use Rattle.import_run.specs.inner.InputReadings.{HasInput, HasOneCause, HasRead, IsNotTaken, ReadsOne, StopsAt}
+use Rattle.import_run.specs.inner.Taken.{HasTaken, IsFileFault, form_of_input, spans_view}
+use Rattle.import_run.specs.declared.form.Form.{Form}
+use Rattle.import_run.specs.declared.input.Input.{Input}
+use Rattle.import_run.specs.declared.input.Input.TheVariants.{Lines, Spans}
 use Rattle.import_run.specs.declared.outcome.Outcome.{Outcome}
-use Rattle.import_run.specs.declared.outcome.Outcome.TheVariants.{Done, Memory, Arguments, BadLine, File, Write, Size}
-
--- ---- what files say, and one file more
-
-ok_is : {X E : Type 0} {x y : X} (none : X) → ◌≡◌ {A = Result X E} (Ok x) (Ok y) → x ≡ y
-ok_is {X} {E} none e = ap value e
-  where
-    value : Result X E → X
-    value (Ok z) = z
-    value (Err z) = none
-
-pub said_more : (n : ℕ) (inputs : List (List ℕ)) (bytes : List ℕ) (ls more : List Line) → files_said_from n inputs ≡ Ok ls → lines_said bytes ≡ Ok more → files_said_from n (inputs ++ bytes ∷ []) ≡ Ok (ls ++ more)
-said_more n [] bytes ls more e f = ap (λ s. said_after n s (Ok [])) f ∙ ap (λ xs. Ok xs) (append-nil more ∙ ap (λ xs. xs ++ more) (ok_is [] e))
-said_more n (x ∷ inputs) bytes ls more e f = by (lines_said x) (files_said_from (n + 1) inputs) refl refl (λ b h. said_more (n + 1) inputs bytes b more h f)
-  where
-    by : (s : Result (List Line) LineFault) (t : Result (List Line) FileFault) → lines_said x ≡ s → files_said_from (n + 1) inputs ≡ t → ((b : List Line) → files_said_from (n + 1) inputs ≡ Ok b → files_said_from (n + 1) (inputs ++ bytes ∷ []) ≡ Ok (b ++ more))
-        → files_said_from n (x ∷ (inputs ++ bytes ∷ [])) ≡ Ok (ls ++ more)
-    by (Ok a) (Ok b) p q rest =
-        let whole : a ++ b ≡ ls = ok_is [] (sym (λ i. said_after n (p i) (q i)) ∙ e) in
-        (λ i. said_after n (p i) (rest b q i)) ∙ ap (λ xs. Ok xs) (sym (append_assoc a b more) ∙ ap (λ xs. xs ++ more) whole)
-    by (Ok a) (Err z) p q rest = let w : ◌≡◌ {A = Result (List Line) FileFault} (Err z) (Ok ls) = sym (λ i. said_after n (p i) (q i)) ∙ e in cc
-    by (Err z) t p q rest = let w : ◌≡◌ {A = Result (List Line) FileFault} (Err (record { file = n; line = z.line; why = z.why })) (Ok ls) = sym (λ i. said_after n (p i) (q i)) ∙ e in cc
-
-pub said_bad : (n : ℕ) (inputs : List (List ℕ)) (bytes : List ℕ) (ls : List Line) (fault : LineFault) → files_said_from n inputs ≡ Ok ls → lines_said bytes ≡ Err fault
-    → files_said_from n (inputs ++ bytes ∷ []) ≡ Err (record { file = n + length inputs; line = fault.line; why = fault.why })
-said_bad n [] bytes ls fault e f =
-    let same : n ≡ n + 0 = omega arith in
-    ap (λ s. said_after n s (Ok [])) f ∙ ap (λ m. Err (record { file = m; line = fault.line; why = fault.why })) same
-said_bad n (x ∷ inputs) bytes ls fault e f = by (lines_said x) (files_said_from (n + 1) inputs) refl refl (λ b h. said_bad (n + 1) inputs bytes b fault h f)
-  where
-    by : (s : Result (List Line) LineFault) (t : Result (List Line) FileFault) → lines_said x ≡ s → files_said_from (n + 1) inputs ≡ t
-        → ((b : List Line) → files_said_from (n + 1) inputs ≡ Ok b → files_said_from (n + 1) (inputs ++ bytes ∷ []) ≡ Err (record { file = n + 1 + length inputs; line = fault.line; why = fault.why }))
-        → files_said_from n (x ∷ (inputs ++ bytes ∷ [])) ≡ Err (record { file = n + suc (length inputs); line = fault.line; why = fault.why })
-    by (Ok a) (Ok b) p q rest =
-        let same : n + 1 + length inputs ≡ n + suc (length inputs) = omega arith in
-        (λ i. said_after n (p i) (rest b q i)) ∙ ap (λ m. Err (record { file = m; line = fault.line; why = fault.why })) same
-    by (Ok a) (Err z) p q rest = let w : ◌≡◌ {A = Result (List Line) FileFault} (Err z) (Ok ls) = sym (λ i. said_after n (p i) (q i)) ∙ e in cc
-    by (Err z) t p q rest = let w : ◌≡◌ {A = Result (List Line) FileFault} (Err (record { file = n; line = z.line; why = z.why })) (Ok ls) = sym (λ i. said_after n (p i) (q i)) ∙ e in cc
+use Rattle.import_run.specs.declared.outcome.Outcome.TheVariants.{Done, Memory, Arguments, BadLine, BadSpan, File, TooMany, Write, Size}
 
 -- ---- readings
 
@@ -65,11 +33,27 @@ all_ended [] h = tt
 all_ended (x ∷ []) h = tt
 all_ended (x ∷ y ∷ ys) h = (All-head (λ (q : Reading). q.at_end ≡ true) x (y ∷ ys) h, all_ended (y ∷ ys) (All-tail (λ (q : Reading). q.at_end ≡ true) x (y ∷ ys) h))
 
+new_are : (before now rs : List Reading) → now ≡ before ++ rs → new_readings before now ≡ rs
+new_are [] now rs e = e
+new_are (x ∷ before) now rs e = ap (drop (suc (length before))) e ∙ new_are before (before ++ rs) rs refl
+
+pub calls_more : (i before mid now : ℕ) → CountsCalls i before mid → now ≡ counted_up mid → CountsCalls (i + 1) before now
+calls_more i before mid now calls one = record { least = omega (arith, calls.least, one); most = omega (arith, calls.most, one) }
+
 one_size : (r : Reading) → size_given (r ∷ []) ≡ length r.bytes
 one_size r = let h = sum_by-cons (λ (q : Reading). length q.bytes) r [] in omega (arith, h)
 
 size_more : (rs : List Reading) (r : Reading) → size_given (rs ++ r ∷ []) ≡ size_given rs + length r.bytes
 size_more rs r = omega (arith, sum_by-append (λ (q : Reading). length q.bytes) rs (r ∷ []), one_size r)
+
+total_size : (rs : List Reading) → sum_by length (bytes_given rs) ≡ size_given rs
+total_size [] = refl
+total_size (r ∷ rs) = let h = sum_by-cons (λ (q : Reading). length q.bytes) r rs in let k = sum_by-cons length r.bytes (bytes_given rs) in omega (arith, h, k, total_size rs)
+
+-- what was taken has no fault
+taken_good : (input : Input) (inputs : List (List ℕ)) → HasTaken input inputs → AreGood (form_of_input input) inputs
+taken_good (Lines runs) inputs h = (lines_of_runs runs.items, h.0)
+taken_good (Spans form spans) inputs h = (spans_view spans, h.0)
 
 module _ (names : List (List ℕ)) (i : ℕ) (name : List ℕ) (there : slice_get names i ≡ Some name) where
   lt : i < length names
@@ -84,8 +68,11 @@ module _ (names : List (List ℕ)) (i : ℕ) (name : List ℕ) (there : slice_ge
   count_is : (rs : List Reading) → map (λ (q : Reading). q.name) rs ≡ take i names → length rs ≡ i
   count_is rs e = omega (arith, length-map rs (λ (q : Reading). q.name), ap length e, length-take-le i names (omega (arith, lt)))
 
+  bytes_count : (rs : List Reading) → map (λ (q : Reading). q.name) rs ≡ take i names → length (bytes_given rs) ≡ i
+  bytes_count rs e = length-map rs (λ (q : Reading). q.bytes) ∙ count_is rs e
+
   -- one file more was read
-  pub file_read : (old new : List Line) (size after : ℕ) (before mid now : List Reading) → HasRead (take i names) old size before mid → ReadsOne name size after old new mid now → HasRead (take (i + 1) names) new after before now
+  pub file_read : (old new : Input) (size after : ℕ) (before mid now : List Reading) → HasRead (take i names) old size before mid → ReadsOne i name size after old new mid now → HasRead (take (i + 1) names) new after before now
   file_read old new size after before mid now a b =
       let r : Reading = record { name = name; bytes = b.bytes; at_end = true } in
       record {
@@ -93,14 +80,14 @@ module _ (names : List (List ℕ)) (i : ℕ) (name : List ℕ) (there : slice_ge
         given = b.given ∙ ap (λ rs. rs ++ r ∷ []) a.given ∙ append_assoc before a.readings (r ∷ []);
         named = named_more a.readings r a.named refl;
         ended = All-append (λ (q : Reading). q.at_end ≡ true) a.readings (r ∷ []) a.ended (All-cons (λ (q : Reading). q.at_end ≡ true) r [] refl (All-nil (λ (q : Reading). q.at_end ≡ true)));
-        good = ap files_said (map-append (λ (q : Reading). q.bytes) a.readings (r ∷ [])) ∙ said_more 0 (bytes_given a.readings) b.bytes old b.more a.good b.said ∙ ap (λ ls. Ok ls) (sym b.appended);
+        good = subst (HasTaken new) (sym (map-append (λ (q : Reading). q.bytes) a.readings (r ∷ []))) (b.taken (bytes_given a.readings) (bytes_count a.readings a.named) a.good);
         sized = omega (arith, size_more a.readings r, a.sized, b.counted);
         fits = b.fits;
       }
 
   -- reading ended at one file more
-  module _ (seen : FilesSeen) (old : List Line) (size : ℕ) (before mid now : List Reading) (saw : seen.readings ≡ new_readings before now) (calls : CountsCalls (i + 1) seen.opens_before seen.opens_now) (a : HasRead (take i names) old size before mid)
-      (outcome : Outcome) (s : StopsAt i size name mid now outcome) where
+  module _ (form : Form) (seen : FilesSeen) (old : Input) (size : ℕ) (before mid now : List Reading) (saw : seen.readings ≡ new_readings before now) (calls : CountsCalls (i + 1) seen.opens_before seen.opens_now) (a : HasRead (take i names) old size before mid)
+      (is_form : form_of_input old ≡ form) (outcome : Outcome) (s : StopsAt i size name old mid now outcome) where
     came : seen.readings ≡ a.readings ++ s.reading ∷ []
     came = saw ∙ new_are before now (a.readings ++ s.reading ∷ []) (s.given ∙ ap (λ rs. rs ++ s.reading ∷ []) a.given ∙ append_assoc before a.readings (s.reading ∷ []))
 
@@ -115,55 +102,87 @@ module _ (names : List (List ℕ)) (i : ℕ) (name : List ℕ) (there : slice_ge
     first : take i seen.readings ≡ a.readings
     first = ap (take i) came ∙ take_at a.readings (s.reading ∷ []) i (count_is a.readings a.named)
 
-    up_to : ReadsUpTo seen names i
+    good : AreGood form (bytes_given (take i seen.readings))
+    good = subst (λ f. AreGood f (bytes_given (take i seen.readings))) is_form (subst (λ rs. AreGood (form_of_input old) (bytes_given rs)) (sym first) (taken_good old (bytes_given a.readings) a.good))
+
+    up_to : ReadsUpTo form seen names i
     up_to = record {
       opened = opened;
-      lines = old;
-      good = ap (λ rs. files_said (bytes_given rs)) first ∙ a.good;
+      good = good;
       fits = omega (arith, ap size_given first, a.sized, a.fits);
     }
 
     all_size : size_given seen.readings ≡ size + length s.reading.bytes
     all_size = omega (arith, ap size_given came, size_more a.readings s.reading, a.sized)
 
-    stop : (o : Outcome) → HasOneCause i size s.reading o → StopsReading o seen names
+    module _ (o : Outcome) (n : IsNotTaken i size old s.reading o) where
+      pub all_read : ReadsFirst seen names (i + 1)
+      all_read = record {
+        opened = opened;
+        ended = subst AreEnded (sym came) (All-append (λ (q : Reading). q.at_end ≡ true) a.readings (s.reading ∷ []) a.ended (All-cons (λ (q : Reading). q.at_end ≡ true) s.reading [] n.ended (All-nil (λ (q : Reading). q.at_end ≡ true))));
+        fits = omega (arith, all_size, n.fits);
+      }
+
+      bytes_are : bytes_given a.readings ++ s.reading.bytes ∷ [] ≡ bytes_given seen.readings
+      bytes_are = sym (ap bytes_given came ∙ map-append (λ (q : Reading). q.bytes) a.readings (s.reading ∷ []))
+
+      pub fault : IsFileFault form i (bytes_given seen.readings) o
+      fault = subst (λ bs. IsFileFault form i bs o) bytes_are (subst (λ f. IsFileFault f i (bytes_given a.readings ++ s.reading.bytes ∷ []) o) is_form (n.fault (bytes_given a.readings) (bytes_count a.readings a.named) a.good))
+
+    stop : (o : Outcome) → HasOneCause i size old s.reading o → StopsReading form o seen names
     stop Memory c = (i + 1, opened)
-    stop (File j) c = subst (ReadsUpTo seen names) (sym c) up_to
+    stop (File j) c = subst (ReadsUpTo form seen names) (sym c) up_to
     stop Size c = ((i, up_to), omega (arith, all_size, c))
     stop (BadLine file line why) c =
-        let at : length (bytes_given a.readings) ≡ i = length-map a.readings (λ (q : Reading). q.bytes) ∙ count_is a.readings a.named in
-        let same : 0 + length (bytes_given a.readings) ≡ file = omega (arith, at, c.0) in (
-          record {
-            opened = subst (λ n. OpensFirst seen names (n + 1)) (sym c.0) opened;
-            ended = subst AreEnded (sym came) (All-append (λ (q : Reading). q.at_end ≡ true) a.readings (s.reading ∷ []) a.ended (All-cons (λ (q : Reading). q.at_end ≡ true) s.reading [] c.1 (All-nil (λ (q : Reading). q.at_end ≡ true))));
-            fits = omega (arith, all_size, c.2);
-          },
-          ap (λ rs. files_said (bytes_given rs)) came ∙ ap files_said (map-append (λ (q : Reading). q.bytes) a.readings (s.reading ∷ [])) ∙ said_bad 0 (bytes_given a.readings) s.reading.bytes old (record { line = line; why = why }) a.good c.3
-              ∙ ap (λ n. Err (record { file = n; line = line; why = why })) same,
-        )
+        let f = fault (BadLine file line why) c in
+        (subst (λ n. ReadsFirst seen names (n + 1)) (sym f.0) (all_read (BadLine file line why) c), f.1)
+    stop (BadSpan of_form at reason) c =
+        let f = fault (BadSpan of_form at reason) c in
+        (subst (λ n. ReadsFirst seen names (n + 1)) (sym f.0) (all_read (BadSpan of_form at reason) c), f.1)
+    stop TooMany c = absurd c
     stop Arguments c = absurd c
-    stop Done c = absurd c
+    stop (Done notes) c = absurd c
     stop Write c = absurd c
 
-    pub stops : StopsReading outcome seen names
+    pub stops : StopsReading form outcome seen names
     stops = stop outcome s.cause
 
+pub names_few : (words : List (List ℕ)) → length words < 2 ^ 30 → length (file_names words) ≤ 2 ^ 30
+names_few words h = by (length words == 0)
+  where
+    by : (b : Bool) → length (cond b (codes "/dev/stdin" ∷ []) (map file_name words)) ≤ 2 ^ 30
+    by true = lit≤ tt
+    by false = omega (arith, h, length-map words file_name)
+
 -- all files were read
-pub has_lines : (names : List (List ℕ)) (i : ℕ) (seen : FilesSeen) (lines : List Line) (size : ℕ) (before now : List Reading) → length names ≤ i → i ≤ length names → seen.readings ≡ new_readings before now → CountsCalls i seen.opens_before seen.opens_now
-    → HasRead (take i names) lines size before now → HasLines seen names lines
-has_lines names i seen lines size before now ge le saw calls a =
-    let came : seen.readings ≡ a.readings = saw ∙ new_are before now a.readings a.given in
-    let all : i ≡ length names = omega arith in
-    record {
-      read = record {
-        opened = subst (OpensFirst seen names) all (record {
-          within = le;
-          counted = calls;
-          named = ap (map (λ (q : Reading). q.name)) came ∙ a.named;
-          ended = subst AreEndedBeforeLast (sym came) (all_ended a.readings a.ended);
-        });
-        ended = subst AreEnded (sym came) a.ended;
-        fits = omega (arith, ap size_given came, a.sized, a.fits);
-      };
-      good = ap (λ rs. files_said (bytes_given rs)) came ∙ a.good;
+module _ (names : List (List ℕ)) (i : ℕ) (form : Form) (seen : FilesSeen) (size : ℕ) (before now : List Reading) (ge : length names ≤ i) (le : i ≤ length names) (small : length names ≤ 2 ^ 30) (saw : seen.readings ≡ new_readings before now) (calls : CountsCalls i seen.opens_before seen.opens_now) where
+  all : i ≡ length names
+  all = omega (arith, ge, le)
+
+  module _ (input : Input) (a : HasRead (take i names) input size before now) where
+    gave : seen.readings ≡ a.readings
+    gave = saw ∙ new_are before now a.readings a.given
+
+    whole : ReadsFirst seen names (length names)
+    whole = record {
+      opened = subst (OpensFirst seen names) all (record {
+        within = le;
+        counted = calls;
+        named = ap (map (λ (q : Reading). q.name)) gave ∙ a.named;
+        ended = subst AreEndedBeforeLast (sym gave) (all_ended a.readings a.ended);
+      });
+      ended = subst AreEnded (sym gave) a.ended;
+      fits = omega (arith, ap size_given gave, a.sized, a.fits);
     }
+
+    count : length (bytes_given a.readings) ≡ i
+    count = omega (arith, length-map a.readings (λ (q : Reading). q.bytes), length-map a.readings (λ (q : Reading). q.name), ap length a.named, length-take-le i names le)
+
+  pub has_input : (input : Input) → HasRead (take i names) input size before now → form_of_input input ≡ form → HasInput form seen names input
+  has_input (Lines runs) a is_form = (
+    sym is_form,
+    record { read = whole (Lines runs) a; good = ap (λ rs. files_said (bytes_given rs)) (gave (Lines runs) a) ∙ a.good.0 },
+    omega (arith, a.good.1, count (Lines runs) a, le, small, total_size a.readings, a.sized, a.fits),
+  )
+  has_input (Spans of_form spans) a is_form =
+      (sym is_form, record { read = whole (Spans of_form spans) a; good = ap (λ rs. input_said of_form (bytes_given rs)) (gave (Spans of_form spans) a) ∙ a.good.0 }, a.good.1)

@@ -1,3 +1,9 @@
+pub mod EndingLemmas
 pub mod FileLemmas
 pub mod InputLemmas
+pub mod LineLemmas
+pub mod OptionLemmas
+pub mod ReasonLemmas
+pub mod SpanLemmas
 pub mod StatusLemmas
+pub mod TakenLemmas

@@ -2,4 +2,6 @@
 pub mod FileReadings
 pub mod InputReadings
 pub mod Leaving
+pub mod OptionSteps
 pub mod ParsedLines
+pub mod Taken

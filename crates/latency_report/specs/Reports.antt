@@ -12,10 +12,9 @@ use Rattle.trace_types.specs.Segments.{SegmentName}
 use Rattle.latency_report.specs.declared.full_report.FullReport.{FullReport}
 use Rattle.latency_report.specs.declared.segment_row.SegmentRow.{SegmentRow}
 
--- the report over a list of traces whose names have these texts, where the mutual exclusions
--- survive which Excludes tells: how many traces there are, how long their critical paths are
--- together, the figures of their latencies, and a row for each name of their segments, in name
--- order
+-- the report over a list of traces whose names have these texts, where the mutual exclusions in
+-- Excludes survive: how many traces there are, how long their critical paths are together, the
+-- figures of their latencies, and a row for each name of their segments, in name order
 pub record IsReport (known : List SegmentName) (Excludes : ℕ → ℕ → Type 0)
     (traces : List NamedTrace) (report : FullReport) : Type 0 where
   pub paths : List (List NamedSegment)

@@ -1,6 +1,6 @@
--- The printed text of a forecast: how long the critical paths of kept traces are where some mutual
--- exclusions survive, which Excludes tells, and how long they would be if the segments of one name
--- took less time. Times are in nanoseconds.
+-- The printed text of a forecast: how long the critical paths of kept traces are where the mutual
+-- exclusions in Excludes survive, and how long they would be if the segments of one name took less
+-- time. Times are in nanoseconds.
 use Rattle.std.specs.Prelude.{◌≡◌, ℕ, ◌*◌, ◌/◌, ◌<◌, List, [], ◌∷◌, length, sum_by, codes, decimal}
 use Rattle.std.specs.Prelude.{if◌then◌else◌, slice_index}
 use Rattle.std.specs.List.{AllZip}

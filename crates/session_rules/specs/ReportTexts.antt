@@ -1,5 +1,5 @@
 -- The printed text of the report on kept traces: their latencies, and their segments by name. Their
--- critical paths are by the mutual exclusions that survive, which Excludes tells. Times are in
+-- critical paths are by the mutual exclusions in Excludes, those that survive. Times are in
 -- nanoseconds.
 use Rattle.std.specs.Prelude.{◌≡◌, ℕ, List, [], ◌∷◌, ◌++◌, length, map, sum_by, codes}
 use Rattle.std.specs.Prelude.{Contains, decimal}

@@ -1,5 +1,5 @@
 -- The printed text of the report on the slowest of the kept traces. Their critical paths are by the
--- mutual exclusions that survive, which Excludes tells. Latencies and times are in nanoseconds.
+-- mutual exclusions in Excludes, those that survive. Latencies and times are in nanoseconds.
 use Rattle.std.specs.Prelude.{◌≡◌, ℕ, List, [], ◌∷◌, length, codes}
 use Rattle.segment_names.specs.Known.{same_name}
 use Rattle.text_rows.specs.Rows.{figure, row_of}

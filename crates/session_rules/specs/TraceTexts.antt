@@ -1,5 +1,5 @@
--- The printed texts of one kept trace where some mutual exclusions survive, which Excludes tells:
--- its critical path, its slacks and its graph. Times are in nanoseconds.
+-- The printed texts of one kept trace where the mutual exclusions in Excludes survive: its critical
+-- path, its slacks and its graph. Times are in nanoseconds.
 use Rattle.std.specs.Prelude.{◌≡◌, ℕ, ◌<◌, ◌++◌, ◌↔◌, List, [], ◌∷◌, length, codes, decimal}
 use Rattle.std.specs.Prelude.{slice_get, slice_index}
 use Rattle.std.specs.List.{flat_map, range_with_len}

@@ -16,10 +16,10 @@ use Rattle.slow_tail.specs.declared.tail_row.TailRow.{TailRow}
 abbrev pub trace_latencies : List NamedTrace → List ℕ
 trace_latencies traces = map (λ (t : NamedTrace). t.latency) traces
 
--- the report over a list of traces whose names have these texts, where the mutual exclusions
--- survive which Excludes tells: how many traces there are, how many are slow, which is one in
--- twenty and exactly how many the definition has, the least latency of the slow ones, and a row for
--- each name of the traces' segments, in name order
+-- the report over a list of traces whose names have these texts, where the mutual exclusions in
+-- Excludes survive: how many traces there are, how many are slow, which is one in twenty and exactly
+-- how many the definition has, the least latency of the slow ones, and a row for each name of the
+-- traces' segments, in name order
 pub record IsSlowReport (known : List SegmentName) (Excludes : ℕ → ℕ → Type 0)
     (traces : List NamedTrace) (report : SlowReport) : Type 0 where
   pub paths : List (List NamedSegment)

@@ -9,7 +9,7 @@ use Rattle.weighted_dag.specs.Graphs.{Graph, IsEdge, IsGraph, weight_of}
 
 module _ {A S N T E : Type 0} (p : Parts A S N T E) where
   -- an edge leads from the segment at i to the segment at j of the trace: the first comes before
-  -- the second, and the mutual exclusion of their names survives, which Excludes tells
+  -- the second, and the mutual exclusion of their names survives: it is in Excludes
   pub record IsDependency (Excludes : N → N → Type 0) (trace : A) (i j : ℕ) : Type 0 where
     pub s : S
     pub t : S

@@ -4,29 +4,14 @@ use Rattle.word_rows.specs.declared.entries.Entry.{Entry}
 use Rattle.word_rows.specs.declared.views.Reading.{Reading}
 use Rattle.word_rows.specs.declared.views.View.{View}
 
--- the view at opening has all shares and empty lists
-abbrev pub first_view : ℕ → View
-first_view all = record {
-  all = all;
-  shares = all;
-  done = [];
-  row = [];
-  cleared = 0;
-  seen = [];
-  readings = [];
-}
-
 -- the view of a seat that was joined away
 abbrev pub empty_view : View
-empty_view = record {
-  all = 0;
-  shares = 0;
-  done = [];
-  row = [];
-  cleared = 0;
-  seen = [];
-  readings = [];
-}
+empty_view =
+    record { all = 0; shares = 0; done = []; row = []; cleared = 0; seen = []; readings = [] }
+
+-- the view at opening has all shares and empty lists
+abbrev pub first_view : ℕ → View
+first_view all = record empty_view { all = all; shares = all }
 
 -- no row is in progress
 abbrev pub is_idle : View → Bool
@@ -47,27 +32,15 @@ next_view v row =
 
 -- Load: the pair of a word and its value is the last reading
 abbrev pub with_reading : View → ℕ → ℕ → View
-with_reading v word value = record v {
-  readings = v.readings ++ record {
-    word = word;
-    value = value;
-  } ∷ [];
-}
+with_reading v word value =
+    record v { readings = v.readings ++ record { word = word; value = value } ∷ [] }
 
 -- Split: what is left to the view, and what the new view begins with
 abbrev pub left_view : ℕ → View → View
 left_view shares v = record v { shares = v.shares - shares }
 
 abbrev pub new_view : ℕ → View → View
-new_view shares v = record {
-  all = v.all;
-  shares = shares;
-  done = [];
-  row = [];
-  cleared = 0;
-  seen = v.seen ++ v.done;
-  readings = [];
-}
+new_view shares v = record empty_view { all = v.all; shares = shares; seen = v.seen ++ v.done }
 
 -- Join: shares add up, and the other's lists follow
 abbrev pub joined_view : View → View → View

@@ -31,12 +31,8 @@ pub data Fault : Type 0 where
 
 -- all bits are 1, and seat 0 has all shares
 abbrev pub opening_state : ℕ → ℕ → StepState
-opening_state width all = record {
-  words = full_words width;
-  all = all;
-  views = first_view all ∷ [];
-  live = true ∷ [];
-}
+opening_state width all =
+    record { words = full_words width; all = all; views = first_view all ∷ []; live = true ∷ [] }
 
 abbrev pub is_live : StepState → ℕ → Bool
 is_live s seat = slice_index_or s.live seat false

@@ -1,4 +1,5 @@
--- The parts of a claim's line, as they are read one after another.
+-- The parts of a claim's line, as they are read one after another: Claims' `claim_of_fields`, field
+-- by field.
 use Rattle.std.specs.Prelude.{ℕ, ◌&&◌, List, [], ◌∷◌, codes, Bool}
 use Rattle.std.specs.Prelude.{if◌then◌else◌, Option, None, option_map}
 use Rattle.std.specs.Option.{option_zip}

@@ -1,11 +1,8 @@
-use Rattle.std.proofs.Common.{◌∙◌, arith, ap, length, refl}
-use Rattle.std.proofs.lemmas.List.{length-append}
+use Rattle.std.proofs.Common.{◌∙◌, arith, refl}
 use Rattle.std.proofs.lemmas.Result.{err_from_is_err_and}
-use Rattle.event_lines.specs.LineParts.{lines_of_runs}
 use Rattle.mystery_io.specs.ReadFaults.{FilesSeen, files_seen}
-use Rattle.mystery_io.proofs.OpenLemmas.{calls_more}
 use Rattle.import_run.specs.CommandLines.{file_names}
-use Rattle.import_run.proofs.InputLemmas.{file_read, has_lines, stops}
+use Rattle.import_run.proofs.InputLemmas.{calls_more, file_read, has_input, names_few, stops}
 use Rattle.import_run.proofs.input_reading.read_input.Goals as goal
 
 pub returns-in_err-size-clause-cause : goal.returns-in_err-size-clause-cause
@@ -15,7 +12,7 @@ returns-in_err-size-clause-cause g c =
     let at = c.loop-index.invariant in
     let names = file_names c.args.words.now in
     let seen : FilesSeen = files_seen F.given F.opens c.args.files.now c.read_one.new.files in
-    rw (p.1, p.2) (stops names c.loop-index.index c.name_at-name.result.now c.name_at-name.ensures seen (lines_of_runs c.loop-index.runs.items) c.loop-index.size _ _ _ refl (calls_more _ _ _ _ at.opens c.read_one.ensures.opens) at.read _ c.in_err-size.ensures.cause)
+    rw (p.1, p.2) (stops names c.loop-index.index c.name_at-name.result.now c.name_at-name.ensures c.args.form seen c.loop-index.input c.loop-index.size _ _ _ refl (calls_more _ _ _ _ at.opens c.read_one.ensures.opens) at.read at.form _ c.in_err-size.ensures.cause)
 
 pub loop-index-preserved : goal.loop-index-preserved
 loop-index-preserved g c =
@@ -25,15 +22,15 @@ loop-index-preserved g c =
     record {
       opens = calls_more _ _ _ _ at.opens one.opens;
       tallied = one.tallied ∙ at.tallied;
-      few = omega (arith, at.few, one.reads.few, one.reads.counted, ap length one.reads.appended, length-append (lines_of_runs c.loop-index.runs.items) one.reads.more);
+      form = one.form ∙ at.form;
       size = one.reads.fits;
-      read = file_read names c.loop-index.index c.name_at-name.result.now c.name_at-name.ensures (lines_of_runs c.loop-index.runs.items) (lines_of_runs c.read_one.new.runs.items) c.loop-index.size c.in_ok-size.size _ _ _ at.read one.reads;
+      read = file_read names c.loop-index.index c.name_at-name.result.now c.name_at-name.ensures c.loop-index.input c.read_one.new.input c.loop-index.size c.in_ok-size.size _ _ _ at.read one.reads;
     }
 
-pub returns-clause-lines : goal.returns-clause-lines
-returns-clause-lines g c =
+pub returns-clause-input : goal.returns-clause-input
+returns-clause-input g c =
     let F = g.F.Files in
     let at = c.loop-index.invariant in
     let names = file_names c.args.words.now in
     let seen : FilesSeen = files_seen F.given F.opens c.args.files.now c.loop-index.files in
-    has_lines names c.loop-index.index seen (lines_of_runs c.loop-index.runs.items) c.loop-index.size _ _ (omega (arith, c.loop-index-test.false, c.count_files-index-end.ensures)) (omega (arith, c.loop-index.auto.index-end, c.count_files-index-end.ensures)) refl at.opens at.read
+    has_input names c.loop-index.index c.args.form seen c.loop-index.size _ _ (omega (arith, c.loop-index-test.false, c.count_files-index-end.ensures)) (omega (arith, c.loop-index.auto.index-end, c.count_files-index-end.ensures)) (names_few c.args.words.now c.requires) refl at.opens c.loop-index.input at.read at.form

@@ -1,9 +1,9 @@
-use Rattle.std.proofs.Common.{◌≡◌, ◌≤◌, ◌+◌, length, take}
-use Rattle.event_lines.specs.LineParts.{lines_of_runs}
+use Rattle.std.proofs.Common.{◌≡◌, ◌≤◌, take}
 use Rattle.mystery_io.specs.Counts.{CountsCalls}
 use Rattle.import_run.specs.CommandLines.{file_names}
 use Rattle.import_run.specs.Inputs.{input_limit}
 use Rattle.import_run.specs.inner.InputReadings.{HasRead}
+use Rattle.import_run.specs.inner.Taken.{form_of_input}
 use Rattle.import_run.proofs.input_reading.read_input.Given as goal
 
 -- the files so far were read
@@ -13,7 +13,7 @@ invariant-loop-index g l =
     record {
       opens : CountsCalls l.index (F.opens l.fn.files) (F.opens l.files);
       tallied : F.faults l.files ≡ F.faults l.fn.files;
-      few : length (lines_of_runs l.runs.items) ≤ l.size + l.index;
+      form : form_of_input l.input ≡ l.fn.form;
       size : l.size ≤ input_limit;
-      read : HasRead (take l.index (file_names l.words)) (lines_of_runs l.runs.items) l.size (F.given l.fn.files) (F.given l.files);
+      read : HasRead (take l.index (file_names l.words)) l.input l.size (F.given l.fn.files) (F.given l.files);
     }

@@ -1,0 +1,4 @@
+pub mod ContextOrder
+pub mod Contexts
+pub mod Threads
+pub mod inner

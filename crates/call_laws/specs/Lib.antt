@@ -1,0 +1,4 @@
+pub mod CallLaws
+pub mod ContextLaws
+pub mod OrderLaws
+pub mod OverlapLaws

@@ -1,0 +1,4 @@
+//! What calls and their contexts are: laws over the definitions alone.
+#![tactic(auto)]
+
+pub mod laws;

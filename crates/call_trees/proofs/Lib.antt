@@ -1,0 +1,5 @@
+pub mod GroupLemmas
+pub mod OrderLemmas
+pub mod OrdinalLemmas
+pub mod TableLemmas
+pub mod WalkLemmas

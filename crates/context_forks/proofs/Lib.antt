@@ -1,0 +1,4 @@
+pub mod MarkLemmas
+pub mod PairLemmas
+pub mod PartnerLemmas
+pub mod SiblingLemmas

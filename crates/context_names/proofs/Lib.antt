@@ -1,0 +1,9 @@
+pub mod GroupLemmas
+pub mod LawLemmas
+pub mod MachineLemmas
+pub mod MemberLemmas
+pub mod NumberLemmas
+pub mod OnceLemmas
+pub mod OrderLemmas
+pub mod OrdinalLemmas
+pub mod ValueLemmas

@@ -1,0 +1,9 @@
+pub mod Bases
+pub mod Labels
+pub mod Machines
+pub mod NameLaws
+pub mod Numbers
+pub mod Pieces
+pub mod Scattering
+pub mod Tasks
+pub mod inner

@@ -1,0 +1,7 @@
+use Rattle.std.proofs.Common.{Some, ap, ◌∙◌}
+use Rattle.import_run.specs.inner.ParsedLines.{asked_view}
+use Rattle.import_run.proofs.OptionLemmas.{grace_step}
+use Rattle.import_run.proofs.command_line.take_grace.Goals as goal
+
+pub returns : goal.returns
+returns c = grace_step (asked_view c.args.asked) c.args.later.now c.as_str.result.now c.in_ok-grace.grace (ap Some c.as_str.ensures ∙ c.in-Some.ensures.value) c.in_ok-grace.ensures.result

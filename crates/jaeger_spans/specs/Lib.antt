@@ -1,0 +1,5 @@
+pub mod Kinds
+pub mod Origins
+pub mod Parents
+pub mod SpansOfJaeger
+pub mod inner

@@ -1,0 +1,2 @@
+pub mod SpansOfFiles
+pub mod inner

@@ -1,0 +1,2 @@
+pub mod InputSpans
+pub mod SpansOfForms

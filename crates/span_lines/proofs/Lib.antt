@@ -1,0 +1,10 @@
+pub mod CallLemmas
+pub mod FarLemmas
+pub mod EntryLemmas
+pub mod FoldLemmas
+pub mod GroupLemmas
+pub mod LineLemmas
+pub mod MappingLemmas
+pub mod PrintLemmas
+pub mod RequestLemmas
+pub mod StepLemmas

@@ -1,0 +1,4 @@
+pub mod Folding
+pub mod NameLaws
+pub mod Names
+pub mod inner

@@ -1,0 +1,10 @@
+pub mod ApartLemmas
+pub mod CallerLemmas
+pub mod CircleLemmas
+pub mod ContainsLemmas
+pub mod FirstLemmas
+pub mod ListLemmas
+pub mod NumberingLemmas
+pub mod TraceLemmas
+pub mod EntryLemmas
+pub mod RequestLemmas

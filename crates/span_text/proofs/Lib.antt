@@ -1,0 +1,3 @@
+pub mod JsonValueLemmas
+pub mod NumberLemmas
+pub mod ListLemmas

@@ -1,0 +1,11 @@
+pub mod Ids
+pub mod Members
+pub mod Numbers
+pub mod Outcomes
+pub mod Parsing
+pub mod Places
+pub mod Reasons
+pub mod SpanTimes
+pub mod Spans
+pub mod Tags
+pub mod inner

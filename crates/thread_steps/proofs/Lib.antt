@@ -1,0 +1,11 @@
+pub mod CallLemmas
+pub mod CountLemmas
+pub mod CutLemmas
+pub mod GapLemmas
+pub mod JoinLemmas
+pub mod KeyLemmas
+pub mod LawLemmas
+pub mod PieceLemmas
+pub mod RowLemmas
+pub mod TableLemmas
+pub mod ThreadLemmas

@@ -1,0 +1,4 @@
+pub mod LaidLemmas
+pub mod NestedLemmas
+pub mod SegmentLemmas
+pub mod SpanLemmas

@@ -1,0 +1,2 @@
+pub mod NestedCalls
+pub mod OwnTimes

@@ -1,0 +1,4 @@
+pub mod Halves
+pub mod Kinds
+pub mod SpansOfZipkin
+pub mod inner
