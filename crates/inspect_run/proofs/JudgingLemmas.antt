@@ -1,5 +1,5 @@
 -- The lines of one file more.
-use Rattle.std.proofs.Common.{◌≡◌, ℕ, suc, ◌+◌, ◌≤◌, ◌<◌, ◌++◌, List, [], ◌∷◌, All, length, map, take, not, refl, sym, ap, subst, ◌∙◌, arith, append_assoc, append-nil, inl, inr}
+use Rattle.std.proofs.Common.{true, ◌≡◌, ℕ, suc, ◌+◌, ◌≤◌, ◌++◌, List, [], ◌∷◌, All, length, map, take, not, sym, ap, subst, ◌∙◌, arith, append_assoc, append-nil, inl, inr}
 use Rattle.std.specs.Prelude.{filter}
 use Rattle.std.proofs.lemmas.Bool.{cases_lt}
 use Rattle.std.proofs.lemmas.List.{length-append, length-map, length-take-le, map-append, take-append-le, take-take, take_all}
@@ -10,7 +10,7 @@ use Rattle.event_lines.specs.Cut.{input_lines, is_blank_line}
 use Rattle.event_lines.specs.GoodLines.{IsTimely}
 use Rattle.event_lines.specs.declared.line.Line.{Line}
 use Rattle.line_clean.specs.Lines.{lines_read}
-use Rattle.line_quality.specs.BadLines.{Finds, bad_lines, count_filled, why_of}
+use Rattle.line_quality.specs.BadLines.{bad_lines, count_filled, why_of}
 use Rattle.line_quality.specs.EventsRead.{events_in, events_of_line, events_read}
 use Rattle.line_quality.specs.declared.bad_line.BadLine.{BadLine}
 use Rattle.line_quality.specs.declared.findings.Findings.{Findings}

@@ -15,7 +15,6 @@ use Rattle.line_quality.specs.declared.bad_line.BadLine.{BadLine}
 use Rattle.mystery_io.specs.Readings.{Reading}
 use Rattle.inspect_run.specs.Judging.{bad_lines_read}
 use Rattle.inspect_run.specs.Rows.{no_example, row_text, shown}
-use Rattle.inspect_run.specs.declared.level.Level.{Level}
 use Rattle.inspect_run.specs.declared.level.Level.TheVariants.{Fine, Warn}
 
 -- the reasons, in the order in which they are printed

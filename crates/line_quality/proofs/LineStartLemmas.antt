@@ -1,5 +1,5 @@
 -- Where lines begin and end.
-use Rattle.std.proofs.Common.{◌≡◌, ◌≤◌, ◌<◌, ◌+◌, ℕ, List, [], ◌∷◌, ◌++◌, Bool, true, false, get_or, length, take, drop, ap, arith, refl, sym, ◌∙◌, append_assoc, append-nil, inl, inr}
+use Rattle.std.proofs.Common.{◌≡◌, ◌<◌, ◌+◌, ℕ, List, [], ◌∷◌, ◌++◌, Bool, true, false, get_or, length, take, drop, ap, arith, refl, sym, ◌∙◌, append_assoc, append-nil, inl, inr}
 use Rattle.std.proofs.Math.Seq.{take-add, take-append-add}
 use Rattle.std.specs.Prelude.{MatchOption, Option, Some, None}
 use Rattle.memchr.specs.Find.{IsFirstByte, is_byte}

@@ -1,5 +1,5 @@
 -- What lines say, which of them are bad, and what their events are.
-use Rattle.std.proofs.Common.{◌≡◌, ◌≤◌, ◌<◌, ◌+◌, ◌||◌, ℕ, suc, List, [], ◌∷◌, ◌++◌, All, Bool, true, false, not, Option, Some, None, Result, Ok, Err, length, ap, arith, refl, sym, subst, ◌∙◌, append_assoc, cond}
+use Rattle.std.proofs.Common.{◌≡◌, ◌+◌, ◌||◌, ℕ, suc, List, [], ◌∷◌, ◌++◌, Bool, true, false, not, Some, Result, Ok, Err, length, ap, arith, refl, sym, subst, ◌∙◌, append_assoc, cond}
 use Rattle.std.specs.Prelude.{filter, if◌then◌else◌, is_ok}
 use Rattle.std.specs.Result.{result_map_both}
 use Rattle.std.proofs.lemmas.List.{length-append}

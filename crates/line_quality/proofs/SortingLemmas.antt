@@ -1,6 +1,6 @@
 -- How lines are sorted, from one bad line to the next.
-use Rattle.std.proofs.Common.{◌≡◌, ◌≤◌, ◌<◌, ◌+◌, ◌-◌, ℕ, suc, List, [], ◌∷◌, ◌++◌, All, Bool, true, false, not, Result, Option, Some, length, take, drop, ap, arith, refl, sym, subst, ◌∙◌, append_assoc, append-nil, inl, inr, Ok, Err}
-use Rattle.std.proofs.lemmas.List.{drop-drop, drop_all, drop_at, length-append, length-drop, length-take, length-take-le, nil_from_length, take-append-drop, take_at}
+use Rattle.std.proofs.Common.{◌≡◌, ◌≤◌, ◌<◌, ◌+◌, ◌-◌, ℕ, suc, List, [], ◌∷◌, ◌++◌, All, Bool, true, false, not, Result, length, take, drop, ap, arith, refl, sym, subst, ◌∙◌, append_assoc, append-nil, inl, inr, Ok, Err}
+use Rattle.std.proofs.lemmas.List.{drop-drop, drop_all, drop_at, length-append, length-drop, length-take, length-take-le, nil_from_length, take_at}
 use Rattle.std.proofs.lemmas.List.Concat.{flat_map-append}
 use Rattle.std.proofs.lemmas.List.Elements.{All-append}
 use Rattle.std.proofs.lemmas.List.Splits.{length-slice_split}
@@ -18,12 +18,11 @@ use Rattle.line_quality.specs.declared.bad_line.BadLine.{BadLine}
 use Rattle.line_quality.specs.declared.findings.Findings.{Findings}
 use Rattle.line_quality.specs.declared.first_line.FirstLine.{FirstLine}
 use Rattle.line_quality.specs.declared.sorting.Sorted.{Sorted}
-use Rattle.line_quality.specs.inner.FirstLines.{Closes, IsFirstLine, IsLineStart}
+use Rattle.line_quality.specs.inner.FirstLines.{IsFirstLine, IsLineStart}
 use Rattle.line_quality.specs.inner.Sorting.{Appends, AreKept, IsClosed, IsSorted, SortsAll, SortsFirst, is_kept}
 use Rattle.line_quality.proofs.FindingLemmas.{finds_more, finds_none}
 use Rattle.line_quality.proofs.LineStartLemmas.{closed_lines, closes_both, lines_at}
-use Rattle.line_quality.proofs.NumberLemmas.{why_said}
-use Rattle.line_quality.proofs.SaidLemmas.{FirstBad, bads_append, bads_empty, bads_one, count_append, count_bad, events_append, events_one, first_bad, kept_empty, kept_said, none_bad, reads}
+use Rattle.line_quality.proofs.SaidLemmas.{FirstBad, bads_append, bads_one, count_append, count_bad, events_append, events_one, first_bad, kept_empty, kept_said, none_bad, reads}
 
 abbrev IsKept : List ℕ → Type 0
 IsKept line = is_kept line ≡ true

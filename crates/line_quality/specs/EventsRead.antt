@@ -1,5 +1,5 @@
 -- The events that lines say.
-use Rattle.std.specs.Prelude.{ℕ, List, [], ◌∷◌, map, Result, Ok, Err, if◌then◌else◌}
+use Rattle.std.specs.Prelude.{ℕ, List, [], ◌∷◌, Result, Ok, Err, if◌then◌else◌}
 use Rattle.std.specs.List.{flat_map}
 use Rattle.trace_types.specs.declared.event.Event as events
 use Rattle.event_lines.specs.Cut.{is_blank_line}

@@ -1,5 +1,5 @@
 -- Where lines of bytes begin and end.
-use Rattle.std.specs.Prelude.{ℕ, ◌≡◌, ◌<◌, ◌≤◌, ◌⊎◌, ◌++◌, List, [], ◌∷◌, drop, length, take}
+use Rattle.std.specs.Prelude.{ℕ, ◌≡◌, ◌<◌, ◌≤◌, ◌⊎◌, ◌++◌, List, [], ◌∷◌, length, take}
 use Rattle.event_lines.specs.Cut.{input_lines}
 use Rattle.line_quality.specs.declared.first_line.FirstLine.{FirstLine}
 

@@ -1,4 +1,4 @@
-use Rattle.std.proofs.Common.{List, ℕ, subst, sym}
+use Rattle.std.proofs.Common.{List, ℕ, subst}
 use Rattle.std.proofs.lemmas.Result.{on_ok_weaker}
 use Rattle.event_lines.specs.LineParts.{lines_of_runs}
 use Rattle.line_quality.specs.inner.Sorting.{Appends}

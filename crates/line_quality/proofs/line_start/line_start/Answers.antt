@@ -1,4 +1,4 @@
-use Rattle.std.proofs.Common.{List, ℕ, arith, drop, refl, subst}
+use Rattle.std.proofs.Common.{List, ℕ, arith, subst}
 use Rattle.line_quality.specs.inner.FirstLines.{IsFirstLine}
 use Rattle.line_quality.proofs.LineStartLemmas.{start_more, start_none}
 use Rattle.line_quality.proofs.line_start.line_start.Goals as goal

@@ -1,4 +1,4 @@
-use Rattle.std.proofs.Common.{◌≡◌, ◌++◌, ◌∷◌, ◌∙◌, [], List, ap, arith, rules, take}
+use Rattle.std.proofs.Common.{◌≡◌, ◌++◌, ◌∷◌, ◌∙◌, [], ap, arith, rules, take}
 use Rattle.line_quality.specs.Members.{member_at_fault}
 use Rattle.line_quality.specs.declared.bad_line.BadLine.{BadLine}
 use Rattle.line_quality.specs.declared.member.Member.{Member}

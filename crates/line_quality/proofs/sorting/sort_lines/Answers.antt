@@ -1,4 +1,4 @@
-use Rattle.std.proofs.Common.{List, ℕ, [], drop, subst, sym}
+use Rattle.std.proofs.Common.{List, ℕ, subst, sym}
 use Rattle.line_quality.specs.inner.Sorting.{IsSorted, SortsFirst}
 use Rattle.line_quality.proofs.SortingLemmas.{sorted_all, sorted_more, sorted_none}
 use Rattle.line_quality.proofs.sorting.sort_lines.Goals as goal
