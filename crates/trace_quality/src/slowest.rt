@@ -1,6 +1,7 @@
 ghost use Rattle.std.specs.Prelude.{◌≡◌, ◌<◌, ◌^◌, ◌&&◌, ℕ, IfOk, IfSome, length, is_some, map};
 ghost use Rattle.std.specs.Prelude.{IsSorted, IsPermutation, nat_le};
 ghost use Rattle.std.specs.Ordering.{nat_cmp};
+ghost use Rattle.trace_quality.specs.Measures.{one_if};
 ghost use Rattle.trace_quality.specs.Slowest.{counts_slow, counts_slow_refused, is_slow, spans_of};
 ghost use Rattle.trace_quality.specs.Tallies.{IsTally};
 ghost use Rattle.trace_quality.specs.Times.{span_of};
@@ -36,6 +37,19 @@ fn find_limit(alloc: Global, facts: &[TraceFacts]) -> Result<u64, AllocError>
     Ok(spans[spans.len() - 1 - (spans.len() - 1) / 20])
 }
 
+/// Counts a trace where it lasts at least so long, and also where it then is refused.
+fn slow_share(limit: u64, facts: &TraceFacts) -> Share
+    ensures count { result.count
+        ≡ one_if (nat_le limit (span_of facts.now.times) && is_some facts.now.verdict.fault) }
+    ensures of { result.of ≡ one_if (nat_le limit (span_of facts.now.times)) }
+{
+    let is_slow = limit <= span_of(facts.times);
+    Share {
+        count: one_if(is_slow && facts.verdict.fault.is_some()),
+        of: one_if(is_slow),
+    }
+}
+
 /// Counts how many of the slowest traces are refused, of how many: of those that fewer than one in
 /// twenty outlast, by their events' own clocks. The only error is out of memory.
 pub fn tally_slowest(alloc: Global, facts: &[TraceFacts]) -> Result<Tally, AllocError>
@@ -51,12 +65,7 @@ pub fn tally_slowest(alloc: Global, facts: &[TraceFacts]) -> Result<Tally, Alloc
         first: None,
     };
     'facts: for index in 0..facts.len() {
-        let is_slow = limit <= span_of(facts[index].times);
-        let share = Share {
-            count: one_if(is_slow && facts[index].verdict.fault.is_some()),
-            of: one_if(is_slow),
-        };
-        sum = add_share(sum, index, share);
+        sum = add_share(sum, index, slow_share(limit, &facts[index]));
     }
     Ok(sum)
 }
