@@ -1,11 +1,10 @@
 -- What is added up, as one element is added after another.
-use Rattle.std.proofs.Common.{◌≡◌, ◌⊎◌, inl, inr, subst, ℕ, suc, ◌+◌, ◌*◌, ◌^◌, ◌<◌, ◌≤◌, List, [], ◌∷◌, ◌++◌, Bool, true, false, cond, eqb, ltb, length, get_or, take, ap, refl, sym, ◌∙◌, arith, Some, None}
+use Rattle.std.proofs.Common.{◌≡◌, ◌⊎◌, inl, inr, subst, ℕ, ◌+◌, ◌*◌, ◌<◌, ◌≤◌, List, [], ◌∷◌, ◌++◌, Bool, true, false, cond, eqb, ltb, length, get_or, take, ap, refl, sym, ◌∙◌, arith, Some, None}
 use Rattle.std.specs.Prelude.{count_by, sum_by, position, Option, IfSome, nat_lt}
 use Rattle.std.specs.List.{position_or_len}
 use Rattle.std.proofs.lemmas.Bool.{cases_lt, eq-eqb, le-ltb, lt-ltb, ltb-true, ne_eqb}
 use Rattle.std.proofs.lemmas.List.{length-append, length-take-le, take_all, take_more}
 use Rattle.std.proofs.lemmas.List.Folds.{position_or_len_push}
-use Rattle.std.proofs.lemmas.List.Quantifiers.{position-Some}
 use Rattle.std.proofs.lemmas.List.Sums.{prefix_len-le-length, sum_by_more}
 use Rattle.trace_quality.specs.declared.tallies.Tally.{Tally}
 use Rattle.trace_quality.specs.Measures.{one_if}
@@ -98,5 +97,6 @@ first_within p xs o e = by o e
     short : (t : Bool) (k : ℕ) → ltb k (length xs) ≡ t → IfSome (cond t (Some k) None) (λ k. k < length xs)
     short true k h = ltb-true k (length xs) h
     short false k h = tt
+
     by : (o : Option ℕ) → o ≡ position p xs → IfSome o (λ k. k < length xs)
     by o e = subst (λ (q : Option ℕ). IfSome q (λ k. k < length xs)) (sym e) (short (ltb (position_or_len p xs) (length xs)) (position_or_len p xs) refl)

@@ -1,13 +1,11 @@
 -- Messages in sets, and the counts of those with one end.
-use Rattle.std.proofs.Common.{◌≡◌, ℕ, ◌+◌, ◌<◌, ◌≤◌, ◌||◌, List, [], ◌∷◌, Bool, true, false, cond, not, length, get_or, take, map, ap, refl, sym, subst, ◌∙◌, arith, Some, None, Bor}
-use Rattle.std.specs.Prelude.{count_by, is_some, Option}
+use Rattle.std.proofs.Common.{◌≡◌, ℕ, ◌+◌, ◌<◌, ◌≤◌, ◌||◌, List, Bool, true, false, cond, not, length, get_or, take, ap, refl, sym, subst, ◌∙◌, arith, Some, None, Bor}
+use Rattle.std.specs.Prelude.{is_some, Option}
 use Rattle.std.specs.HashSet.{HashSet, contains}
-use Rattle.std.specs.List.{list_any}
 use Rattle.std.specs.Str.{bytes_eq}
-use Rattle.std.proofs.lemmas.List.{length-map, take_all}
+use Rattle.std.proofs.lemmas.List.{take_all}
 use Rattle.std.proofs.lemmas.List.Folds.{list_any_more}
 use Rattle.std.proofs.lemmas.Slice.Eq.{bytes_eq-Decides}
-use Rattle.trace_types.specs.declared.event.Event.{Event}
 use Rattle.trace_quality.specs.Measures.{one_if}
 use Rattle.trace_quality.specs.Messages.{count_alone, count_messages, is_alone, is_among, is_message}
 use Rattle.trace_quality.specs.inner.MessageSets.{AreAmong, has_message, is_missing}

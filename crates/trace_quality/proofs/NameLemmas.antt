@@ -1,22 +1,22 @@
 -- Tasks and names by their numbers, in sets, and the waits among segments.
-use Rattle.std.proofs.Common.{◌≡◌, ◌≢◌, ◌⊎◌, ℕ, zero, suc, ◌+◌, ◌<◌, ◌≤◌, ◌||◌, ◌&&◌, List, [], ◌∷◌, Bool, true, false, cond, length, get_or, take, map, ap, refl, sym, subst, ◌∙◌, arith, eqb, inl, inr, Some, None, Bor}
+use Rattle.std.proofs.Common.{◌≡◌, ◌⊎◌, ℕ, ◌+◌, ◌<◌, ◌≤◌, ◌||◌, ◌&&◌, List, [], ◌∷◌, Bool, true, false, cond, length, get_or, take, map, ap, refl, sym, ◌∙◌, arith, eqb, inl, inr, Some, None, Bor}
 use Rattle.std.specs.Prelude.{is_some, Option, slice_get}
 use Rattle.std.specs.Option.{option_copied}
 use Rattle.std.specs.HashSet.{HashSet, contains}
 use Rattle.std.specs.List.{list_any}
 use Rattle.std.specs.Str.{bytes_eq}
 use Rattle.std.proofs.lemmas.Bool.{and_right, cases_order, eq-eqb, eqb-true}
-use Rattle.std.proofs.lemmas.List.{get_or-map, length-map, take_all}
+use Rattle.std.proofs.lemmas.List.{get_or-map, take_all}
 use Rattle.std.proofs.lemmas.List.Folds.{list_any_more}
 use Rattle.std.proofs.lemmas.Option.{get_or_from_slice_get, slice_get_within}
 use Rattle.std.proofs.lemmas.Slice.Eq.{bytes_eq-Decides}
-use Rattle.event_table.specs.Gathered.{NumberedTrace, receipt_at, send_at}
+use Rattle.event_table.specs.Gathered.{NumberedTrace}
 use Rattle.event_table.specs.Numbers.{text_under}
 use Rattle.event_table.specs.Texts.{AreDifferent}
 use Rattle.trace_types.specs.declared.event.Event.{Event}
 use Rattle.trace_types.specs.Events.{event_name_at, task_at}
-use Rattle.trace_quality.specs.Waits.{is_named, receives_at, sends_at}
-use Rattle.trace_quality.specs.inner.NamedSets.{AreReceivers, AreSenders, has_name, has_names_at}
+use Rattle.trace_quality.specs.Waits.{is_named}
+use Rattle.trace_quality.specs.inner.NamedSets.{has_name, has_names_at}
 use Rattle.trace_quality.proofs.MessageLemmas.{or_last, same_bool}
 
 -- a number is that of a text exactly where the texts are equal
@@ -28,6 +28,7 @@ same_text texts differ a b text at lt =
   where
     is : get_or texts a [] ≡ text
     is = get_or_from_slice_get texts a text [] at
+
     by : get_or texts b [] ≡ get_or texts a [] → (a ≡ b) ⊎ ((a < b) ⊎ (b < a)) → eqb a b ≡ true
     by e (inl same) = eq-eqb a b same
     by e (inr (inl less)) = absurd (differ a b [] less lt (sym e))

@@ -1,5 +1,5 @@
 -- The slowest of a list of numbers.
-use Rattle.std.proofs.Common.{◌≡◌, ◌⊎◌, inl, inr, ℕ, ◌+◌, ◌-◌, ◌*◌, ◌/◌, ◌<◌, ◌≤◌, Bool, true, false, ◌&&◌, cond, ltb, leb, List, [], ◌∷◌, ◌++◌, length, get_or, take, drop, map, All, ap, refl, sym, subst, ◌∙◌, arith, ⊎_elim}
+use Rattle.std.proofs.Common.{◌≡◌, ◌⊎◌, inl, inr, ℕ, ◌+◌, ◌-◌, ◌*◌, ◌/◌, ◌<◌, ◌≤◌, Bool, true, false, ◌&&◌, cond, ltb, leb, List, [], ◌∷◌, ◌++◌, length, get_or, take, drop, All, ap, refl, sym, subst, ◌∙◌, arith}
 use Rattle.std.specs.Prelude.{count_by, is_some, nat_lt}
 use Rattle.std.specs.List.Sorted.{IsNonDecreasing, IsPermutation, IsSorted}
 use Rattle.std.specs.Ordering.{nat_cmp}
@@ -38,7 +38,7 @@ module _ (ys : List ℕ) (rises : IsNonDecreasing ys) (s p : ℕ) (lt : p < leng
   few_above : get_or ys p 0 ≤ s → count_by (nat_lt s) ys ≤ length ys - (p + 1)
   few_above le =
       let none = count_none (nat_lt s) (take (p + 1) ys) (λ k d l. let small : k < p + 1 = omega (arith, l, length-take-le (p + 1) ys (omega (arith, lt))) in
-        ap (nat_lt s) (get_or-take (p + 1) ys k d small) ∙ le-ltb s (get_or ys k d) (omega (arith, le, rises k p d (omega (arith, small)) lt, default d))) in
+      ap (nat_lt s) (get_or-take (p + 1) ys k d small) ∙ le-ltb s (get_or ys k d) (omega (arith, le, rises k p d (omega (arith, small)) lt, default d))) in
       omega (arith, none, sum_by-take-drop (λ y. cond (nat_lt s y) 1 0) ys (p + 1), count_by-le-length (nat_lt s) (drop (p + 1) ys), length-drop (p + 1) ys)
     where
       default : (d : ℕ) → get_or ys p d ≡ get_or ys p 0
@@ -47,7 +47,7 @@ module _ (ys : List ℕ) (rises : IsNonDecreasing ys) (s p : ℕ) (lt : p < leng
   many_above : s < get_or ys p 0 → length ys - p ≤ count_by (nat_lt s) ys
   many_above more =
       let all = count_all (nat_lt s) (drop p ys) (λ k d l. let small : p + k < length ys = omega (arith, l, length-drop p ys) in
-        ap (nat_lt s) (get_or-drop p ys k d) ∙ lt-ltb s (get_or ys (p + k) d) (omega (arith, more, rises p (p + k) d (omega arith) small, default d))) in
+      ap (nat_lt s) (get_or-drop p ys k d) ∙ lt-ltb s (get_or ys (p + k) d) (omega (arith, more, rises p (p + k) d (omega arith) small, default d))) in
       omega (arith, all, sum_by-take-drop (λ y. cond (nat_lt s y) 1 0) ys p, length-drop p ys)
     where
       default : (d : ℕ) → get_or ys p d ≡ get_or ys p 0
@@ -59,6 +59,7 @@ limit_tells ys rises s some = by (cases_lt s (get_or ys (length ys - 1 - (length
   where
     lt : length ys - 1 - (length ys - 1) / 20 < length ys
     lt = omega arith
+
     by : (s < get_or ys (length ys - 1 - (length ys - 1) / 20) 0) ⊎ (get_or ys (length ys - 1 - (length ys - 1) / 20) 0 ≤ s) → ltb (20 * count_by (nat_lt s) ys) (length ys) ≡ leb (get_or ys (length ys - 1 - (length ys - 1) / 20) 0) s
     by (inl more) = le-ltb (20 * count_by (nat_lt s) ys) (length ys) (omega (arith, many_above ys rises s _ lt more)) ∙ sym (lt-leb _ s more)
     by (inr le) = lt-ltb (20 * count_by (nat_lt s) ys) (length ys) (omega (arith, few_above ys rises s _ lt le)) ∙ sym (le-leb _ s le)

@@ -1,10 +1,7 @@
 -- The waits among segments by their numbers.
-use Rattle.std.proofs.Common.{◌≡◌, ℕ, ◌+◌, ◌<◌, ◌≤◌, List, Bool, true, false, length, get_or, take, map, ap, refl, sym, ◌∙◌, arith}
-use Rattle.std.specs.Prelude.{count_by, Some, slice_get}
+use Rattle.std.proofs.Common.{◌≡◌, ℕ, ◌+◌, ◌<◌, ◌≤◌, List, Bool, length, get_or, take, ap, sym, ◌∙◌, arith}
 use Rattle.std.proofs.lemmas.List.{get_or-map, length-map, take_all}
-use Rattle.std.proofs.lemmas.Option.{get_or_from_slice_get}
 use Rattle.event_table.specs.Gathered.{NumberedTrace}
-use Rattle.trace_types.specs.declared.segment.Segment.{Segment}
 use Rattle.segment_cut.specs.declared.cut_segment.CutSegment.{CutSegment}
 use Rattle.segment_cut.specs.NumberedCuts.{segment_under, segments_under}
 use Rattle.trace_quality.specs.Measures.{one_if}

@@ -27,13 +27,7 @@ pub(crate) fn add_share(tally: Tally, index: usize, share: Share) -> Tally
 {
     let first = match tally.first {
         Some(first) => Some(first),
-        None => {
-            if share.count > 0 {
-                Some(index)
-            } else {
-                None
-            }
-        }
+        None => { if share.count > 0 { Some(index) } else { None } }
     };
     Tally {
         count: tally.count + u64::from(share.count),

@@ -1,5 +1,5 @@
 -- The tasks and the names of events, by their numbers, in a set.
-use Rattle.std.specs.Prelude.{ℕ, ◌≡◌, ◌<◌, ◌&&◌, List, Bool, nat_eq, length}
+use Rattle.std.specs.Prelude.{ℕ, ◌≡◌, ◌<◌, ◌&&◌, Bool, nat_eq, length}
 use Rattle.std.specs.HashSet.{HashSet, contains_by}
 use Rattle.std.specs.Str.{bytes_eq}
 use Rattle.event_table.specs.Gathered.{NumberedTrace}

@@ -1,4 +1,4 @@
-use Rattle.std.proofs.Common.{◌≡◌, ◌-◌, ◌/◌, ◌∙◌, ap, sym, length, ℕ}
+use Rattle.std.proofs.Common.{◌-◌, ◌/◌, ◌∙◌, ap, sym, ℕ}
 use Rattle.std.specs.Prelude.{vec_len}
 use Rattle.std.proofs.lemmas.Bool.{eqb-true}
 use Rattle.trace_quality.proofs.SlowLemmas.{limit_read, no_spans}

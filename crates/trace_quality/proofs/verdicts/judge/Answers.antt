@@ -1,6 +1,5 @@
 use Rattle.std.proofs.Common.{◌∙◌, ap, sym, length}
 use Rattle.std.proofs.lemmas.List.{length-map}
-use Rattle.trace_types.specs.declared.segment.Segment.{Segment}
 use Rattle.segment_cut.specs.NumberedCuts.{segment_under}
 use Rattle.trace_quality.proofs.verdicts.judge.Goals as goal
 
