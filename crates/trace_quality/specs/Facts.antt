@@ -1,11 +1,10 @@
 -- What a trace tells of the quality of the input.
-use Rattle.std.specs.Prelude.{ℕ, ◌≡◌, List, [], length, nat_le, Option, Some, None}
-use Rattle.std.specs.Prelude.{if◌then◌else◌}
+use Rattle.std.specs.Prelude.{ℕ, ◌≡◌, List, length, Option, Some, None}
 use Rattle.trace_types.specs.declared.event.Event.{Event}
 use Rattle.trace_types.specs.declared.trace.Trace.{Trace}
 use Rattle.trace_types.specs.Batch.{PlainTrace}
 use Rattle.trace_types.specs.Events.{receipts_of, sends_of}
-use Rattle.segment_cut.specs.Cutting.{IsCut, most_events}
+use Rattle.segment_cut.specs.Cutting.{IsCut}
 use Rattle.segment_cut.specs.Faults.{IsTraceFault}
 use Rattle.segment_cut.specs.declared.trace_fault.TraceFault.{TraceFault}
 use Rattle.trace_quality.specs.Messages.{count_alone, count_messages}
@@ -26,10 +25,6 @@ IsJudged t (Some fault) segments waits =
 abbrev pub IsVerdict : PlainTrace → Verdict → Type 0
 IsVerdict t v = IsJudged t v.fault v.segments v.waits
 
--- the events whose messages are counted: those of a trace that has not too many
-abbrev pub counted_events : List Event → List Event
-counted_events events = if nat_le (length events) most_events then events else []
-
 -- how many messages are sent and how many of them never received, and the other way round
 pub record AreMessages (events : List Event) (m : MessageCounts) : Type 0 where
   pub sent : m.sent ≡ count_messages (sends_of events)
@@ -41,4 +36,4 @@ pub record AreMessages (events : List Event) (m : MessageCounts) : Type 0 where
 pub record IsFacts (t : PlainTrace) (f : TraceFacts) : Type 0 where
   pub times : AreTimes t.events f.times
   pub verdict : IsVerdict t f.verdict
-  pub messages : AreMessages (counted_events t.events) f.messages
+  pub messages : AreMessages t.events f.messages

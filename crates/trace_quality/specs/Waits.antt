@@ -1,6 +1,6 @@
 -- Segments that begin with a send and end with a receipt: from the one to the other the task waits,
 -- for what the segment hides.
-use Rattle.std.specs.Prelude.{ℕ, ◌&&◌, List, Bool, filter, is_some, length}
+use Rattle.std.specs.Prelude.{ℕ, ◌&&◌, List, Bool, count_by, is_some}
 use Rattle.std.specs.List.{list_any}
 use Rattle.std.specs.Str.{bytes_eq}
 use Rattle.trace_types.specs.declared.event.Event.{Event}
@@ -23,4 +23,4 @@ is_wait events s = sends_at events s.task s.start_event && receives_at events s.
 
 -- how many of the segments are waits
 abbrev pub count_waits : List Event → List Segment → ℕ
-count_waits events segments = length (filter (is_wait events) segments)
+count_waits events segments = count_by (is_wait events) segments

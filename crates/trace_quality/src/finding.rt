@@ -20,7 +20,7 @@ fn facts_of(alloc: Global, raw: &RawEvents<'_>) -> Result<TraceFacts, AllocError
     Ok(TraceFacts {
         times: find_times(raw),
         verdict: judge(alloc, raw)?,
-        messages: count_messages(raw),
+        messages: count_messages(alloc, raw)?,
     })
 }
 

@@ -7,6 +7,6 @@ pub struct TraceFacts {
     pub times: Times,
     /// Whether it is refused, and its segments.
     pub verdict: Verdict,
-    /// Its messages; none are counted where it has over 4,096 events.
+    /// Its messages.
     pub messages: MessageCounts,
 }

@@ -29,7 +29,7 @@ pub(crate) fn judge(alloc: Global, raw: &RawEvents<'_>) -> Result<Verdict, Alloc
         Ok(trace) => Ok(Verdict {
             fault: None,
             segments: trace.segments().len() as u32,
-            waits: count_waits(raw, &trace),
+            waits: count_waits(alloc, raw, &trace)?,
         }),
         Err(TraceFault::Memory) => Err(AllocError),
         Err(fault) => Ok(Verdict {
