@@ -1,5 +1,6 @@
 """A short restatement of `mystery inspect`: the rows of files, worked out in another way than by the
-program. `restate.py FILE...` prints them."""
+program. `restate.py FILE...` prints them, `--lines` those on lines alone, `--cut` also that of requests which lack
+what others have, which the program does not print yet."""
 
 import json
 import sys
@@ -198,7 +199,7 @@ def cut_traces(traces):
     return cut, of
 
 
-def trace_rows(events):
+def trace_rows(events, with_cut=False):
     by_request = defaultdict(list)
     for event in events:
         by_request[event["request"]].append(event)
@@ -226,20 +227,21 @@ def trace_rows(events):
         missing = [sum(e[end] is not None and e[end] not in {x[other] for x in t} for e in t) for t in traces]
         of = sum(e[end] is not None for e in events)
         rows.append(row("message", share(sum(missing), of), sum(missing), of, first(missing, requests), what))
-    cut, of = cut_traces(traces)
-    rows.append(count_row("cut", share, cut, of, requests, "lacks what nine of ten have"))
+    if with_cut:
+        cut, of = cut_traces(traces)
+        rows.append(count_row("cut", share, cut, of, requests, "lacks what nine of ten have"))
     waits, segments = [v[2] for v in verdicts], sum(v[1] for v in verdicts)
     rows.append(row("wait", share(sum(waits), segments), sum(waits), segments, first(waits, requests), "from a send to a receipt"))
     return rows
 
 
-def rows_of(names, files, lines_alone=False):
+def rows_of(names, files, lines_alone=False, with_cut=False):
     events = []
     rows = line_rows(names, files, events)
-    return rows if lines_alone else rows + trace_rows(events)
+    return rows if lines_alone else rows + trace_rows(events, with_cut)
 
 
 if __name__ == "__main__":
-    words = [word for word in sys.argv[1:] if word != "--lines"]
-    for text in rows_of(words, [open(word, "rb").read() for word in words], "--lines" in sys.argv):
+    words = [word for word in sys.argv[1:] if word not in ("--lines", "--cut")]
+    for text in rows_of(words, [open(word, "rb").read() for word in words], "--lines" in sys.argv, "--cut" in sys.argv):
         print(text)

@@ -18,7 +18,10 @@ use Rattle.mystery_io.specs.Readings.{Reading}
 use Rattle.inspect_run.specs.Judging.{AreJudged, bad_lines_after, bad_lines_read, size_given}
 use Rattle.inspect_run.specs.LineRows.{line_rows, rows_of_lines}
 use Rattle.inspect_run.specs.inner.InputReadings.{ReadsOne}
-use Rattle.inspect_run.specs.inner.Leaving.{quality_text}
+use Rattle.inspect_run.specs.inner.Leaving.{IsText, quality_text}
+use Rattle.inspect_run.specs.Endings.{IsQuality}
+use Rattle.inspect_run.specs.Logged.{logged_events}
+use Rattle.inspect_run.proofs.LoggedLemmas.{same_events}
 
 one_size : (r : Reading) → size_given (r ∷ []) ≡ length r.bytes
 one_size r = let h = sum_by-cons (λ (q : Reading). length q.bytes) r [] in omega (arith, h)
@@ -82,5 +85,14 @@ judged_more rs index size next name old new found finds before now count a b =
     }
 
 -- the rows of what was judged are those on what was read
-pub told : (words : List (List ℕ)) (readings : List Reading) (lines : List Line) (findings : Findings) → AreJudged readings lines findings → quality_text words lines findings ≡ line_rows words readings
-told words readings lines findings h = λ i. rows_of_lines words ((ap length h.events) i) (h.filled i) (h.reasons i) (h.first i)
+lines_told : (words : List (List ℕ)) (readings : List Reading) (lines : List Line) (findings : Findings) → AreJudged readings lines findings → quality_text words lines findings ≡ line_rows words readings
+lines_told words readings lines findings h = λ i. rows_of_lines words ((ap length h.events) i) (h.filled i) (h.reasons i) (h.first i)
+
+pub told : (words : List (List ℕ)) (readings : List Reading) (lines : List Line) (findings : Findings) → AreJudged readings lines findings → (text : List ℕ) → IsText words lines findings text → IsQuality words readings text
+told words readings lines findings h text t = record {
+  events = logged_events lines;
+  read = same_events lines ∙ h.events;
+  rows = t.rows;
+  told = t.told;
+  printed = t.printed ∙ ap (λ xs. xs ++ t.rows) (lines_told words readings lines findings h);
+}

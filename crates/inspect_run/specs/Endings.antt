@@ -1,7 +1,11 @@
 -- How a run ends, and what it writes.
-use Rattle.std.specs.Prelude.{ℕ, ◌≡◌, ◌+◌, ◌<◌, ◌≤◌, List, [], Option, length, take, true}
-use Rattle.std.specs.Prelude.{false}
+use Rattle.std.specs.Prelude.{ℕ, ◌≡◌, ◌+◌, ◌<◌, ◌≤◌, ◌++◌, List, [], Option, length, map, take}
+use Rattle.std.specs.Prelude.{false, true}
 use Rattle.std.specs.Io.KnownBytes.{append_known}
+use Rattle.trace_types.specs.declared.event.Event.{Event}
+use Rattle.trace_types.specs.Batch.{traces_of}
+use Rattle.line_clean.specs.Lines.{lines_read}
+use Rattle.line_quality.specs.EventsRead.{events_read, without_line}
 use Rattle.mystery_io.specs.Input.{input_limit}
 use Rattle.mystery_io.specs.Prefixes.{AppendsPrefix}
 use Rattle.mystery_io.specs.ReadFaults.{FilesSeen, OpensFirst}
@@ -9,6 +13,7 @@ use Rattle.mystery_io.specs.Readings.{AreEnded, Reading}
 use Rattle.inspect_run.specs.CommandLines.{is_in_grammar}
 use Rattle.inspect_run.specs.Judging.{size_given}
 use Rattle.inspect_run.specs.LineRows.{line_rows}
+use Rattle.inspect_run.specs.TraceRows.{AreTraceRows}
 use Rattle.inspect_run.specs.declared.outcome.Outcome.{Outcome}
 use Rattle.inspect_run.specs.declared.outcome.Outcome.TheVariants.{Done, Memory, Arguments, File}
 use Rattle.inspect_run.specs.declared.outcome.Outcome.TheVariants.{Write, Size}
@@ -59,9 +64,15 @@ pub record Stops (outcome : Outcome) (seen : Seen) : Type 0 where
   pub reading : StopsReading outcome seen.files seen.words
   pub written : seen.written_now ≡ seen.written_before
 
--- the text tells the quality of the files with these names that were read
-abbrev pub IsQuality : List (List ℕ) → List Reading → List ℕ → Type 0
-IsQuality names readings text = text ≡ line_rows names readings
+-- the text tells the quality of the files with these names that were read: the rows on their lines,
+-- and those on the traces of their events, whatever numbers their lines have
+pub record IsQuality (names : List (List ℕ)) (readings : List Reading) (text : List ℕ)
+    : Type 0 where
+  pub events : List Event
+  pub read : map without_line events ≡ events_read (lines_read readings)
+  pub rows : List ℕ
+  pub told : AreTraceRows (traces_of events) rows
+  pub printed : text ≡ line_rows names readings ++ rows
 
 -- the arguments are in the grammar, all files were read, and the text tells their quality
 pub record HasText (seen : Seen) (text : List ℕ) : Type 0 where

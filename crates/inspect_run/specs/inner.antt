@@ -2,3 +2,4 @@
 pub mod FileReadings
 pub mod InputReadings
 pub mod Leaving
+pub mod Traces

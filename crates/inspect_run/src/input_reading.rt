@@ -1,5 +1,6 @@
-ghost use Rattle.std.specs.Prelude.{◌≡◌, ◌+◌, ◌≤◌, ◌<◌, ◌^◌, [], IfOk, IfErr, OnOk, Some, length};
-ghost use Rattle.std.specs.Prelude.{slice_get};
+ghost use Rattle.std.specs.Prelude.{◌≡◌, ◌+◌, ◌≤◌, ◌<◌, ◌^◌, [], All, IfOk, IfErr, List, OnOk, Some};
+ghost use Rattle.std.specs.Prelude.{length, slice_get, ℕ};
+ghost use Rattle.event_lines.specs.GoodLines.{IsTimely};
 ghost use Rattle.event_lines.specs.LineParts.{lines_of_runs};
 ghost use Rattle.mystery_io.specs.Counts.{counted_up};
 ghost use Rattle.mystery_io.specs.Input.{input_limit};
@@ -7,7 +8,7 @@ ghost use Rattle.mystery_io.specs.ReadFaults.{files_seen};
 ghost use Rattle.mystery_io.specs.Readings.{OnlyGrow, new_readings};
 ghost use Rattle.inspect_run.specs.Endings.{IsQuality, ReadsAll, StopsReading};
 ghost use Rattle.inspect_run.specs.inner.InputReadings.{ReadsOne, StopsAt, read_faults};
-ghost use Rattle.inspect_run.specs.inner.Leaving.{quality_text};
+ghost use Rattle.inspect_run.specs.inner.Leaving.{IsText};
 
 use crate::Outcome;
 use crate::file_reading::read_file;
@@ -103,9 +104,10 @@ pub(crate) fn read_input<R: Threads + Sync, F: Files>(
 ) -> Result<Judged, Outcome>
     requires { length words.now < 2 ^ 30 }
     ensures read { OnOk result (ReadsAll (files_seen F.given F.opens files.old files.new) words.now) }
-    ensures told { IfOk result (λ j.
-        IsQuality words.now (new_readings (F.given files.old) (F.given files.new))
-        (quality_text words.now (lines_of_runs j.runs.items) j.findings)) }
+    ensures told { IfOk result (λ j. (text : List ℕ)
+        → IsText words.now (lines_of_runs j.runs.items) j.findings text
+        → IsQuality words.now (new_readings (F.given files.old) (F.given files.new)) text) }
+    ensures timely { IfOk result (λ j. All IsTimely (lines_of_runs j.runs.items)) }
     ensures few { IfOk result (λ j.
         length (lines_of_runs j.runs.items) + length j.findings.reasons.items < 2 ^ 31) }
     ensures cause { IfErr result (λ outcome. StopsReading outcome

@@ -8,11 +8,14 @@ mod input_reading;
 mod level;
 mod line_counts;
 mod line_rows;
+mod measures;
 mod message;
 mod outcome;
 mod program;
 mod read_fault;
 mod row;
+mod trace_rows;
+mod traces;
 
 pub use level::Level;
 pub use outcome::Outcome;

@@ -1,5 +1,6 @@
 -- Which objects a run leaves as they were, and what it counts.
-use Rattle.std.specs.Prelude.{ℕ, ◌≡◌, ◌+◌, List, Option, length, ⊤}
+use Rattle.std.specs.Prelude.{ℕ, ◌≡◌, ◌+◌, ◌++◌, List, Option, length, ⊤}
+use Rattle.trace_types.specs.Batch.{traces_of}
 use Rattle.std.specs.Io.KnownBytes.{append_known}
 use Rattle.mystery_io.specs.Counts.{counted_up}
 use Rattle.mystery_io.specs.Prefixes.{AppendsPrefix}
@@ -7,6 +8,8 @@ use Rattle.event_lines.specs.declared.line.Line.{Line}
 use Rattle.line_quality.specs.EventsRead.{events_in}
 use Rattle.line_quality.specs.declared.findings.Findings.{Findings}
 use Rattle.inspect_run.specs.LineRows.{rows_of_lines}
+use Rattle.inspect_run.specs.Logged.{logged_events}
+use Rattle.inspect_run.specs.TraceRows.{AreTraceRows}
 use Rattle.inspect_run.specs.declared.outcome.Outcome.{Outcome}
 use Rattle.inspect_run.specs.declared.outcome.Outcome.TheVariants.{Done, Memory, Arguments, File}
 use Rattle.inspect_run.specs.declared.outcome.Outcome.TheVariants.{Write, Size}
@@ -38,17 +41,25 @@ sink_faults_after (File index) count = count
 sink_faults_after Write count = counted_up count
 sink_faults_after Size count = count
 
--- what writing a text leaves, where it ended so
-abbrev pub WritesText : Outcome → List ℕ → Option (List ℕ) → Option (List ℕ) → Type 0
-WritesText Done text before now = now ≡ append_known before text
-WritesText Write text before now = AppendsPrefix before now text
-WritesText Memory text before now = now ≡ before
-WritesText Arguments text before now = ⊥
-WritesText (File index) text before now = ⊥
-WritesText Size text before now = ⊥
+-- what writing a text that tells what it should leaves, where it ended so
+abbrev pub WritesText : Outcome → (List ℕ → Type 0) → Option (List ℕ) → Option (List ℕ) → Type 0
+WritesText Done Told before now =
+    (text : List ℕ) × Told text × (now ≡ append_known before text)
+WritesText Write Told before now = (text : List ℕ) × Told text × AppendsPrefix before now text
+WritesText Memory Told before now = now ≡ before
+WritesText Arguments Told before now = ⊥
+WritesText (File index) Told before now = ⊥
+WritesText Size Told before now = ⊥
 
--- the rows of lines that were judged
+-- the rows on lines that were judged
 abbrev pub quality_text : List (List ℕ) → List Line → Findings → List ℕ
 quality_text words lines findings =
     rows_of_lines words (length (events_in lines)) (length lines + length findings.reasons.items)
     findings.reasons.items findings.first.items
+
+-- the text has the rows on lines that were judged, and those on the traces of their events
+pub record IsText (words : List (List ℕ)) (lines : List Line) (findings : Findings)
+    (text : List ℕ) : Type 0 where
+  pub rows : List ℕ
+  pub told : AreTraceRows (traces_of (logged_events lines)) rows
+  pub printed : text ≡ quality_text words lines findings ++ rows
