@@ -1,0 +1,8 @@
+pub mod CountLemmas
+pub mod EndingLemmas
+pub mod FileLemmas
+pub mod InputLemmas
+pub mod JudgingLemmas
+pub mod LoggedLemmas
+pub mod MessageLemmas
+pub mod ResultLemmas

@@ -1,0 +1,9 @@
+pub mod CommandLines
+pub mod Endings
+pub mod Judging
+pub mod LineRows
+pub mod Logged
+pub mod Messages
+pub mod Rows
+pub mod TraceRows
+pub mod inner

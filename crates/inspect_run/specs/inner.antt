@@ -1,0 +1,5 @@
+-- What private contracts alone cite.
+pub mod FileReadings
+pub mod InputReadings
+pub mod Leaving
+pub mod Traces

@@ -1,0 +1,9 @@
+pub mod CountLemmas
+pub mod ExtremeLemmas
+pub mod FactLemmas
+pub mod LawLemmas
+pub mod MessageLemmas
+pub mod NameLemmas
+pub mod SlowLemmas
+pub mod TimeLemmas
+pub mod WaitLemmas

@@ -1,0 +1,9 @@
+pub mod Extremes
+pub mod Facts
+pub mod Measures
+pub mod Messages
+pub mod Slowest
+pub mod Tallies
+pub mod Times
+pub mod Waits
+pub mod inner

@@ -1,0 +1,4 @@
+-- What private contracts alone cite.
+pub mod Adding
+pub mod MessageSets
+pub mod NamedSets

@@ -1,0 +1,12 @@
+use crate::{MessageCounts, Times, Verdict};
+
+/// What a trace tells of the quality of the input.
+#[derive(Clone, Copy, Debug, PartialEq, Eq)]
+pub struct TraceFacts {
+    /// When its events were logged.
+    pub times: Times,
+    /// Whether it is refused, and its segments.
+    pub verdict: Verdict,
+    /// Its messages.
+    pub messages: MessageCounts,
+}
