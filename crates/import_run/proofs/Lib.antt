@@ -1,5 +1,4 @@
 pub mod EndingLemmas
-pub mod FileLemmas
 pub mod InputLemmas
 pub mod LineLemmas
 pub mod OptionLemmas

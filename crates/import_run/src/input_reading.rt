@@ -9,14 +9,13 @@ ghost use Rattle.import_run.specs.inner.InputReadings.{HasInput, ReadsOne, Stops
 ghost use Rattle.import_run.specs.inner.Taken.{form_of_input};
 
 use crate::command_line::{count_files, name_at};
-use crate::file_reading::read_file;
 use crate::input::Input;
-use crate::read_fault::ReadFault;
 use crate::{Form, Outcome};
 use mystery_io::Files;
 use std::alloc::Global;
 use std::thread::Threads;
 use trace_types::Text;
+use whole_files::{FileReadFault, read_file};
 
 /// The most bytes that the files may have together.
 const MAX_INPUT: usize = 268_435_456;
@@ -42,9 +41,9 @@ fn read_one<R: Threads + Sync, F: Files>(
         (F.given files.new)) }
 {
     match read_file(alloc, files, name, MAX_INPUT - size) {
-        Err(ReadFault::Memory) => Err(Outcome::Memory),
-        Err(ReadFault::Failed) => Err(Outcome::File { index }),
-        Err(ReadFault::TooBig) => Err(Outcome::Size),
+        Err(FileReadFault::Memory) => Err(Outcome::Memory),
+        Err(FileReadFault::Failed) => Err(Outcome::File { index }),
+        Err(FileReadFault::TooBig) => Err(Outcome::Size),
         Ok(bytes) => {
             input.take_file(rt, alloc, index, &bytes)?;
             Ok(size + bytes.len())

@@ -4,14 +4,12 @@
 
 mod asked;
 mod command_line;
-mod file_reading;
 mod form;
 mod input;
 mod input_reading;
 mod notes;
 mod outcome;
 mod program;
-mod read_fault;
 mod span_reason;
 mod span_writing;
 mod text_writing;

@@ -1,6 +1,5 @@
 pub mod CountLemmas
 pub mod EndingLemmas
-pub mod FileLemmas
 pub mod InputLemmas
 pub mod JudgingLemmas
 pub mod LoggedLemmas

@@ -1,5 +1,4 @@
 -- What private contracts alone cite.
-pub mod FileReadings
 pub mod InputReadings
 pub mod Leaving
 pub mod Traces

@@ -11,14 +11,13 @@ ghost use Rattle.inspect_run.specs.inner.InputReadings.{ReadsOne, StopsAt, read_
 ghost use Rattle.inspect_run.specs.inner.Leaving.{IsText};
 
 use crate::Outcome;
-use crate::file_reading::read_file;
-use crate::read_fault::ReadFault;
 use event_lines::LineRun;
 use line_quality::{Findings, judge_lines};
 use mystery_io::Files;
 use std::alloc::Global;
 use std::thread::Threads;
 use trace_types::Text;
+use whole_files::{FileReadFault, read_file};
 
 /// The most bytes that the files may have together.
 const MAX_INPUT: usize = 67_108_864;
@@ -68,9 +67,9 @@ fn read_one<R: Threads + Sync, F: Files>(
         (F.given files.new)) }
 {
     match read_file(alloc, files, name, MAX_INPUT - size) {
-        Err(ReadFault::Memory) => Err(Outcome::Memory),
-        Err(ReadFault::Failed) => Err(Outcome::File { index }),
-        Err(ReadFault::TooBig) => Err(Outcome::Size),
+        Err(FileReadFault::Memory) => Err(Outcome::Memory),
+        Err(FileReadFault::Failed) => Err(Outcome::File { index }),
+        Err(FileReadFault::TooBig) => Err(Outcome::Size),
         Ok(bytes) => {
             judge_lines(
                 rt,

@@ -3,7 +3,6 @@
 #![tactic(auto)]
 
 mod command_line;
-mod file_reading;
 mod input_reading;
 mod level;
 mod line_counts;
@@ -12,7 +11,6 @@ mod measures;
 mod message;
 mod outcome;
 mod program;
-mod read_fault;
 mod row;
 mod trace_rows;
 mod traces;

@@ -1,6 +1,6 @@
 use Rattle.std.proofs.Common.{◌∙◌, ap, arith, length, take}
-use Rattle.import_run.proofs.FileLemmas.{piece_read}
-use Rattle.import_run.proofs.file_reading.read_piece.Goals as goal
+use Rattle.whole_files.proofs.FileLemmas.{piece_read}
+use Rattle.whole_files.proofs.file_reading.read_piece.Goals as goal
 
 pub returns-clause-reads : goal.returns-clause-reads
 returns-clause-reads g c =

@@ -1,7 +1,7 @@
 use Rattle.std.proofs.Common.{◌≡◌, ◌∙◌, ◌==◌, arith, false}
 use Rattle.std.proofs.lemmas.Bool.{ne_eqb}
-use Rattle.inspect_run.proofs.FileLemmas.{came_more, fails_with}
-use Rattle.inspect_run.proofs.file_reading.read_rest.Goals as goal
+use Rattle.whole_files.proofs.FileLemmas.{came_more, fails_with}
+use Rattle.whole_files.proofs.file_reading.read_rest.Goals as goal
 
 pub returns-then-count-eq0-clause-reads : goal.returns-then-count-eq0-clause-reads
 returns-then-count-eq0-clause-reads g c before came =

@@ -1,7 +1,7 @@
 use Rattle.std.proofs.Common.{◌≡◌, ◌≤◌, ◌-◌, List, [], length, true, false}
 use Rattle.mystery_io.specs.Readings.{Reading}
-use Rattle.inspect_run.specs.inner.FileReadings.{Came}
-use Rattle.inspect_run.proofs.file_reading.read_rest.Given as goal
+use Rattle.whole_files.specs.FileReadings.{Came}
+use Rattle.whole_files.proofs.file_reading.read_rest.Given as goal
 
 -- the bytes so far came
 abbrev pub invariant-pieces : goal.invariant-pieces

@@ -2,7 +2,7 @@ use std::alloc::AllocError;
 
 /// Why a file was not read.
 #[derive(Clone, Copy, Debug, PartialEq, Eq)]
-pub(crate) enum ReadFault {
+pub enum FileReadFault {
     /// An allocation failed.
     Memory,
     /// It could not be opened or read.
@@ -11,13 +11,13 @@ pub(crate) enum ReadFault {
     TooBig,
 }
 
-impl From<AllocError> for ReadFault {
+impl From<AllocError> for FileReadFault {
     ghost use Rattle.std.specs.Prelude.{◌≡◌};
-    ghost use Rattle.inspect_run.specs.declared.read_fault.ReadFault.TheVariants.{Memory};
+    ghost use Rattle.whole_files.specs.declared.file_read_fault.FileReadFault.TheVariants.{Memory};
 
     ghost from_gives = { λ _ e. e ≡ Memory };
 
     fn from(_: AllocError) -> Self {
-        ReadFault::Memory
+        FileReadFault::Memory
     }
 }

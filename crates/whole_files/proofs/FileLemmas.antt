@@ -1,24 +1,18 @@
 -- What came of one file.
-use Rattle.std.proofs.Common.{◌≡◌, ℕ, ◌+◌, ◌<◌, ◌≤◌, ◌==◌, ◌||◌, ◌++◌, List, [], ◌∷◌, Bool, false, length, take, drop, refl, sym, ap, ◌∙◌, arith, take-add}
+use Rattle.std.proofs.Common.{◌≡◌, ℕ, ◌+◌, ◌<◌, ◌≤◌, ◌==◌, ◌++◌, List, [], ◌∷◌, Bool, false, length, take, drop, refl, sym, ap, ◌∙◌, arith, take-add}
 use Rattle.std.proofs.lemmas.List.{append-nil, drop_all, length-append, length-drop, length-take, take_all, take_at}
-use Rattle.mystery_io.specs.Readings.{Reading, after_bytes, after_read}
-use Rattle.inspect_run.specs.declared.read_fault.ReadFault.{ReadFault}
-use Rattle.inspect_run.specs.declared.read_fault.ReadFault.TheVariants.{TooBig}
-use Rattle.inspect_run.specs.inner.FileReadings.{Came, FailsAfter, ReadsPiece}
-
--- bytes come to the last reading
-pub last_grows : (before : List Reading) (r : Reading) (more : List ℕ) (ends : Bool) → after_bytes (before ++ r ∷ []) more ends ≡ before ++ record { name = r.name; bytes = r.bytes ++ more; at_end = r.at_end || ends } ∷ []
-unfolding after_bytes
-last_grows [] r more ends = refl
-last_grows (x ∷ []) r more ends = refl
-last_grows (x ∷ y ∷ ys) r more ends = ap (λ rs. x ∷ rs) (last_grows (y ∷ ys) r more ends)
+use Rattle.mystery_io.specs.Readings.{Reading, after_read}
+use Rattle.mystery_io.proofs.ReadGivenLemmas.{to_last}
+use Rattle.whole_files.specs.declared.file_read_fault.FileReadFault.{FileReadFault}
+use Rattle.whole_files.specs.declared.file_read_fault.FileReadFault.TheVariants.{TooBig}
+use Rattle.whole_files.specs.FileReadings.{Came, FailsAfter, ReadsPiece}
 
 pub came_more : (name old new : List ℕ) (count : ℕ) (before mid now : List Reading) → Came name old false before mid → ReadsPiece count old new mid now → Came name new (count == 0) before now
 came_more name old new count before mid now came h =
-    h.given ∙ ap (λ rs. after_read rs h.piece) came ∙ last_grows before (record { name = name; bytes = old; at_end = false }) h.piece (length h.piece == 0)
+    h.given ∙ ap (λ rs. after_read rs h.piece) came ∙ to_last before (record { name = name; bytes = old; at_end = false }) h.piece (length h.piece == 0)
     ∙ (λ i. before ++ record { name = name; bytes = (sym h.appended) i; at_end = h.size i == 0 } ∷ [])
 
-pub fails_with : (most : ℕ) (name bytes : List ℕ) (at_end : Bool) (before now : List Reading) (fault : ReadFault) → Came name bytes at_end before now → (fault ≡ TooBig → most < length bytes) → FailsAfter most name before now fault
+pub fails_with : (most : ℕ) (name bytes : List ℕ) (at_end : Bool) (before now : List Reading) (fault : FileReadFault) → Came name bytes at_end before now → (fault ≡ TooBig → most < length bytes) → FailsAfter most name before now fault
 fails_with most name bytes at_end before now fault came passes = record {
   reading = record { name = name; bytes = bytes; at_end = at_end };
   named = refl;

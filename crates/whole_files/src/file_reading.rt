@@ -3,10 +3,10 @@ ghost use Rattle.std.specs.Prelude.{false, List, ◌≢◌};
 ghost use Rattle.std.specs.Prelude.{IfOk, IfErr, OnErr, OnOk};
 ghost use Rattle.mystery_io.specs.Counts.{counted_up, faults_after};
 ghost use Rattle.mystery_io.specs.Readings.{Reading, after_read};
-ghost use Rattle.import_run.specs.inner.FileReadings.{Came, FailsAfter, ReadsPiece, faults_of};
-ghost use Rattle.import_run.specs.declared.read_fault.ReadFault.TheVariants.{TooBig};
+ghost use Rattle.whole_files.specs.FileReadings.{Came, FailsAfter, ReadsPiece, faults_of};
+ghost use Rattle.whole_files.specs.declared.file_read_fault.FileReadFault.TheVariants.{TooBig};
 
-use crate::read_fault::ReadFault;
+use crate::FileReadFault;
 use mystery_io::{Failed, Files};
 use std::alloc::Global;
 
@@ -31,7 +31,7 @@ fn fill<F: Files>(files: &mut F, buffer: &mut [u8], filled: usize) -> Result<usi
 }
 
 /// Appends the next bytes of the open file, and returns how many: 0 at its end.
-fn read_piece<F: Files>(files: &mut F, bytes: &mut Vec<u8>) -> Result<usize, ReadFault>
+fn read_piece<F: Files>(files: &mut F, bytes: &mut Vec<u8>) -> Result<usize, FileReadFault>
     requires open { F.is_open files.old ≡ true }
     requires short { length bytes.old.items < 2 ^ 62 }
     ensures is_open { F.is_open files.new ≡ true }
@@ -45,7 +45,7 @@ fn read_piece<F: Files>(files: &mut F, bytes: &mut Vec<u8>) -> Result<usize, Rea
     let filled = bytes.len();
     bytes.resize(filled + PIECE, 0)?;
     let Ok(count) = fill(files, bytes, filled) else {
-        return Err(ReadFault::Failed);
+        return Err(FileReadFault::Failed);
     };
     bytes.truncate(filled + count);
     Ok(count)
@@ -57,7 +57,7 @@ fn read_rest<F: Files>(
     bytes: &mut Vec<u8>,
     name: &str,
     most: usize,
-) -> Result<(), ReadFault>
+) -> Result<(), FileReadFault>
     requires open { F.is_open files.old ≡ true }
     requires short { most < 2 ^ 61 }
     requires empty { bytes.old.items ≡ [] }
@@ -75,18 +75,20 @@ fn read_rest<F: Files>(
             return Ok(());
         }
         if bytes.len() > most {
-            return Err(ReadFault::TooBig);
+            return Err(FileReadFault::TooBig);
         }
     }
 }
 
-/// Reads a whole file of at most so many bytes.
-pub(crate) fn read_file<F: Files>(
+/// Reads a whole file of at most so many bytes, below 2^61. The errors are a file that cannot be
+/// opened or read, one that has more bytes, of which some more than these were read, and out of
+/// memory.
+pub fn read_file<F: Files>(
     alloc: Global,
     files: &mut F,
     name: &str,
     most: usize,
-) -> Result<Vec<u8>, ReadFault>
+) -> Result<Vec<u8>, FileReadFault>
     requires { most < 2 ^ 61 }
     ensures opens { F.opens files.new ≡ counted_up (F.opens files.old) }
     ensures tallied { F.faults files.new ≡ faults_of result (F.faults files.old) }
@@ -98,7 +100,7 @@ pub(crate) fn read_file<F: Files>(
 {
     let mut bytes = Vec::new(alloc);
     if files.open(name).is_err() {
-        return Err(ReadFault::Failed);
+        return Err(FileReadFault::Failed);
     }
     read_rest(files, &mut bytes, name, most)?;
     Ok(bytes)
