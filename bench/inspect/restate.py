@@ -1,6 +1,6 @@
 """A short restatement of `mystery inspect`: the rows of files, worked out in another way than by the
-program. `restate.py FILE...` prints them, `--lines` those on lines alone, `--cut` also that of requests which lack
-what others have, which the program does not print yet."""
+program. `restate.py FILE...` prints them, `--lines` those on lines alone, `--clock` also those on the clocks of
+machines, which the program does not print yet."""
 
 import json
 import sys
@@ -125,8 +125,8 @@ def line_rows(names, files, events):
     return rows + bad[:100]
 
 
-def offsets(trace):
-    """The offset of each machine of a trace, as far as pairings lead to it."""
+def clocks(trace):
+    """For each machine of a trace, as far as pairings lead to it, its offset and the round trip to its parent."""
     sent = {e["send"]: e for e in trace if e["send"] is not None}
     least = {}
     for r in trace:
@@ -134,14 +134,14 @@ def offsets(trace):
         if s and s["machine"] != r["machine"]:
             key = s["machine"], r["machine"]
             least[key] = min(least.get(key, r["time"] - s["time"]), r["time"] - s["time"])
-    found, frontier = {trace[0]["machine"]: 0}, [trace[0]["machine"]]
+    found, frontier = {trace[0]["machine"]: (0, 0)}, [trace[0]["machine"]]
     while frontier:
         after = {}
         for m in {n for m, n in least} - set(found):
             parents = sorted((p for p in frontier if (p, m) in least and (m, p) in least), key=str.encode)
             if parents:
-                p = parents[0]
-                after[m] = found[p] + (least[p, m] - least[m, p]) // 2
+                there, back = least[parents[0], m], least[m, parents[0]]
+                after[m] = found[parents[0]][0] + (there - back) // 2, there + back
         found.update(after)
         frontier = list(after)
     return found
@@ -162,8 +162,8 @@ def verdict(trace):
         return FAULTS[2], 0, 0
     if repeats([e["recv"] for e in trace]):
         return FAULTS[3], 0, 0
-    clock = offsets(trace)
-    keys = [(e["time"] - clock.get(e["machine"], 0), k) for k, e in enumerate(trace)]
+    clock = clocks(trace)
+    keys = [(e["time"] - clock.get(e["machine"], (0, 0))[0], k) for k, e in enumerate(trace)]
     if any(not -LATEST <= time <= 2 * LATEST for time, _ in keys):
         return FAULTS[4], 0, 0
     tasks = defaultdict(list)
@@ -199,7 +199,32 @@ def cut_traces(traces):
     return cut, of
 
 
-def trace_rows(events, with_cut=False):
+def clock_rows(traces, requests, faults):
+    """The rows on clocks: of each trace whose events and messages have no fault, what is told of each machine but that
+    of its first event."""
+    told = []
+    for request, trace, fault in zip(requests, traces, faults):
+        if fault in (None, FAULTS[4]):
+            found = clocks(trace)
+            for machine in dict.fromkeys(e["machine"] for e in trace if e["machine"] != trace[0]["machine"]):
+                told.append((request, machine, found.get(machine)))
+    machines = list(dict.fromkeys(machine for _, machine, _ in told))[:100]
+    rows = []
+    for machine in [None, *machines]:
+        mine = [t for t in told if machine in (None, t[1])]
+        known = [clock for _, _, clock in mine if clock]
+        lost = [request for request, _, clock in mine if not clock]
+        torn = [request for request, _, clock in mine if clock and clock[1] < 0]
+        shown = lambda those: machine or (those[0] if those else "-")
+        rows.append(row("clock", share(len(lost), len(mine)), len(lost), len(mine), shown(lost), "no offset"))
+        rows.append(row("clock", share(len(torn), len(known)), len(torn), len(known), shown(torn), "delays contradict"))
+        if machine and known:
+            least, greatest = min(known)[0], max(known)[0]
+            rows.append(row("clock", "ok", least, greatest, machine, "least and greatest offset"))
+    return rows
+
+
+def trace_rows(events, with_clock=False):
     by_request = defaultdict(list)
     for event in events:
         by_request[event["request"]].append(event)
@@ -223,25 +248,26 @@ def trace_rows(events, with_cut=False):
     slow = [20 * sum(s > span for s in spans) < count for span in spans]
     lost = lambda n, of: "ok" if n == 0 else "warn" if n * count > 2 * (count - kept) * of else "note"
     rows.append(count_row("refused", lost, [s and f is not None for s, f in zip(slow, faults)], sum(slow), requests, "slowest twentieth"))
+    if with_clock:
+        rows += clock_rows(traces, requests, faults)
     for end, other, what in (("send", "recv", "never received"), ("recv", "send", "never sent")):
         missing = [sum(e[end] is not None and e[end] not in {x[other] for x in t} for e in t) for t in traces]
         of = sum(e[end] is not None for e in events)
         rows.append(row("message", share(sum(missing), of), sum(missing), of, first(missing, requests), what))
-    if with_cut:
-        cut, of = cut_traces(traces)
-        rows.append(count_row("cut", share, cut, of, requests, "lacks what nine of ten have"))
+    cut, of = cut_traces(traces)
+    rows.append(count_row("cut", share, cut, of, requests, "lacks what nine of ten have"))
     waits, segments = [v[2] for v in verdicts], sum(v[1] for v in verdicts)
     rows.append(row("wait", share(sum(waits), segments), sum(waits), segments, first(waits, requests), "from a send to a receipt"))
     return rows
 
 
-def rows_of(names, files, lines_alone=False, with_cut=False):
+def rows_of(names, files, lines_alone=False, with_clock=False):
     events = []
     rows = line_rows(names, files, events)
-    return rows if lines_alone else rows + trace_rows(events, with_cut)
+    return rows if lines_alone else rows + trace_rows(events, with_clock)
 
 
 if __name__ == "__main__":
-    words = [word for word in sys.argv[1:] if word not in ("--lines", "--cut")]
-    for text in rows_of(words, [open(word, "rb").read() for word in words], "--lines" in sys.argv, "--cut" in sys.argv):
+    words = [word for word in sys.argv[1:] if word not in ("--lines", "--clock")]
+    for text in rows_of(words, [open(word, "rb").read() for word in words], "--lines" in sys.argv, "--clock" in sys.argv):
         print(text)

@@ -2,6 +2,7 @@ pub mod CountLemmas
 pub mod EndingLemmas
 pub mod InputLemmas
 pub mod JudgingLemmas
+pub mod LawLemmas
 pub mod LoggedLemmas
 pub mod MessageLemmas
 pub mod ResultLemmas

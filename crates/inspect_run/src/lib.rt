@@ -4,6 +4,7 @@
 
 mod command_line;
 mod input_reading;
+pub mod laws;
 mod level;
 mod line_counts;
 mod line_rows;
