@@ -1,0 +1,12 @@
+pub mod CoherenceLemmas
+pub mod DigestLemmas
+pub mod FactLemmas
+pub mod FieldLemmas
+pub mod ListLemmas
+pub mod MergeLemmas
+pub mod RenamedLemmas
+pub mod SplitLemmas
+pub mod StepLemmas
+pub mod TableLemmas
+pub mod TextLemmas
+pub mod UnionLemmas

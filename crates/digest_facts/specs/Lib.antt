@@ -1,0 +1,9 @@
+pub mod Coherence
+pub mod DigestLaws
+pub mod Digests
+pub mod DigestsOfTraces
+pub mod Facts
+pub mod MergeLaws
+pub mod SplitLaws
+pub mod Tables
+pub mod Texts

@@ -1,0 +1,4 @@
+//! Graphs of traces under the digest of others: a law.
+#![tactic(auto)]
+
+pub mod laws;
