@@ -1,10 +1,11 @@
 """A short restatement of `mystery inspect`: the rows of files, worked out in another way than by the
 program. `restate.py FILE...` prints them, `--lines` those on lines alone, `--clock` also those on the clocks of
-machines, which the program does not print yet."""
+machines, `--names` also those on names, tasks and graces, which the program does not print yet."""
 
 import json
+import re
 import sys
-from collections import defaultdict
+from collections import Counter, defaultdict
 
 LATEST = 4102444800000000000
 DAY = 86400 * 10**9
@@ -153,24 +154,27 @@ def repeats(keys):
 
 
 def verdict(trace):
-    """The fault of a trace, or none, and how many segments and waits it has."""
+    """The fault of a trace, or none, and its segments: their two events, each with its adjusted time."""
     if len(trace) > 4096:
-        return FAULTS[0], 0, 0
+        return FAULTS[0], []
     if repeats([(e["task"], e["event"]) for e in trace]):
-        return FAULTS[1], 0, 0
+        return FAULTS[1], []
     if repeats([e["send"] for e in trace]):
-        return FAULTS[2], 0, 0
+        return FAULTS[2], []
     if repeats([e["recv"] for e in trace]):
-        return FAULTS[3], 0, 0
+        return FAULTS[3], []
     clock = clocks(trace)
     keys = [(e["time"] - clock.get(e["machine"], (0, 0))[0], k) for k, e in enumerate(trace)]
     if any(not -LATEST <= time <= 2 * LATEST for time, _ in keys):
-        return FAULTS[4], 0, 0
-    tasks = defaultdict(list)
+        return FAULTS[4], []
+    tasks = {event["task"]: [] for event in trace}
     for key, event in sorted(zip(keys, trace), key=lambda pair: pair[0]):
-        tasks[event["task"]].append(event)
-    segments = [pair for events in tasks.values() for pair in zip(events, events[1:])]
-    return None, len(segments), sum(a["send"] is not None and b["recv"] is not None for a, b in segments)
+        tasks[event["task"]].append((event, key[0]))
+    return None, [pair for events in tasks.values() for pair in zip(events, events[1:])]
+
+
+def is_wait(segment):
+    return segment[0][0]["send"] is not None and segment[1][0]["recv"] is not None
 
 
 def first(tests, requests):
@@ -224,7 +228,7 @@ def clock_rows(traces, requests, faults):
     return rows
 
 
-def trace_rows(events, with_clock=False):
+def trace_rows(events, with_clock=False, with_names=False):
     by_request = defaultdict(list)
     for event in events:
         by_request[event["request"]].append(event)
@@ -256,18 +260,85 @@ def trace_rows(events, with_clock=False):
         rows.append(row("message", share(sum(missing), of), sum(missing), of, first(missing, requests), what))
     cut, of = cut_traces(traces)
     rows.append(count_row("cut", share, cut, of, requests, "lacks what nine of ten have"))
-    waits, segments = [v[2] for v in verdicts], sum(v[1] for v in verdicts)
+    waits, segments = [sum(map(is_wait, v[1])) for v in verdicts], sum(len(v[1]) for v in verdicts)
     rows.append(row("wait", share(sum(waits), segments), sum(waits), segments, first(waits, requests), "from a send to a receipt"))
-    return rows
+    return rows + (name_rows([v[1] for v in verdicts], requests) if with_names else [])
 
 
-def rows_of(names, files, lines_alone=False, with_clock=False):
+def name_of(segment):
+    return segment[0][0]["task"], segment[0][0]["event"], segment[1][0]["event"]
+
+
+def label(name):
+    return "%s: %s -> %s" % name if isinstance(name, tuple) else name
+
+
+def pattern(text):
+    """What is left of a text where ids may stand: runs that touch are one."""
+    marked = list(text)
+    for run in ("[0-9]+", "[0-9a-fA-F]{8,}", "(?<=@).+"):
+        for found in re.finditer(run, text, re.S):
+            marked[found.start():found.end()] = ["\0"] * (found.end() - found.start())
+    return re.sub("\0+", "{}", "".join(marked))
+
+
+def kind_rows(kind, seen, limit, what):
+    """The rows on names or tasks, each as often as it is seen, against their limit."""
+    different = list(dict.fromkeys(seen))
+    over = len(different) > limit
+    rows = [row(kind, "warn" if over else "ok", len(different), limit, label(different[limit]) if over else "-", what)]
+    if kind == "name":
+        counts = Counter(seen)
+        alone = [name for name in different if counts[name] == 1]
+        example = label(alone[0]) if alone else "-"
+        rows.append(row(kind, "note" if alone else "ok", len(alone), len(different), example, "in one trace alone"))
+    families = defaultdict(list)
+    for name in different:
+        families[label(tuple(map(pattern, name)) if kind == "name" else pattern(name))].append(name)
+    large = sorted((p for p in families if len(families[p]) >= 10), key=lambda p: -len(families[p]))
+    return rows + [row(kind, "note", len(families[p]), len(different), label(families[p][0]), p) for p in large[:100]]
+
+
+def grace_rows(traces, requests):
+    """The rows on relations that few traces refute, all of these by little."""
+    names = list(dict.fromkeys(name_of(s) for t in traces for s in t))
+    if len(names) > 512 or len({name[0] for name in names}) > 64:
+        return ["\t".join(["grace", "note", "-", "-", "-", "too many names or tasks"])]
+    gaps = defaultdict(list)
+    for request, trace in zip(requests, traces):
+        for one in trace:
+            for other in trace:
+                gap, back = other[0][1] - one[1][1], one[0][1] - other[1][1]
+                gaps[name_of(one), name_of(other)].append((request, gap, max(gap, back)))
+    rows, met = [], 0
+    for a, one in enumerate(names):
+        for b, other in enumerate(names):
+            meetings = gaps.get((one, other), [])
+            for at, told, kind in ((1, a != b, "happens before"), (2, a < b, "excludes")):
+                refuted = [m for m in meetings if m[at] < 0]
+                met += told and len(meetings) > 0
+                if told and 0 < 100 * len(refuted) < len(meetings) and min(m[at] for m in refuted) > -(10**6):
+                    micros = next(n for n in range(1001) if all(m[at] >= -1000 * n for m in refuted))
+                    what = "%s | %s | %s | survives with a grace of %d" % (label(one), kind, label(other), micros)
+                    rows.append(row("grace", "note", len(refuted), len(meetings), refuted[0][0], what))
+    return [row("grace", "note" if rows else "ok", len(rows), met, "-", "refuted by few, by less than 1 ms")] + rows[:100]
+
+
+def name_rows(segments, requests):
+    seen = [name_of(s) for trace in segments for s in trace]
+    rows = kind_rows("name", seen, 512, "segment names") + kind_rows("task", [name[0] for name in seen], 64, "tasks")
+    return rows + grace_rows(segments, requests)
+
+
+def rows_of(names, files, lines_alone=False, with_clock=False, with_names=False):
     events = []
     rows = line_rows(names, files, events)
-    return rows if lines_alone else rows + trace_rows(events, with_clock)
+    return rows if lines_alone else rows + trace_rows(events, with_clock, with_names)
 
 
 if __name__ == "__main__":
-    words = [word for word in sys.argv[1:] if word not in ("--lines", "--clock")]
-    for text in rows_of(words, [open(word, "rb").read() for word in words], "--lines" in sys.argv, "--clock" in sys.argv):
+    options = ["--lines", "--clock", "--names"]
+    words = [word for word in sys.argv[1:] if word not in options]
+    asked = [option in sys.argv for option in options]
+    for text in rows_of(words, [open(word, "rb").read() for word in words], *asked):
         print(text)
