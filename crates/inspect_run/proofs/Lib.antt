@@ -6,3 +6,4 @@ pub mod LawLemmas
 pub mod LoggedLemmas
 pub mod MessageLemmas
 pub mod ResultLemmas
+pub mod TextLemmas
