@@ -13,11 +13,11 @@ const G: &[u8] =
 
 /// The rows of `F` and `G`.
 const ROWS: &[u8] =
-    b"lines\tok\t2\t10\t-\tevent lines\nlines\twarn\t3\t10\t-\tnot a JSON object\nlines\twarn\t1\t10\t-\tmissing member\nlines\twarn\t1\t10\t-\twrong kind\nlines\twarn\t1\t10\t-\tunknown command\nbad\twarn\tf\t4\tnot a JSON object\t-\nbad\twarn\tf\t5\tmissing member\tmachine\nbad\twarn\tf\t7\tunknown command\tdo\nbad\twarn\tf\t8\tnot a JSON object\t-\nbad\twarn\tg\t1\tnot a JSON object\t-\nbad\twarn\tg\t3\twrong kind\ttime\ntime\tnote\t3\t1000\t-\tleast and greatest\ntime\tok\t1\t1\t-\tdays\ntime\tok\t0\t1\t-\tno time passes\ntime\tok\t0\t1\t-\tlonger than a day\ntraces\tok\t1\t1\t-\tvalid\nrefused\tok\t0\t1\t-\tslowest twentieth\nmessage\tok\t0\t0\t-\tnever received\nmessage\tok\t0\t0\t-\tnever sent\ncut\tok\t0\t0\t-\tlacks what nine of ten have\nwait\tok\t0\t1\t-\tfrom a send to a receipt\n";
+    b"lines\tok\t2\t10\t-\tevent lines\nlines\twarn\t3\t10\t-\tnot a JSON object\nlines\twarn\t1\t10\t-\tmissing member\nlines\twarn\t1\t10\t-\twrong kind\nlines\twarn\t1\t10\t-\tunknown command\nbad\twarn\tf\t4\tnot a JSON object\t-\nbad\twarn\tf\t5\tmissing member\tmachine\nbad\twarn\tf\t7\tunknown command\tdo\nbad\twarn\tf\t8\tnot a JSON object\t-\nbad\twarn\tg\t1\tnot a JSON object\t-\nbad\twarn\tg\t3\twrong kind\ttime\ntime\tnote\t3\t1000\t-\tleast and greatest\ntime\tok\t1\t1\t-\tdays\ntime\tok\t0\t1\t-\tno time passes\ntime\tok\t0\t1\t-\tlonger than a day\ntraces\tok\t1\t1\t-\tvalid\nrefused\tok\t0\t1\t-\tslowest twentieth\nmessage\tok\t0\t0\t-\tnever received\nmessage\tok\t0\t0\t-\tnever sent\nwait\tok\t0\t1\t-\tfrom a send to a receipt\n";
 
 /// The row of no line at all.
 const NONE: &[u8] =
-    b"lines\twarn\t0\t0\t-\tevent lines\ntime\tok\t0\t0\t-\tleast and greatest\ntime\tok\t0\t0\t-\tdays\ntime\tok\t0\t0\t-\tno time passes\ntime\tok\t0\t0\t-\tlonger than a day\ntraces\tok\t0\t0\t-\tvalid\nrefused\tok\t0\t0\t-\tslowest twentieth\nmessage\tok\t0\t0\t-\tnever received\nmessage\tok\t0\t0\t-\tnever sent\ncut\tok\t0\t0\t-\tlacks what nine of ten have\nwait\tok\t0\t0\t-\tfrom a send to a receipt\n";
+    b"lines\twarn\t0\t0\t-\tevent lines\ntime\tok\t0\t0\t-\tleast and greatest\ntime\tok\t0\t0\t-\tdays\ntime\tok\t0\t0\t-\tno time passes\ntime\tok\t0\t0\t-\tlonger than a day\ntraces\tok\t0\t0\t-\tvalid\nrefused\tok\t0\t0\t-\tslowest twentieth\nmessage\tok\t0\t0\t-\tnever received\nmessage\tok\t0\t0\t-\tnever sent\nwait\tok\t0\t0\t-\tfrom a send to a receipt\n";
 
 #[test]
 fn bad_lines_have_their_file_number_reason_and_member(rt: HostRuntime) -> Result<(), Fail> {

@@ -2,8 +2,6 @@ pub mod CountLemmas
 pub mod EndingLemmas
 pub mod InputLemmas
 pub mod JudgingLemmas
-pub mod LawLemmas
 pub mod LoggedLemmas
 pub mod MessageLemmas
 pub mod ResultLemmas
-pub mod TextLemmas

@@ -5,7 +5,6 @@ use Rattle.std.specs.Prelude.{nat_lt, slice_index_or}
 use Rattle.std.specs.List.{AllZip, flat_map, position, sum_by}
 use Rattle.segment_cut.specs.Cutting.{nanoseconds_per_day}
 use Rattle.trace_types.specs.Batch.{PlainTrace}
-use Rattle.trace_groups.specs.Groups.{counts_cut, counts_grouped}
 use Rattle.trace_quality.specs.Extremes.{AreExtremes}
 use Rattle.trace_quality.specs.Facts.{IsFacts}
 use Rattle.trace_quality.specs.Measures.{counted, counted_of, refusal_text}
@@ -25,11 +24,11 @@ use Rattle.inspect_run.specs.declared.level.Level.{Level}
 use Rattle.inspect_run.specs.declared.level.Level.TheVariants.{Fine, Note, Warn}
 
 -- a part of what each trace counts is added up; the first trace that counts any is at this index
-abbrev pub tally_of : {X : Type 0} → (part whole : X → ℕ) → List X → Tally
-tally_of part whole xs = record {
-  count = sum_by part xs;
-  of = sum_by whole xs;
-  first = position (λ x. nat_lt 0 (part x)) xs;
+abbrev pub tally_of : (part whole : TraceFacts → ℕ) → List TraceFacts → Tally
+tally_of part whole facts = record {
+  count = sum_by part facts;
+  of = sum_by whole facts;
+  first = position (λ f. nat_lt 0 (part f)) facts;
 }
 
 -- the request at this index, or none
@@ -122,14 +121,14 @@ abbrev pub measure_row : (requests : List (List ℕ)) → List TraceFacts → Me
 measure_row requests facts measure =
     tally_row requests measure (tally_of (counted measure) (counted_of measure) facts)
 
--- the measures whose rows stand before that of the slowest traces, and those on messages
+-- the measures whose rows stand before that of the slowest traces, and those behind it
 abbrev pub first_measures : List Measure
 first_measures =
     NoTime ∷ OverADay ∷ Valid ∷ Refused ManyEvents ∷ Refused EventTwice ∷ Refused SentTwice
     ∷ Refused ReceivedTwice ∷ Refused ClockRange ∷ []
 
-abbrev pub message_measures : List Measure
-message_measures = NeverReceived ∷ NeverSent ∷ []
+abbrev pub last_measures : List Measure
+last_measures = NeverReceived ∷ NeverSent ∷ Wait ∷ []
 
 -- the row of the slowest twentieth of the traces: how many of them are refused
 abbrev pub slowest_tally_row : (requests : List (List ℕ)) → (valid slowest : Tally) → List ℕ
@@ -164,32 +163,20 @@ abbrev pub days_row : Option Times → (traces : ℕ) → List ℕ
 days_row times traces =
     row_text (codes "time") Fine (count_days times) traces no_example (codes "days")
 
--- the requests of traces
-abbrev pub requests_in : List PlainTrace → List (List ℕ)
-requests_in traces = map (λ (t : PlainTrace). t.request) traces
-
--- the row of the traces that lack an event that nine of ten of their group have
-abbrev pub cut_tally_row : (requests : List (List ℕ)) → Tally → List ℕ
-cut_tally_row requests t =
-    row_text (codes "cut") (share_level t) t.count t.of (example_at requests t.first)
-    (codes "lacks what nine of ten have")
-
-abbrev pub cut_row : List PlainTrace → List ℕ
-cut_row traces =
-    cut_tally_row (requests_in traces) (tally_of (counts_cut traces) (counts_grouped traces) traces)
-
--- the rows on traces with these facts
-abbrev pub trace_rows : List PlainTrace → List TraceFacts → Option Times → List ℕ
-trace_rows traces facts times =
+-- the rows on traces of these requests and with these facts
+abbrev pub trace_rows : (requests : List (List ℕ)) → List TraceFacts → Option Times → List ℕ
+trace_rows requests facts times =
     times_row times ++ days_row times (length facts)
-    ++ flat_map (measure_row (requests_in traces) facts) first_measures
-    ++ slowest_row (requests_in traces) facts
-    ++ flat_map (measure_row (requests_in traces) facts) message_measures
-    ++ cut_row traces ++ measure_row (requests_in traces) facts Wait
+    ++ flat_map (measure_row requests facts) first_measures ++ slowest_row requests facts
+    ++ flat_map (measure_row requests facts) last_measures
 
 -- these are the least and the greatest time of all events of traces with these facts
 abbrev pub AreTimesOf : List TraceFacts → Option Times → Type 0
 AreTimesOf facts times = MatchOption times (facts ≡ []) (AreExtremes facts)
+
+-- the requests of traces
+abbrev pub requests_in : List PlainTrace → List (List ℕ)
+requests_in traces = map (λ (t : PlainTrace). t.request) traces
 
 -- the rows on traces, by the facts of each
 pub record AreTraceRows (traces : List PlainTrace) (rows : List ℕ) : Type 0 where
@@ -197,4 +184,4 @@ pub record AreTraceRows (traces : List PlainTrace) (rows : List ℕ) : Type 0 wh
   pub found : AllZip IsFacts traces facts
   pub times : Option Times
   pub extremes : AreTimesOf facts times
-  pub printed : rows ≡ trace_rows traces facts times
+  pub printed : rows ≡ trace_rows (requests_in traces) facts times

@@ -4,7 +4,6 @@
 
 mod command_line;
 mod input_reading;
-pub mod laws;
 mod level;
 mod line_counts;
 mod line_rows;

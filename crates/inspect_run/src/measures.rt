@@ -7,7 +7,7 @@ use crate::Level;
 use trace_quality::{Measure, Tally};
 
 /// Gives the level of a share: fine where there is none, a note below one in a hundred.
-pub(crate) fn share_level(tally: Tally) -> Level
+fn share_level(tally: Tally) -> Level
     ensures { result ≡ share_level tally }
 {
     if tally.count == 0 {

@@ -2,24 +2,20 @@ ghost use Rattle.std.specs.Prelude.{◌≡◌, ◌++◌, ◌<◌, ◌^◌, All, 
 ghost use Rattle.std.specs.List.{AllZip, flat_map};
 ghost use Rattle.trace_types.specs.Batch.{PlainTrace};
 ghost use Rattle.trace_types.specs.Times.{AreTimely};
-ghost use Rattle.trace_groups.specs.Groups.{counts_cut, counts_grouped};
 ghost use Rattle.trace_quality.specs.Facts.{IsFacts};
 ghost use Rattle.trace_quality.specs.Slowest.{counts_slow, counts_slow_refused};
 ghost use Rattle.trace_quality.specs.Tallies.{IsTally};
-ghost use Rattle.inspect_run.specs.TraceRows.{count_days, cut_row, days_row, example_at};
-ghost use Rattle.inspect_run.specs.TraceRows.{extremes_row, level_of_times};
+ghost use Rattle.inspect_run.specs.TraceRows.{count_days, days_row, example_at, extremes_row};
+ghost use Rattle.inspect_run.specs.TraceRows.{first_measures, last_measures, level_of_times};
 ghost use Rattle.inspect_run.specs.TraceRows.{measure_row, requests_in, slowest_row};
 ghost use Rattle.inspect_run.specs.TraceRows.{slowest_tally_row, tally_row, times_row, trace_rows};
 ghost use Rattle.inspect_run.specs.inner.Traces.{AppendsFacts, AppendsTraceRows};
 
 use crate::Level;
-use crate::measures::{
-    example_of, is_left_out, kind_of, level_of, share_level, slowest_level, text_of,
-};
+use crate::measures::{example_of, is_left_out, kind_of, level_of, slowest_level, text_of};
 use crate::row::{Row, push_row};
 use event_table::GatheredEvents;
 use std::alloc::{AllocError, Global};
-use trace_groups::tally_cut;
 use trace_quality::{
     Measure, Refusal, Tally, Times, TraceFacts, add_up, find_extremes, find_facts, tally_slowest,
 };
@@ -52,8 +48,8 @@ const FIRST_MEASURES: [Measure; 8] = [
     },
 ];
 
-/// The measures on messages.
-const MESSAGE_MEASURES: [Measure; 2] = [Measure::NeverReceived, Measure::NeverSent];
+/// The measures whose rows stand behind it.
+const LAST_MEASURES: [Measure; 3] = [Measure::NeverReceived, Measure::NeverSent, Measure::Wait];
 
 /// Lends the request of the trace with this index, or `-`.
 fn example_at(traces: &GatheredEvents, index: Option<usize>) -> &str
@@ -168,26 +164,6 @@ fn push_slowest(
     push_slowest_tally(text, traces, add_up(Measure::Valid, facts), slowest)
 }
 
-/// Appends the row of the traces that were cut short.
-fn push_cut(text: &mut Vec<u8>, traces: &GatheredEvents, cut: Tally) -> Result<(), AllocError>
-    requires tally { IsTally (counts_cut traces.now.traces) (counts_grouped traces.now.traces)
-        traces.now.traces cut }
-    requires within { IfSome cut.first (λ i. i < length traces.now.traces) }
-    ensures { OnOk result (text.new.items ≡ text.old.items ++ cut_row traces.now.traces) }
-{
-    push_row(
-        text,
-        Row {
-            kind: "cut",
-            level: share_level(cut),
-            count: cut.count,
-            of: cut.of,
-            example: example_at(traces, cut.first),
-            what: "lacks what nine of ten have",
-        },
-    )
-}
-
 /// Appends the row of these times.
 fn push_extremes(
     text: &mut Vec<u8>,
@@ -271,26 +247,20 @@ fn push_all(
     facts: &[TraceFacts],
     times: Option<Times>,
     slowest: Tally,
-    cut: Tally,
 ) -> Result<(), AllocError>
     requires one { length facts.now ≡ length traces.now.traces }
     requires few { length facts.now < 2 ^ 32 }
-    requires slowest { IsTally (counts_slow_refused facts.now) (counts_slow facts.now) facts.now
+    requires tally { IsTally (counts_slow_refused facts.now) (counts_slow facts.now) facts.now
         slowest }
-    requires slowest_within { IfSome slowest.first (λ i. i < length facts.now) }
-    requires cut { IsTally (counts_cut traces.now.traces) (counts_grouped traces.now.traces)
-        traces.now.traces cut }
-    requires cut_within { IfSome cut.first (λ i. i < length traces.now.traces) }
+    requires within { IfSome slowest.first (λ i. i < length facts.now) }
     ensures { OnOk result (text.new.items
-        ≡ text.old.items ++ trace_rows traces.now.traces facts.now times) }
+        ≡ text.old.items ++ trace_rows (requests_in traces.now.traces) facts.now times) }
 {
     push_times(text, times)?;
     push_days(text, times, facts.len() as u64)?;
     push_measures(text, traces, facts, &FIRST_MEASURES)?;
     push_slowest(text, traces, facts, slowest)?;
-    push_measures(text, traces, facts, &MESSAGE_MEASURES)?;
-    push_cut(text, traces, cut)?;
-    push_measure(text, traces, facts, Measure::Wait)
+    push_measures(text, traces, facts, &LAST_MEASURES)
 }
 
 /// Appends the rows on traces with these facts, whose least and greatest time it finds.
@@ -299,21 +269,17 @@ fn push_facts(
     traces: &GatheredEvents,
     facts: &[TraceFacts],
     slowest: Tally,
-    cut: Tally,
 ) -> Result<(), AllocError>
     requires one { length facts.now ≡ length traces.now.traces }
     requires few { length facts.now < 2 ^ 32 }
-    requires slowest { IsTally (counts_slow_refused facts.now) (counts_slow facts.now) facts.now
+    requires tally { IsTally (counts_slow_refused facts.now) (counts_slow facts.now) facts.now
         slowest }
-    requires slowest_within { IfSome slowest.first (λ i. i < length facts.now) }
-    requires cut { IsTally (counts_cut traces.now.traces) (counts_grouped traces.now.traces)
-        traces.now.traces cut }
-    requires cut_within { IfSome cut.first (λ i. i < length traces.now.traces) }
+    requires within { IfSome slowest.first (λ i. i < length facts.now) }
     ensures { OnOk result (AppendsFacts traces.now.traces facts.now text.old.items
         text.new.items) }
 {
     let times = find_extremes(facts);
-    push_all(text, traces, facts, times, slowest, cut)
+    push_all(text, traces, facts, times, slowest)
 }
 
 /// Appends the rows on traces, whose facts these are.
@@ -329,8 +295,7 @@ fn push_found(
     ensures { OnOk result (AppendsTraceRows traces.now.traces text.old.items text.new.items) }
 {
     let slowest = tally_slowest(alloc, facts)?;
-    let cut = tally_cut(alloc, traces)?;
-    push_facts(text, traces, facts, slowest, cut)
+    push_facts(text, traces, facts, slowest)
 }
 
 /// Finds the facts of traces.

@@ -2,7 +2,7 @@
 use Rattle.std.specs.Prelude.{ℕ, ◌≡◌, ◌++◌, List, Option}
 use Rattle.trace_types.specs.Batch.{PlainTrace}
 use Rattle.trace_quality.specs.declared.trace_facts.TraceFacts.{TraceFacts}
-use Rattle.inspect_run.specs.TraceRows.{AreTimesOf, AreTraceRows, trace_rows}
+use Rattle.inspect_run.specs.TraceRows.{AreTimesOf, AreTraceRows, requests_in, trace_rows}
 use Rattle.trace_quality.specs.declared.times.Times.{Times}
 
 -- the rows of traces with these facts were appended
@@ -10,7 +10,7 @@ pub record AppendsFacts (traces : List PlainTrace) (facts : List TraceFacts) (ol
     : Type 0 where
   pub times : Option Times
   pub extremes : AreTimesOf facts times
-  pub appended : new ≡ old ++ trace_rows traces facts times
+  pub appended : new ≡ old ++ trace_rows (requests_in traces) facts times
 
 -- the rows on traces were appended
 pub record AppendsTraceRows (traces : List PlainTrace) (old new : List ℕ) : Type 0 where
