@@ -54,7 +54,7 @@ pub fn exclusions_are_those_of_all<A, S, N, T, E>()
     ensures { (p : Parts A S N T E) → ExclusionsAreThoseOfAll p }
 {}
 
-/// States that under other names traces have a digest that tells alike.
+/// States that digests of traces and of the same traces under other names tell alike.
 pub fn renamed_traces_tell_alike<A, S, N, T, E, B, X, M, U, F>()
     ensures { (p : Parts A S N T E) (q : Parts B X M U F) → RenamedTellAlike p q }
 {
