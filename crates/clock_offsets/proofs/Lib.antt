@@ -13,3 +13,5 @@ pub mod StartLemmas
 pub mod ChainLemmas
 pub mod NumberChainLemmas
 pub mod ZeroLemmas
+pub mod ClockLemmas
+pub mod ClockUniqueLemmas

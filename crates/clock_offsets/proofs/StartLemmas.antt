@@ -11,7 +11,7 @@ use Rattle.clock_offsets.specs.Machines.{IsReference}
 use Rattle.trace_types.specs.Events.{machines_of, machine_at}
 use Rattle.clock_offsets.specs.Depths.{IsReachedIn, HasDepth}
 use Rattle.clock_offsets.specs.inner.Links.{AreNumbers, IsNumber}
-use Rattle.clock_offsets.specs.inner.Search.{depth_at, AreVisitedTo, IsFrontier, Visits, unvisited, HasOffset, HaveOffsetsTo, AreMachineOffsets}
+use Rattle.clock_offsets.specs.inner.Search.{depth_at, AreVisitedTo, IsFrontier, Visits, unvisited, HasOffset, HaveOffsetsTo, AreMachineOffsets, AreDepths}
 use Rattle.clock_offsets.proofs.SearchLemmas.{option_cases, none_further}
 use Rattle.clock_offsets.proofs.VisitLemmas.{unvisited_set}
 
@@ -141,4 +141,12 @@ offsets_end events numbers k depths offsets n found f s = record {
       (λ (none : depth_at depths v ≡ None). inr (λ j leads. none_further events numbers k depths n found f j v num none leads, s.zero v none))
       (λ (h : (j : ℕ) × (depth_at depths v ≡ Some j)). inl (h.0, (s.right v h.0 h.1 (found.right v h.0 h.1).1).adds))
       (option_cases (depth_at depths v));
+}
+
+-- where the frontier is empty each machine has its depth
+pub depths_end : (events : List Event) (numbers : List ℕ) (k : ℕ) (depths : List (Option ℕ)) → AreNumbers events numbers → AreVisitedTo events numbers k depths → IsFrontier k depths [] → AreDepths events numbers depths
+depths_end events numbers k depths n found f = record {
+  each = found.each;
+  right = λ v j h. let r = found.right v j h in (r.0, r.2);
+  none = λ v num none j leads. none_further events numbers k depths n found f j v num none leads;
 }

@@ -4,5 +4,6 @@ pub mod Depths
 pub mod Offsets
 pub mod Faults
 pub mod FirstEvents
+pub mod MachineClocks
 pub mod NumberPlaces
 pub mod inner

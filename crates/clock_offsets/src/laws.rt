@@ -1,8 +1,20 @@
 //! Laws over the definitions alone: each function does nothing, and its contract is the law.
 ghost use Rattle.std.specs.Prelude.{◌≡◌, ℕ, ℤ, pos, ◌+ℤ◌, ◌≤ℤ◌, List};
 ghost use Rattle.trace_types.specs.declared.event.Event.{Event};
+ghost use Rattle.clock_offsets.specs.declared.machine_clock.MachineClock.{MachineClock};
+ghost use Rattle.clock_offsets.specs.MachineClocks.{AreMachineClocks};
 ghost use Rattle.clock_offsets.specs.Messages.{IsOneWayDelay, IsLeastDelay};
 ghost use Rattle.clock_offsets.specs.Offsets.{IsParent, IsOffset, adjusted_time};
+
+use trace_types::laws::a_list_is_told_in_one_way;
+
+/// States that the clocks of the machines of a trace are told in one way.
+pub fn a_trace_has_its_clocks_in_one_way()
+    ensures { (events : List Event) (a b : List MachineClock) → AreMachineClocks events a
+        → AreMachineClocks events b → a ≡ b }
+{
+    a_list_is_told_in_one_way::<usize>();
+}
 
 /// States that a machine has one offset.
 pub fn a_machine_has_one_offset()

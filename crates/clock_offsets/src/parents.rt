@@ -29,7 +29,7 @@ fn is_before(trace: &RawEvents<'_>, at: usize, other: usize) -> bool
 }
 
 /// Finds the link to the machine of this depth whose name is least in byte order.
-fn find_parent(
+pub(crate) fn find_parent(
     trace: &RawEvents<'_>,
     links: &[Link],
     depths: &[Option<usize>],

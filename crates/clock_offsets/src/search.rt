@@ -1,10 +1,11 @@
 ghost use Rattle.std.specs.Prelude.{◌≡◌, ◌^◌, ◌<◌, IfOk, None, length, replicate};
 ghost use Rattle.clock_offsets.specs.inner.Links.{AreNumbers, AreLinks};
-ghost use Rattle.clock_offsets.specs.inner.Search.{AreMachineOffsets};
+ghost use Rattle.clock_offsets.specs.inner.Search.{AreDepths, AreMachineOffsets};
 
 use crate::frontier::visit_next;
 use crate::link::Link;
 use crate::parents::set_offsets;
+use crate::searched::Searched;
 use event_table::RawEvents;
 use std::alloc::{AllocError, Global};
 
@@ -19,18 +20,21 @@ fn no_depths(alloc: Global, count: usize) -> Result<Vec<Option<usize>>, AllocErr
     Ok(depths)
 }
 
-/// Finds the offset of each machine, by its number, in a breadth-first search from the reference.
+/// Finds the depth and the offset of each machine, by its number, in a breadth-first search from the
+/// reference.
 pub(crate) fn search_offsets(
     alloc: Global,
     trace: &RawEvents<'_>,
     numbers: &[usize],
     links: &[Vec<Link>],
-) -> Result<Vec<i128>, AllocError>
+) -> Result<Searched, AllocError>
     requires few { length trace.now.trace.events < 2 ^ 32 }
     requires numbered { AreNumbers trace.now.trace.events numbers.now }
     requires linked { AreLinks trace.now.trace.events numbers.now links.now }
-    ensures { IfOk result (λ offsets.
-        AreMachineOffsets trace.now.trace.events numbers.now offsets.items) }
+    ensures depths { IfOk result (λ s.
+        AreDepths trace.now.trace.events numbers.now s.depths.items) }
+    ensures offsets { IfOk result (λ s.
+        AreMachineOffsets trace.now.trace.events numbers.now s.offsets.items) }
 {
     let count = trace.len();
     let reference = numbers[0];
@@ -45,5 +49,5 @@ pub(crate) fn search_offsets(
         frontier = next;
         depth += 1;
     }
-    Ok(offsets)
+    Ok(Searched { depths, offsets })
 }

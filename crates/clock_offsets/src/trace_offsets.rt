@@ -55,13 +55,16 @@ fn offsets_by_delays(
         return Ok(each);
     }
     let links = link_machines(alloc, trace, numbers, least)?;
-    let by_number = search_offsets(alloc, trace, numbers, &links)?;
-    spread_to_events(alloc, trace, numbers, &by_number)
+    let found = search_offsets(alloc, trace, numbers, &links)?;
+    spread_to_events(alloc, trace, numbers, &found.offsets)
 }
 
 /// Maps each message to the index of the event that sends it, once it is known that no message is
 /// sent twice or received twice.
-fn index_senders<'a>(alloc: Global, trace: &RawEvents<'a>) -> Result<MessagePlaces<'a>, ClockFault>
+pub(crate) fn index_senders<'a>(
+    alloc: Global,
+    trace: &RawEvents<'a>,
+) -> Result<MessagePlaces<'a>, ClockFault>
     ensures ok { IfOk result (λ m. AreIndices (sends_of trace.now.trace.events)
         (length trace.now.trace.events) m) }
     ensures once { OnOk result (AreMessagesOnce trace.now.trace.events) }

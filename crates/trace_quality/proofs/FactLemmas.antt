@@ -7,7 +7,7 @@ use Rattle.trace_types.specs.Batch.{PlainTrace}
 use Rattle.trace_quality.specs.Facts.{IsFacts}
 use Rattle.trace_quality.specs.declared.trace_facts.TraceFacts.{TraceFacts}
 
-zip_push : {A B : Type 0} (R : A → B → Type 0) (xs : List A) (ys : List B) (x : A) (y : B) → AllZip R xs ys → R x y → AllZip R (xs ++ x ∷ []) (ys ++ y ∷ [])
+pub zip_push : {A B : Type 0} (R : A → B → Type 0) (xs : List A) (ys : List B) (x : A) (y : B) → AllZip R xs ys → R x y → AllZip R (xs ++ x ∷ []) (ys ++ y ∷ [])
 zip_push R [] [] x y h r = (r, tt)
 zip_push R [] (z ∷ ys) x y h r = absurd h
 zip_push R (z ∷ xs) [] x y h r = absurd h

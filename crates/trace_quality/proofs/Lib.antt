@@ -1,3 +1,4 @@
+pub mod ClockLemmas
 pub mod CountLemmas
 pub mod ExtremeLemmas
 pub mod FactLemmas

@@ -7,6 +7,7 @@ use Rattle.trace_types.specs.Events.{receipts_of, sends_of}
 use Rattle.segment_cut.specs.Cutting.{IsCut}
 use Rattle.segment_cut.specs.Faults.{IsTraceFault}
 use Rattle.segment_cut.specs.declared.trace_fault.TraceFault.{TraceFault}
+use Rattle.trace_quality.specs.Clocks.{AreClocks}
 use Rattle.trace_quality.specs.Messages.{count_alone, count_messages}
 use Rattle.trace_quality.specs.Times.{AreTimes}
 use Rattle.trace_quality.specs.Waits.{count_waits}
@@ -37,3 +38,4 @@ pub record IsFacts (t : PlainTrace) (f : TraceFacts) : Type 0 where
   pub times : AreTimes t.events f.times
   pub verdict : IsVerdict t f.verdict
   pub messages : AreMessages t.events f.messages
+  pub clocks : AreClocks t.events f.verdict.fault f.clocks

@@ -1,3 +1,4 @@
+pub mod Clocks
 pub mod Extremes
 pub mod Facts
 pub mod Measures

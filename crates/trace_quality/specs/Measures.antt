@@ -11,6 +11,7 @@ use Rattle.trace_quality.specs.declared.measure.Measure.{Measure}
 use Rattle.trace_quality.specs.declared.measure.Measure.TheVariants.{NoTime, OverADay, Valid}
 use Rattle.trace_quality.specs.declared.measure.Measure.TheVariants.{Refused, NeverReceived}
 use Rattle.trace_quality.specs.declared.measure.Measure.TheVariants.{NeverSent, Wait}
+use Rattle.trace_quality.specs.declared.measure.Measure.TheVariants.{NoOffset, Contradiction}
 use Rattle.trace_quality.specs.declared.refusal.Refusal.{Refusal}
 use Rattle.trace_quality.specs.declared.refusal.Refusal.TheVariants.{ManyEvents, EventTwice}
 use Rattle.trace_quality.specs.declared.refusal.Refusal.TheVariants.{SentTwice, ReceivedTwice}
@@ -40,16 +41,21 @@ counted NoTime f = one_if (span_of f.times == 0)
 counted OverADay f = one_if (nat_lt nanoseconds_per_day (span_of f.times))
 counted Valid f = one_if (is_none f.verdict.fault)
 counted (Refused refusal) f = one_if (is_refused_for refusal f.verdict.fault)
+counted NoOffset f = f.clocks.unreached
+counted Contradiction f = f.clocks.contradicted
 counted NeverReceived f = f.messages.lost
 counted NeverSent f = f.messages.unsent
 counted Wait f = f.verdict.waits
 
--- of how many: the trace itself, its messages that are sent or received, or its segments
+-- of how many: the trace itself, its machines but the reference, those of them that have an offset,
+-- its messages that are sent or received, or its segments
 abbrev pub counted_of : Measure → TraceFacts → ℕ
 counted_of NoTime f = 1
 counted_of OverADay f = 1
 counted_of Valid f = 1
 counted_of (Refused refusal) f = 1
+counted_of NoOffset f = f.clocks.all
+counted_of Contradiction f = f.clocks.reached
 counted_of NeverReceived f = f.messages.sent
 counted_of NeverSent f = f.messages.received
 counted_of Wait f = f.verdict.segments

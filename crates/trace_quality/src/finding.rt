@@ -5,6 +5,7 @@ ghost use Rattle.trace_types.specs.Times.{AreTimely};
 ghost use Rattle.trace_quality.specs.Facts.{IsFacts};
 
 use crate::TraceFacts;
+use crate::clocks::count_clocks;
 use crate::messages::count_messages;
 use crate::times::find_times;
 use crate::verdicts::judge;
@@ -17,10 +18,12 @@ fn facts_of(alloc: Global, raw: &RawEvents<'_>) -> Result<TraceFacts, AllocError
     requires timely { AreTimely raw.now.trace.events }
     ensures { IfOk result (IsFacts raw.now.trace) }
 {
+    let verdict = judge(alloc, raw)?;
     Ok(TraceFacts {
         times: find_times(raw),
-        verdict: judge(alloc, raw)?,
+        verdict,
         messages: count_messages(alloc, raw)?,
+        clocks: count_clocks(alloc, raw, verdict)?,
     })
 }
 

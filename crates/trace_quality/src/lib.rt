@@ -2,6 +2,7 @@
 //! messages have one end alone, and what all traces of a batch count of these.
 #![tactic(auto)]
 
+mod clocks;
 mod extremes;
 mod finding;
 pub mod laws;
@@ -15,6 +16,7 @@ mod trace_facts;
 mod verdicts;
 mod waits;
 
+pub use clocks::{ClockCounts, find_trace_clocks, is_contradicted, is_reached};
 pub use extremes::find_extremes;
 pub use finding::find_facts;
 pub use measure::Measure;

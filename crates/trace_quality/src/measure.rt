@@ -23,6 +23,10 @@ pub enum Measure {
         /// The reason.
         refusal: Refusal,
     },
+    /// Its machines but the reference that have no offset; of all of these.
+    NoOffset,
+    /// Its machines but the reference whose delays contradict each other; of those with an offset.
+    Contradiction,
     /// Its messages that are sent and never received; of those that are sent.
     NeverReceived,
     /// Its messages that are received and never sent; of those that are received.
@@ -83,6 +87,14 @@ pub(crate) fn share_of(measure: Measure, facts: &TraceFacts) -> Share
         Measure::Refused { refusal } => Share {
             count: one_if(is_refused_for(refusal, facts.verdict.fault)),
             of: 1,
+        },
+        Measure::NoOffset => Share {
+            count: facts.clocks.unreached,
+            of: facts.clocks.all,
+        },
+        Measure::Contradiction => Share {
+            count: facts.clocks.contradicted,
+            of: facts.clocks.reached,
         },
         Measure::NeverReceived => Share {
             count: facts.messages.lost,

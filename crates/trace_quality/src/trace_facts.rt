@@ -1,4 +1,4 @@
-use crate::{MessageCounts, Times, Verdict};
+use crate::{ClockCounts, MessageCounts, Times, Verdict};
 
 /// What a trace tells of the quality of the input.
 #[derive(Clone, Copy, Debug, PartialEq, Eq)]
@@ -9,4 +9,6 @@ pub struct TraceFacts {
     pub verdict: Verdict,
     /// Its messages.
     pub messages: MessageCounts,
+    /// The clocks of its machines.
+    pub clocks: ClockCounts,
 }

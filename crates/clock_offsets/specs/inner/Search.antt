@@ -7,7 +7,7 @@ use Rattle.trace_types.specs.declared.event.Event.{Event}
 use Rattle.trace_types.specs.Events.{machine_at}
 use Rattle.clock_offsets.specs.declared.link.Link.{Link}
 use Rattle.clock_offsets.specs.Machines.{IsNotAfter}
-use Rattle.clock_offsets.specs.Depths.{IsReachedIn, HasDepth}
+use Rattle.clock_offsets.specs.Depths.{IsReachedIn, HasDepth, IsUnreachable}
 use Rattle.clock_offsets.specs.Offsets.{IsOffsetAtDepth, IsOffset}
 use Rattle.clock_offsets.specs.inner.Links.{IsNumber, links_at}
 
@@ -23,6 +23,15 @@ pub record AreVisitedTo (events : List Event) (numbers : List ℕ) (k : ℕ)
       × HasDepth events j (machine_at events v)
   pub all : (v j : ℕ) → IsNumber numbers v → depth_at depths v ≡ None → j ≤ k
       → IsReachedIn events j (machine_at events v) → ⊥
+
+-- each machine has its depth, where a path of pairings goes to it
+pub record AreDepths (events : List Event) (numbers : List ℕ) (depths : List (Option ℕ))
+    : Type 0 where
+  pub each : length depths ≡ length events
+  pub right : (v j : ℕ) → depth_at depths v ≡ Some j → IsNumber numbers v
+      × HasDepth events j (machine_at events v)
+  pub none : (v : ℕ) → IsNumber numbers v → depth_at depths v ≡ None
+      → IsUnreachable events (machine_at events v)
 
 -- the frontier has the machines of depth k
 pub record IsFrontier (k : ℕ) (depths : List (Option ℕ)) (frontier : List ℕ) : Type 0 where

@@ -1,4 +1,4 @@
-use Rattle.std.proofs.Common.{◌≡◌, ℕ, suc, ◌+◌, ◌<◌, ◌≤◌, pos, Option, Some, List, [], ◌++◌, length, vec_len, get_or, take, drop, replicate, sym, ap, ◌∙◌, subst, arith, add-one, refl, eqb, false, ⊎_elim}
+use Rattle.std.proofs.Common.{◌≡◌, ℕ, suc, ◌+◌, ◌<◌, ◌≤◌, pos, Option, Some, List, [], ◌++◌, length, vec_len, get_or, take, drop, replicate, sym, ap, ◌∙◌, subst, arith, add-one, refl, eqb, true, false, ⊎_elim}
 use Rattle.std.proofs.lemmas.List.{take_at, nil_from_length}
 use Rattle.std.proofs.lemmas.Bool.{cases_lt, false≢true}
 use Rattle.std.proofs.lemmas.Bool.Decides.{Decides-eqb}
@@ -6,7 +6,7 @@ use Rattle.std.proofs.lemmas.List.Elements.{Contains-get_or}
 use Rattle.clock_offsets.specs.inner.Search.{AreVisitedTo, IsFrontier, Visits, FrontierLinksTo, HaveOffsetsTo, depth_at, unvisited}
 use Rattle.clock_offsets.proofs.SearchLemmas.{visited_further}
 use Rattle.clock_offsets.proofs.ParentLemmas.{frontier_below, links_below}
-use Rattle.clock_offsets.proofs.StartLemmas.{visited_start, frontier_start, offsets_start, unvisited_start, offsets_kept, offsets_end}
+use Rattle.clock_offsets.proofs.StartLemmas.{visited_start, frontier_start, offsets_start, unvisited_start, offsets_kept, offsets_end, depths_end}
 use Rattle.clock_offsets.proofs.search.search_offsets.Goals as goal
 
 -- what a loan writes back, where it kept the length
@@ -91,8 +91,18 @@ outward-preserved c =
       rising = λ more. omega arith;
     })
 
-pub returns : goal.returns
-returns c =
-    let empty : c.outward.frontier.items ≡ [] = nil_from_length c.outward.frontier.items (omega (arith, c.outward.frontier.ok.0, (Decides-eqb (vec_len c.outward.frontier) 0).0 (sym c.is_empty.ensures ∙ c.outward-test.false))) in
+-- the loop ends where the frontier is empty
+none_left : (n : ℕ) (xs : List ℕ) → n ≡ length xs → eqb n 0 ≡ true → xs ≡ []
+none_left n xs len zero = let none : n ≡ 0 = (Decides-eqb n 0).0 zero in nil_from_length xs (omega arith)
+
+pub returns-clause-depths : goal.returns-clause-depths
+returns-clause-depths c =
+    let empty : c.outward.frontier.items ≡ [] = none_left (vec_len c.outward.frontier) c.outward.frontier.items c.outward.frontier.ok.0 (sym c.is_empty.ensures ∙ c.outward-test.false) in
+    depths_end c.args.trace.now.trace.events c.args.numbers.now c.outward.depth c.outward.depths.items c.requires.numbered c.outward.invariant.visited
+    (subst (λ (vs : List ℕ). IsFrontier c.outward.depth c.outward.depths.items vs) empty c.outward.invariant.frontier)
+
+pub returns-clause-offsets : goal.returns-clause-offsets
+returns-clause-offsets c =
+    let empty : c.outward.frontier.items ≡ [] = none_left (vec_len c.outward.frontier) c.outward.frontier.items c.outward.frontier.ok.0 (sym c.is_empty.ensures ∙ c.outward-test.false) in
     offsets_end c.args.trace.now.trace.events c.args.numbers.now c.outward.depth c.outward.depths.items c.outward.offsets.items c.requires.numbered c.outward.invariant.visited
     (subst (λ (vs : List ℕ). IsFrontier c.outward.depth c.outward.depths.items vs) empty c.outward.invariant.frontier) c.outward.invariant.offsets
