@@ -98,6 +98,30 @@ explain_whatif() {
     fi
 }
 
+# Says which option of `evidence` was not understood.
+explain_evidence() {
+    local seen=
+    while [[ ${1-} =~ ^--(least|reduced)$ ]]; do
+        if [[ " $seen " = *" $1 "* ]]; then
+            say "'$1' stands twice"
+            return
+        fi
+        seen+=" $1"
+        if [ "$1" = --least ]; then
+            if (($# < 2)); then
+                say "--least needs a whole number from 1 to 2147483647 after it"
+                return
+            elif ! is_number "$2" 1 2147483647; then
+                say "'$2' was not understood: --least takes a whole number from 1 to 2147483647, in plain digits"
+                return
+            fi
+            shift
+        fi
+        shift
+    done
+    return 1
+}
+
 # Says which argument of `drill` was not understood.
 explain_drill() {
     if (($# != 2)); then
@@ -145,9 +169,10 @@ explain_usage() {
         explain_option "$1"
     elif [ "$1" = drill ]; then
         explain_drill "${@:2}"
-    elif ! places_of "$1"; then
+    elif ! places_of "$@"; then
         explain_command "$1"
-    elif [ "$1" != whatif ] || ! explain_whatif "${@:2}"; then
+    elif { [ "$1" != whatif ] || ! explain_whatif "${@:2}"; } &&
+        { [ "$1" != evidence ] || ! explain_evidence "${@:2}"; }; then
         explain_files "$@"
     fi
     say "options of the program stand before the command, its own right after it, before its files"
@@ -213,7 +238,7 @@ explain_first_line() {
 # Says in which file the bad line is, and what to do with a file of another form.
 explain_line() {
     local number reason found line form='^line ([0-9]+): ([^'$'\n'']*)'
-    [[ $message =~ $form ]] && places_of "$command" || return 0
+    [[ $message =~ $form ]] && places_of "${words[@]}" || return 0
     number=${BASH_REMATCH[1]} reason=${BASH_REMATCH[2]}
     if [ "$reason" = 'bad certificate' ]; then
         find_line "$number" "${words[1]}" || return 0
@@ -242,7 +267,7 @@ reason_of() {
 # Says which file could not be read, and why.
 explain_file() {
     local name form='^file ([0-9]+): '
-    [[ $message =~ $form ]] && places_of "$command" || return 0
+    [[ $message =~ $form ]] && places_of "${words[@]}" || return 0
     name=${words[BASH_REMATCH[1] + first_file]}
     printf '(%s: %s)\n' "$(shown_name "$name")" "$(reason_of "$name")" >&2
     if [[ $name = -* ]]; then

@@ -7,7 +7,7 @@ use Rattle.std.proofs.lemmas.List.Kept.{AllPairs-cons}
 use Rattle.event_lines.specs.declared.command.Command.{Command}
 use Rattle.event_lines.specs.declared.command.Command.TheVariants as commands
 use Rattle.session_rules.specs.declared.job.Job.{Job}
-use Rattle.session_rules.specs.declared.job.Job.TheVariants.{Add, Control, Summary, WhatIf, Tail, Why, Verify}
+use Rattle.session_rules.specs.declared.job.Job.TheVariants.{Add, Control, Summary, WhatIf, Tail, Why, Verify, Evidence}
 use Rattle.session_rules.specs.KeptTraces.{Kept, day_of, greater_days, is_of_day, traces_on, with_taken}
 use Rattle.session_rules.specs.Parts.{Part}
 use Rattle.session_rules.specs.Sessions.{State, Commands, Does, Leads, first_state, graced}
@@ -175,6 +175,7 @@ done workers past (WhatIf change) s parts next h does = plain past (WhatIf chang
 done workers past Tail s parts next h does = plain past Tail s next h refl (λ k. refl) (ap kept_in does.0)
 done workers past Why s parts next h does = plain past Why s next h refl (λ k. refl) (ap kept_in does.0)
 done workers past (Verify claims) s parts next h does = plain past (Verify claims) s next h refl (λ k. refl) (ap kept_in does.0)
+done workers past (Evidence choice) s parts next h does = plain past (Evidence choice) s next h refl (λ k. refl) (ap kept_in does.0)
 
 -- ---- jobs one after another
 -- the jobs of a session that goes on from this state, after earlier ones

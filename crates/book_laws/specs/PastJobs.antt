@@ -9,7 +9,7 @@ use Rattle.trace_types.specs.declared.trace.Trace.{Trace}
 use Rattle.trace_types.specs.Batch.{traces_of}
 use Rattle.session_rules.specs.declared.job.Job.{Job}
 use Rattle.session_rules.specs.declared.job.Job.TheVariants.{Add, Control, Summary, WhatIf, Tail}
-use Rattle.session_rules.specs.declared.job.Job.TheVariants.{Why, Verify}
+use Rattle.session_rules.specs.declared.job.Job.TheVariants.{Why, Verify, Evidence}
 use Rattle.session_rules.specs.declared.refused.Refused.{Refused}
 use Rattle.session_rules.specs.Batches.{AreJudged}
 use Rattle.session_rules.specs.KeptTraces.{Kept, day_of, greater_days, traces_on}
@@ -32,6 +32,7 @@ Takes (WhatIf change) s took = took ≡ []
 Takes Tail s took = took ≡ []
 Takes Why s took = took ≡ []
 Takes (Verify claims) s took = took ≡ []
+Takes (Evidence choice) s took = took ≡ []
 
 -- the command drops this day, where these are the traces that are kept just before: it names the
 -- day, or keeps no more days than there are greater ones among them
@@ -56,6 +57,7 @@ job_drops (WhatIf change) kept day = false
 job_drops Tail kept day = false
 job_drops Why kept day = false
 job_drops (Verify claims) kept day = false
+job_drops (Evidence choice) kept day = false
 
 -- one of these jobs drops this day
 abbrev pub is_dropped_by : List PastJob → ℕ → Bool

@@ -33,6 +33,7 @@ events_in (jobs.WhatIf change) = []
 events_in jobs.Tail = []
 events_in jobs.Why = []
 events_in (jobs.Verify claims) = []
+events_in (jobs.Evidence choice) = []
 
 -- they are good
 abbrev IsGoodJob : Job → Type 0
@@ -88,6 +89,7 @@ done n workers (jobs.WhatIf change) s next parts h good does = stay n (n + 0) s.
 done n workers jobs.Tail s next parts h good does = stay n (n + 0) s.kept next.kept h (ap (λ (t : State). t.kept) does.0) (omega arith)
 done n workers jobs.Why s next parts h good does = stay n (n + 0) s.kept next.kept h (ap (λ (t : State). t.kept) does.0) (omega arith)
 done n workers (jobs.Verify claims) s next parts h good does = stay n (n + 0) s.kept next.kept h (ap (λ (t : State). t.kept) does.0) (omega arith)
+done n workers (jobs.Evidence choice) s next parts h good does = stay n (n + 0) s.kept next.kept h (ap (λ (t : State). t.kept) does.0) (omega arith)
 
 -- ---- all jobs
 
@@ -174,6 +176,7 @@ no_add_empty (jobs.WhatIf change) h = refl
 no_add_empty jobs.Tail h = refl
 no_add_empty jobs.Why h = refl
 no_add_empty (jobs.Verify claims) h = refl
+no_add_empty (jobs.Evidence choice) h = refl
 
 no_add_good : (job : Job) → IsNoAdd job → IsGoodJob job
 no_add_good job h = subst (All IsGoodEvent) (sym (no_add_empty job h)) (All-nil IsGoodEvent)

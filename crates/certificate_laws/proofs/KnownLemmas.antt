@@ -142,6 +142,7 @@ done workers (jobs.WhatIf change) s next parts h does = stays s next h does.0
 done workers jobs.Tail s next parts h does = stays s next h does.0
 done workers jobs.Why s next parts h does = stays s next h does.0
 done workers (jobs.Verify claims) s next parts h does = stays s next h does.0
+done workers (jobs.Evidence choice) s next parts h does = stays s next h does.0
 
 led_knowing : (workers : ℕ) (all : List Job) (s last : State) (parts : List Part) → IsKnowing s → Leads workers all s parts last → IsKnowing last
 led_knowing workers [] s last parts h led = stays s last h led.1

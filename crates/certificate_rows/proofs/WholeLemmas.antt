@@ -31,8 +31,8 @@ use Rattle.trace_types.proofs.ElementLemmas.{map_twice}
 use Rattle.trace_types.proofs.ZipLemmas.{zip_length}
 use Rattle.certificate_rows.specs.declared.kind.Kind.{Kind}
 use Rattle.certificate_rows.specs.declared.kind.Kind.TheVariants.{Before, Exclusive, Pipe}
-use Rattle.certificate_rows.specs.inner.Numbered.{kind_count, kind_rows, numbered_name, numbered_task}
-use Rattle.certificate_rows.specs.inner.Orders.{name_number_cmp, task_number_cmp}
+use Rattle.certificate_rows.specs.inner.Numbered.{kind_count, kind_rows}
+use Rattle.certificate_rows.specs.Orders.{name_number_cmp, numbered_name, numbered_task, task_number_cmp}
 use Rattle.certificate_rows.specs.inner.Pairs.{pairs_of, refuted_pairs, refuter_between}
 use Rattle.certificate_rows.specs.inner.Sources.{HasRefuters}
 use Rattle.certificate_rows.specs.inner.Wholes.{certificate_text, refuted_count, refuted_rows}

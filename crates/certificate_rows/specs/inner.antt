@@ -1,7 +1,6 @@
 -- What private contracts alone cite.
 pub mod ClaimsShown
 pub mod Numbered
-pub mod Orders
 pub mod Pairs
 pub mod Sources
 pub mod Wholes

@@ -13,4 +13,5 @@ mod source;
 mod verdict_printing;
 
 pub use certificate_printing::print_certificate;
+pub use numbers::{names_in_order, tasks_in_order};
 pub use verdict_printing::print_verdicts;

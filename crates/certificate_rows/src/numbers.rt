@@ -1,5 +1,5 @@
 ghost use Rattle.std.specs.Prelude.{◌≡◌, ◌<◌, ◌≤◌, IfOk, length, map};
-ghost use Rattle.certificate_rows.specs.inner.Orders.{name_number_cmp, task_number_cmp};
+ghost use Rattle.certificate_rows.specs.Orders.{name_number_cmp, task_number_cmp};
 ghost use Rattle.trace_types.specs.Listing.{ListsExactly};
 
 use segment_names::Catalogue;
@@ -14,7 +14,7 @@ fn numbers_in<T>(alloc: Global, entries: &[(&T, u32)]) -> Result<Vec<u32>, Alloc
 
 /// Lists the numbers of a catalogue's names in name order. No text is copied. The only error is out
 /// of memory.
-pub(crate) fn names_in_order(alloc: Global, catalogue: &Catalogue) -> Result<Vec<u32>, AllocError>
+pub fn names_in_order(alloc: Global, catalogue: &Catalogue) -> Result<Vec<u32>, AllocError>
     ensures listed { IfOk result (λ numbers. ListsExactly (name_number_cmp catalogue.now)
         (λ n. n < length catalogue.now.names) numbers.items) }
     ensures few { IfOk result (λ numbers. length numbers.items ≤ 512) }
@@ -29,7 +29,7 @@ pub(crate) fn names_in_order(alloc: Global, catalogue: &Catalogue) -> Result<Vec
 }
 
 /// Lists the numbers of a catalogue's tasks in the order of their texts, as `names_in_order` does.
-pub(crate) fn tasks_in_order(alloc: Global, catalogue: &Catalogue) -> Result<Vec<u32>, AllocError>
+pub fn tasks_in_order(alloc: Global, catalogue: &Catalogue) -> Result<Vec<u32>, AllocError>
     ensures listed { IfOk result (λ numbers. ListsExactly (task_number_cmp catalogue.now)
         (λ n. n < length catalogue.now.tasks) numbers.items) }
     ensures few { IfOk result (λ numbers. length numbers.items ≤ 512) }

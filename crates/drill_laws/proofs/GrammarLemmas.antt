@@ -4,7 +4,8 @@ use Rattle.std.specs.Prelude.{IfSome, if◌then◌else◌, nat_lt, nat_le, optio
 use Rattle.std.specs.Int.{is_in_range}
 use Rattle.std.specs.Str.{bytes_eq}
 use Rattle.std.proofs.lemmas.Bool.{and_parts, leb-true}
-use Rattle.mystery_run.specs.CommandLines.{Action, Call, action_of_words, action_over, call_of, call_of_words, call_with, change_of_words, drill, drill_of_words, is_filled, named_action, named_view, one_file, replay, session, some_files, tail, verify, verify_of_words, view, what_if, what_if_of_words, why}
+use Rattle.mystery_run.specs.CommandLines.{Action, Call, action_of_words, action_over, call_of, call_of_words, call_with, change_of_words, drill, drill_of_words, evidence, evidence_of_words, evidence_over, evidence_reduced, evidence_with_least, is_filled, is_option, named_action, named_view, one_file, replay, session, some_files, tail, verify, verify_of_words, view, what_if, what_if_of_words, why, with_least}
+use Rattle.evidence_rules.specs.declared.choice.Choice.{Choice}
 use Rattle.mystery_run.specs.CommandLines.{number_between}
 use Rattle.step_core.specs.Numbers.{plain_number}
 
@@ -16,6 +17,7 @@ IsFew (what_if change files) = Unit {0}
 IsFew (tail files) = Unit {0}
 IsFew (why files) = Unit {0}
 IsFew (verify file files) = Unit {0}
+IsFew (evidence choice files) = Unit {0}
 IsFew (drill number traces) = traces ≤ 20000
 IsFew (replay file) = Unit {0}
 
@@ -60,6 +62,28 @@ verify_few : (words : List (List ℕ)) → Few (verify_of_words words)
 verify_few [] = tt
 verify_few (file ∷ files) = few_if (is_filled file) (option_map (verify file) (some_files files)) None (few_map (verify file) (λ x. tt) (some_files files)) tt
 
+evidence_over_few : (choice : Choice) (words : List (List ℕ)) → Few (evidence_over choice words)
+evidence_over_few choice [] = tt
+evidence_over_few choice (file ∷ files) = few_if (is_option file) None (option_map (evidence choice) (some_files (file ∷ files))) tt (few_map (evidence choice) (λ x. tt) (some_files (file ∷ files)))
+
+least_few : (rest : ℕ → List (List ℕ) → Option Action) → ((n : ℕ) (words : List (List ℕ)) → Few (rest n words)) → (words : List (List ℕ)) → Few (with_least rest words)
+least_few rest each [] = tt
+least_few rest each (number ∷ words) = few_then (λ n. rest n words) (λ n. each n words) (number_between 1 2147483647 number)
+
+with_least_few : (least : ℕ) (words : List (List ℕ)) → Few (evidence_with_least least words)
+with_least_few least [] = tt
+with_least_few least (word ∷ words) = few_if (bytes_eq word (codes "--reduced")) _ _ (evidence_over_few _ words) (evidence_over_few _ (word ∷ words))
+
+reduced_few : (words : List (List ℕ)) → Few (evidence_reduced words)
+reduced_few [] = tt
+reduced_few (word ∷ words) = few_if (bytes_eq word (codes "--least")) _ _ (least_few _ (λ n more. evidence_over_few _ more) words) (evidence_over_few _ (word ∷ words))
+
+evidence_few : (words : List (List ℕ)) → Few (evidence_of_words words)
+evidence_few [] = tt
+evidence_few (word ∷ words) =
+    few_if (bytes_eq word (codes "--least")) _ _ (least_few evidence_with_least with_least_few words) (
+    few_if (bytes_eq word (codes "--reduced")) _ _ (reduced_few words) (evidence_over_few _ (word ∷ words)))
+
 over_few : (name : List ℕ) (words : List (List ℕ)) → Few (action_over name words)
 over_few name words =
     few_if (bytes_eq name (codes "session")) _ _ (few_map session (λ x. tt) (some_files words)) (
@@ -72,7 +96,8 @@ named_few : (name : List ℕ) (words : List (List ℕ)) → Few (named_action na
 named_few name words =
     few_if (bytes_eq name (codes "whatif")) _ _ (what_if_few words) (
     few_if (bytes_eq name (codes "verify")) _ _ (verify_few words) (
-    few_if (bytes_eq name (codes "drill")) _ _ (drill_few words) (over_few name words)))
+    few_if (bytes_eq name (codes "evidence")) _ _ (evidence_few words) (
+    few_if (bytes_eq name (codes "drill")) _ _ (drill_few words) (over_few name words))))
 
 action_few : (words : List (List ℕ)) → Few (action_of_words words)
 action_few [] = tt

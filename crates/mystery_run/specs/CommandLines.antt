@@ -1,21 +1,24 @@
 -- The grammar of the arguments: `[--workers N] COMMAND`, where COMMAND is `session FILE...`, a view
 -- as `model FILE...`, `whatif TASK START END NUM DEN FILE...`, `tail FILE...`, `why FILE...`,
--- `verify CERT FILE...`, `drill NUMBER TRACES` or `replay FILE`.
-use Rattle.std.specs.Prelude.{ℕ, ◌^◌, ◌==◌, List, [], ◌∷◌, ◌++◌, length, codes, not, nat_lt, Bool}
-use Rattle.std.specs.Prelude.{if◌then◌else◌, Option, Some, None, is_some, option_map}
-use Rattle.std.specs.Prelude.{option_and_then}
+-- `verify CERT FILE...`, `evidence [--least N] [--reduced] FILE...`, `drill NUMBER TRACES` or
+-- `replay FILE`. The two options of `evidence` stand in either order.
+use Rattle.std.specs.Prelude.{ℕ, ◌^◌, ◌==◌, ◌||◌, List, [], ◌∷◌, ◌++◌, length, codes, not, nat_lt}
+use Rattle.std.specs.Prelude.{Bool, true, false, if◌then◌else◌, Option, Some, None, is_some}
+use Rattle.std.specs.Prelude.{option_and_then, option_map}
 use Rattle.std.specs.Option.{option_map_or}
 use Rattle.std.specs.Int.{is_in_range}
 use Rattle.std.specs.List.{list_all}
 use Rattle.std.specs.Str.{bytes_eq}
+use Rattle.evidence_rules.specs.declared.choice.Choice.{Choice}
 use Rattle.mystery_run.specs.declared.view.View.{View}
 use Rattle.mystery_run.specs.declared.view.View.TheVariants.{Model, Paths, Slack, Report, Graph}
 use Rattle.session_rules.specs.declared.named_change.NamedChange.{NamedChange}
 use Rattle.step_core.specs.Numbers.{plain_number}
 
 -- what is asked for: the control lines of these files; these and then a view, a forecast, the
--- report on the slowest traces, a certificate, or the check of the certificate in another file; a
--- summary of so many traces that are drawn from a number; or the replay of a file of steps
+-- report on the slowest traces, a certificate, the check of the certificate in another file, or the
+-- evidence of relations; a summary of so many traces that are drawn from a number; or the replay of
+-- a file of steps
 pub data Action : Type 0 where
   session : List (List ℕ) → Action
   view : View → List (List ℕ) → Action
@@ -23,6 +26,7 @@ pub data Action : Type 0 where
   tail : List (List ℕ) → Action
   why : List (List ℕ) → Action
   verify : List ℕ → List (List ℕ) → Action
+  evidence : Choice → List (List ℕ) → Action
   drill : ℕ → ℕ → Action
   replay : List ℕ → Action
 
@@ -84,6 +88,47 @@ verify_of_words [] = None
 verify_of_words (file ∷ files) =
     if is_filled file then option_map (verify file) (some_files files) else None
 
+-- the word is an option of `evidence`
+abbrev pub is_option : List ℕ → Bool
+is_option word = bytes_eq word (codes "--least") || bytes_eq word (codes "--reduced")
+
+-- the evidence of these files, so much of it as is chosen. Each option is given at most once, so
+-- the first file is none
+abbrev pub evidence_over : Choice → List (List ℕ) → Option Action
+evidence_over choice [] = None
+evidence_over choice (file ∷ files) =
+    if is_option file then None else option_map (evidence choice) (some_files (file ∷ files))
+
+-- what comes of a number of traces, from 1 to 2,147,483,647, and of the arguments after it
+abbrev pub with_least : (ℕ → List (List ℕ) → Option Action) → List (List ℕ) → Option Action
+with_least rest [] = None
+with_least rest (number ∷ words) =
+    option_and_then (λ n. rest n words) (number_between 1 2147483647 number)
+
+-- the evidence of relations that so many traces support: `--reduced`, or not, and files
+abbrev pub evidence_with_least : ℕ → List (List ℕ) → Option Action
+evidence_with_least least [] = None
+evidence_with_least least (word ∷ words) =
+    if bytes_eq word (codes "--reduced")
+    then evidence_over (record { least = least; reduced = true }) words
+    else evidence_over (record { least = least; reduced = false }) (word ∷ words)
+
+-- the evidence without implied orders: `--least N`, or any support, and files
+abbrev pub evidence_reduced : List (List ℕ) → Option Action
+evidence_reduced [] = None
+evidence_reduced (word ∷ words) =
+    if bytes_eq word (codes "--least")
+    then with_least (λ n. evidence_over (record { least = n; reduced = true })) words
+    else evidence_over (record { least = 1; reduced = true }) (word ∷ words)
+
+-- the evidence that these arguments ask for: `--least N`, `--reduced`, both or neither, and files
+abbrev pub evidence_of_words : List (List ℕ) → Option Action
+evidence_of_words [] = None
+evidence_of_words (word ∷ words) =
+    if bytes_eq word (codes "--least") then with_least evidence_with_least words else (
+    if bytes_eq word (codes "--reduced") then evidence_reduced words else
+    evidence_over (record { least = 1; reduced = false }) (word ∷ words))
+
 -- a drill: a number from 0 to 2,147,483,647, and from 1 to 20,000 traces
 abbrev pub drill_of_words : List (List ℕ) → Option Action
 drill_of_words (number ∷ traces ∷ []) =
@@ -105,7 +150,8 @@ abbrev pub named_action : List ℕ → List (List ℕ) → Option Action
 named_action name words =
     if bytes_eq name (codes "whatif") then what_if_of_words words else (
     if bytes_eq name (codes "verify") then verify_of_words words else (
-    if bytes_eq name (codes "drill") then drill_of_words words else action_over name words))
+    if bytes_eq name (codes "evidence") then evidence_of_words words else (
+    if bytes_eq name (codes "drill") then drill_of_words words else action_over name words)))
 
 -- what these arguments ask for: a command and its arguments
 abbrev pub action_of_words : List (List ℕ) → Option Action
@@ -142,6 +188,7 @@ files_of_action (what_if change files) = files
 files_of_action (tail files) = files
 files_of_action (why files) = files
 files_of_action (verify file files) = files
+files_of_action (evidence choice files) = files
 files_of_action (drill number traces) = []
 files_of_action (replay file) = file ∷ []
 

@@ -12,14 +12,15 @@ use Rattle.event_lines.specs.InputLines.{LineFault, lines_said}
 use Rattle.session_rules.specs.Jobs.{jobs_of}
 use Rattle.session_rules.specs.declared.job.Job.{Job}
 use Rattle.session_rules.specs.declared.job.Job.TheVariants.{Control, Summary, WhatIf, Tail}
-use Rattle.session_rules.specs.declared.job.Job.TheVariants.{Why, Verify}
+use Rattle.session_rules.specs.declared.job.Job.TheVariants.{Why, Verify, Evidence}
 use Rattle.step_core.specs.declared.step_file.StepFile.{StepFile}
 use Rattle.step_core.specs.StepFiles.{file_said}
 use Rattle.mystery_run.specs.declared.reason.Reason.{Reason}
 use Rattle.mystery_run.specs.declared.reason.Reason.TheVariants as reasons
 use Rattle.mystery_run.specs.declared.view.View.{View}
 use Rattle.mystery_run.specs.declared.view.View.TheVariants.{Model, Paths, Slack, Report, Graph}
-use Rattle.mystery_run.specs.CommandLines.{Action, view, what_if, tail, why, verify, drill, replay}
+use Rattle.mystery_run.specs.CommandLines.{Action, view, what_if, tail, why, verify, evidence}
+use Rattle.mystery_run.specs.CommandLines.{drill, replay}
 
 -- jobs that a session carries out, or a file of steps that is replayed
 pub data Work : Type 0 where
@@ -47,6 +48,7 @@ last_job (what_if change files) claims = Some (WhatIf change)
 last_job (tail files) claims = Some Tail
 last_job (why files) claims = Some Why
 last_job (verify file files) claims = Some (Verify claims)
+last_job (evidence choice files) claims = Some (Evidence choice)
 last_job (drill number traces) claims = Some Summary
 last_job action claims = None
 

@@ -6,6 +6,7 @@ ghost use Rattle.mystery_run.specs.inner.Inputs.{form_of_action};
 use crate::change_words::ChangeWords;
 use crate::input_form::InputForm;
 use crate::view::View;
+use evidence_rules::Choice;
 use std::slice;
 use trace_types::Text;
 
@@ -41,6 +42,11 @@ pub(crate) enum Action<'w> {
         certificate: &'w Text,
         files: &'w [Text],
     },
+    /// Carry out the control lines of these files, and then print what stands behind relations.
+    Evidence {
+        choice: Choice,
+        files: &'w [Text],
+    },
     /// Make the events of so many traces by draws from this number, add them, and print their
     /// summary.
     Drill {
@@ -65,6 +71,7 @@ impl<'w> Action<'w> {
             Action::Tail { files } => files,
             Action::Why { files } => files,
             Action::Verify { files, .. } => files,
+            Action::Evidence { files, .. } => files,
             Action::Drill { .. } => &[],
             Action::Replay { file } => slice::from_ref(file),
         }

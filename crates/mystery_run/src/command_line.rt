@@ -9,6 +9,7 @@ ghost use Rattle.mystery_run.specs.inner.ParsedLines.{action_of, call_of_line};
 
 use crate::action::Action;
 use crate::change_words::ChangeWords;
+use crate::evidence_words::find_evidence;
 use crate::numbers::number_between;
 use crate::view::View;
 use trace_types::Text;
@@ -35,7 +36,7 @@ pub(crate) struct CommandLine<'w> {
 }
 
 /// Tells whether all arguments may be files.
-fn are_files(words: &[Text]) -> bool
+pub(crate) fn are_files(words: &[Text]) -> bool
     ensures { result ≡ list_all is_filled words.now }
 {
     words.iter().all(|word| !word.as_str().is_empty())
@@ -120,6 +121,7 @@ fn find_named<'w>(name: &str, words: &'w [Text]) -> Option<Action<'w>>
     match name {
         "whatif" => find_forecast(words),
         "verify" => find_check(words),
+        "evidence" => find_evidence(words),
         "drill" => find_drill(words),
         _ => find_over_files(name, words),
     }
@@ -140,8 +142,8 @@ fn find_action(words: &[Text]) -> Option<Action<'_>>
 impl<'w> CommandLine<'w> {
     /// Reads the arguments `[--workers N] COMMAND`, where COMMAND is `session FILE...`, a view as
     /// `model FILE...`, `whatif TASK START END NUM DEN FILE...`, `tail FILE...`, `why FILE...`,
-    /// `verify CERT FILE...`, `drill NUMBER TRACES` or `replay FILE`; `None` if they are outside
-    /// the grammar.
+    /// `verify CERT FILE...`, `evidence [--least N] [--reduced] FILE...`, `drill NUMBER TRACES` or
+    /// `replay FILE`; `None` if they are outside the grammar.
     pub(crate) fn parse(words: &'w [Text]) -> Option<CommandLine<'w>>
         ensures call { option_map call_of_line result ≡ call_of words.now }
         ensures workers { IfSome result (λ line. 0 < line.workers) }

@@ -7,6 +7,7 @@ mod certificate;
 mod change_words;
 mod command_line;
 mod drill;
+mod evidence_words;
 mod forecast;
 mod hex;
 mod input;

@@ -75,6 +75,10 @@ fn perform_with<R: Threads + Sync, S: Sink, G: Gate + Sync>(
             let last = Job::Verify { claims };
             run_session(rt, alloc, workers, Some(last), input, out, gate)
         }
+        Action::Evidence { choice, .. } => {
+            let last = Job::Evidence { choice };
+            run_session(rt, alloc, workers, Some(last), input, out, gate)
+        }
         Action::Drill { number, traces } => {
             run_drill(rt, alloc, workers, number, traces, out, gate)
         }

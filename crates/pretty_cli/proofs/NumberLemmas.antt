@@ -1,5 +1,5 @@
 -- Numbers and figures as they are read.
-use Rattle.std.proofs.Common.{◌≡◌, ℕ, ◌<◌, ◌+◌, ◌^◌, List, [], ◌∷◌, if◌then◌else◌, Bool, true, false, not, ◌&&◌, ◌==◌, nat_lt, length, drop, Some, None, refl, sym, ap, ◌∙◌, subst, arith}
+use Rattle.std.proofs.Common.{◌≡◌, ℕ, ◌<◌, ◌+◌, ◌^◌, List, [], ◌∷◌, if◌then◌else◌, Bool, true, false, not, ◌&&◌, ◌==◌, codes, nat_lt, length, drop, Some, None, refl, sym, ap, ◌∙◌, subst, arith}
 use Rattle.std.proofs.lemmas.Bool.{and_parts}
 use Rattle.std.proofs.lemmas.Bool.Decides.{nat_tests}
 use Rattle.std.proofs.lemmas.Str.Pattern.{starts_text}
@@ -10,6 +10,8 @@ use Rattle.std.specs.Str.Parse.{AllDigits, IsNumeral, digits_value, without_lead
 use Rattle.std.specs.Str.Pattern.{FindsTextPrefix}
 use Rattle.std.specs.Prelude.{nat_eq}
 use Rattle.pretty_cli.specs.Fields.{figure_of, number_of}
+use Rattle.pretty_cli.specs.Relations.{gap_cell}
+use Rattle.pretty_cli.specs.declared.cell.Cell.TheVariants.{Difference, Time}
 
 digit_test : (c : ℕ) → digit_value c < 10 → is_ascii_digit c ≡ true
 digit_test c h = grind (arith, nat_tests)
@@ -58,3 +60,12 @@ figure_is name s x h =
 
 pub figure_is_most : (name s : List ℕ) → FindsTextPrefix name s None → 18446744073709551615 ≡ figure_of name s
 figure_is_most name s h = rw (← starts_text false name s h) refl
+
+-- a gap with a sign, and one without
+pub gap_is : (s x : List ℕ) → ((n : ℕ) × FindsTextPrefix (codes "-") s (Some n) × (x ≡ drop n s) × (length x + n ≡ length s)) → Difference 0 (number_of x) ≡ gap_cell s
+gap_is s x h =
+    let parts = strip_some (codes "-") s x h in
+    rw (parts.0, ← parts.1) refl
+
+pub gap_is_time : (s : List ℕ) → FindsTextPrefix (codes "-") s None → Time (number_of s) ≡ gap_cell s
+gap_is_time s h = rw (← starts_text false (codes "-") s h) refl

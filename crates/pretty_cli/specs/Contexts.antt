@@ -18,6 +18,7 @@ header_view word =
     else if bytes_eq word (codes "slack") then Some views.Slack
     else if bytes_eq word (codes "tail") then Some views.Tail
     else if bytes_eq word (codes "whatif") then Some views.WhatIf
+    else if bytes_eq word (codes "evidence") then Some views.Evidence
     else None
 
 -- what a row that begins with this word is in a view
@@ -33,6 +34,11 @@ kind_of views.Slack word =
     else if bytes_eq word (codes "trace") then kinds.Trace else kinds.Other
 kind_of views.Tail word = if bytes_eq word (codes "segment") then kinds.Segment else kinds.Other
 kind_of views.WhatIf word = if bytes_eq word (codes "forecast") then kinds.Forecast else kinds.Other
+kind_of views.Evidence word =
+    if bytes_eq word (codes "hb") then kinds.Order
+    else if bytes_eq word (codes "mx") then kinds.Exclusion
+    else if bytes_eq word (codes "pipe") then kinds.Pipe
+    else if bytes_eq word (codes "nearly") then kinds.Nearly else kinds.Other
 kind_of views.Other word = kinds.Other
 
 -- before the first row
@@ -84,6 +90,10 @@ at_row c kinds.Segment fields = record c { kind = kinds.Segment }
 at_row c kinds.Trace fields = at_trace c fields
 at_row c kinds.Step fields = record c { kind = kinds.Step }
 at_row c kinds.Forecast fields = record c { kind = kinds.Forecast }
+at_row c kinds.Order fields = record c { kind = kinds.Order }
+at_row c kinds.Exclusion fields = record c { kind = kinds.Exclusion }
+at_row c kinds.Pipe fields = record c { kind = kinds.Pipe }
+at_row c kinds.Nearly fields = record c { kind = kinds.Nearly }
 at_row c kinds.Other fields =
     record c { view = views.Other; kind = kinds.Other; section = one_more c.section }
 

@@ -4,6 +4,7 @@ pub mod Durations
 pub mod Fields
 pub mod Lines
 pub mod Orders
+pub mod Relations
 pub mod Shown
 pub mod Texts
 pub mod Titles

@@ -1,10 +1,11 @@
 -- Lines in columns, and where they are cut.
 use Rattle.std.specs.Prelude.{ℕ, ◌≡◌, ◌≤◌, ◌<◌, ◌-◌, ◌/◌, ◌++◌, [], List, false, chars, codes}
-use Rattle.std.specs.Prelude.{encode_utf8, replicate, take}
+use Rattle.std.specs.Prelude.{decimal, encode_utf8, replicate, take}
 use Rattle.std.specs.List.{flat_map}
 use Rattle.unicode_width.specs.Width.{str_width}
 use Rattle.pretty_cli.specs.declared.cell.Cell.{Cell}
-use Rattle.pretty_cli.specs.declared.cell.Cell.TheVariants.{Absent, Empty, Time, Difference, Share}
+use Rattle.pretty_cli.specs.declared.cell.Cell.TheVariants.{Absent, Empty, Count, Time, Difference}
+use Rattle.pretty_cli.specs.declared.cell.Cell.TheVariants.{Share}
 use Rattle.pretty_cli.specs.Durations.{difference_text, duration_text, share_text}
 
 -- how many columns of a terminal a text takes
@@ -15,6 +16,7 @@ width_of text = str_width false (chars text)
 abbrev pub cell_text : Cell → List ℕ
 cell_text Absent = []
 cell_text Empty = []
+cell_text (Count number) = decimal number
 cell_text (Time nanos) = duration_text nanos
 cell_text (Difference first second) = difference_text first second
 cell_text (Share part total) = share_text part total

@@ -11,6 +11,9 @@ use Rattle.pretty_cli.specs.declared.context.View.TheVariants as views
 use Rattle.pretty_cli.specs.Dates.{IsDateText}
 use Rattle.pretty_cli.specs.Durations.{duration_text}
 use Rattle.pretty_cli.specs.Fields.{field_at, figure_of, number_at}
+use Rattle.pretty_cli.specs.Relations.{arrow, counts_text, exclusion_cells, exclusion_text}
+use Rattle.pretty_cli.specs.Relations.{nearly_text, order_cells, order_text, pipe_text}
+use Rattle.pretty_cli.specs.Relations.{support_cells, support_place}
 
 -- a duration in a field
 abbrev pub time_at : List (List ℕ) → ℕ → Cell
@@ -60,11 +63,11 @@ cells_of c kinds.Trace fields = trace_cells c.view fields
 cells_of c kinds.Step fields =
     time_at fields 4 ∷ Share (number_at fields 4) c.total ∷ Empty ∷ Absent ∷ []
 cells_of c kinds.Forecast fields = forecast_cells fields
+cells_of c kinds.Order fields = order_cells fields
+cells_of c kinds.Exclusion fields = exclusion_cells fields
+cells_of c kinds.Pipe fields = support_cells fields 3
+cells_of c kinds.Nearly fields = support_cells fields (support_place fields)
 cells_of c _ fields = Absent ∷ Absent ∷ Absent ∷ Absent ∷ []
-
--- an arrow in UTF-8, between spaces
-abbrev pub arrow : List ℕ
-arrow = 32 ∷ 226 ∷ 134 ∷ 146 ∷ 32 ∷ []
 
 -- the name of a segment: `task: start → end`
 abbrev pub name_text : List (List ℕ) → List ℕ
@@ -94,6 +97,7 @@ header_text views.Tail fields = traces_text fields ++ codes ", slow: "
 header_text views.WhatIf fields = traces_text fields ++ codes ", critical paths: "
     ++ header_time (codes "before=") (field_at fields 2) ++ codes " together, then "
     ++ header_time (codes "after=") (field_at fields 3)
+header_text views.Evidence fields = traces_text fields ++ counts_text fields
 header_text _ fields = traces_text fields ++ codes ", the slowest first"
 
 -- what the latencies of a report tell
@@ -120,4 +124,8 @@ IsLabel c kinds.Segment fields text = text ≡ segment_text c.view fields
 IsLabel c kinds.Trace fields text = IsRequestText fields text
 IsLabel c kinds.Step fields text = text ≡ name_text fields
 IsLabel c kinds.Forecast fields text = IsRequestText fields text
+IsLabel c kinds.Order fields text = text ≡ order_text fields
+IsLabel c kinds.Exclusion fields text = text ≡ exclusion_text fields
+IsLabel c kinds.Pipe fields text = text ≡ pipe_text fields
+IsLabel c kinds.Nearly fields text = text ≡ nearly_text fields
 IsLabel c kinds.Other fields text = text ≡ []

@@ -20,6 +20,7 @@ title_columns views.Paths = codes " on path     share   latency  "
 title_columns views.Slack = codes "   slack     lasts   latency  "
 title_columns views.Tail = codes "   apart      slow    others  "
 title_columns views.WhatIf = codes "    gain     share    before     after  "
+title_columns views.Evidence = codes "  traces     least  greatest  "
 title_columns views.Other = []
 
 -- what the labels of a view are
@@ -29,6 +30,7 @@ legend views.Paths = codes "trace, and its critical path"
 legend views.Slack = codes "trace, and its segments"
 legend views.Tail = codes "segment, on the path of a slow trace and of another"
 legend views.WhatIf = codes "trace, and its critical path"
+legend views.Evidence = codes "relation, and the gaps between its sides"
 legend views.Other = []
 
 -- the line of titles: those of the columns that a line of so many has, ten wide each, and the legend

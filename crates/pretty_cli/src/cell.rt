@@ -11,6 +11,8 @@ pub(crate) enum Cell {
     Absent,
     /// Nothing.
     Empty,
+    /// A number.
+    Count(u64),
     /// A duration in nanoseconds.
     Time(u64),
     /// The first duration less the second.
@@ -25,6 +27,7 @@ pub(crate) fn cell_text(alloc: Global, cell: Cell) -> Result<String, AllocError>
 {
     match cell {
         Cell::Absent | Cell::Empty => Ok(String::new(alloc)),
+        Cell::Count(number) => format!(in alloc; "{number}"),
         Cell::Time(nanos) => duration_text(alloc, nanos),
         Cell::Difference(first, second) => difference_text(alloc, first, second),
         Cell::Share(part, total) => share_text(alloc, part, total),

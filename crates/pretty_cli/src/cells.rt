@@ -6,6 +6,7 @@ ghost use Rattle.pretty_cli.specs.Shown.{segment_cells, tail_cells, trace_cells}
 use crate::cell::Cell;
 use crate::context::{Context, Kind, View};
 use crate::fields::number_at;
+use crate::relation_cells::{exclusion_cells, order_cells, support_cells, support_place};
 
 /// Divides a sum among so many, or gives all of it to none.
 pub(crate) fn each_of(sum: u64, count: u64) -> u64
@@ -100,6 +101,10 @@ pub(crate) fn cells_of(context: Context, fields: &[&str]) -> [Cell; 4]
             ]
         }
         Kind::Forecast => forecast_cells(fields),
+        Kind::Order => order_cells(fields),
+        Kind::Exclusion => exclusion_cells(fields),
+        Kind::Pipe => support_cells(fields, 3),
+        Kind::Nearly => support_cells(fields, support_place(fields)),
         _ => [Cell::Absent; 4],
     }
 }

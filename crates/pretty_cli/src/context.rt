@@ -18,6 +18,8 @@ pub(crate) enum View {
     Tail,
     /// The critical paths before and after a change.
     WhatIf,
+    /// What stands behind relations.
+    Evidence,
     /// Any other rows.
     Other,
 }
@@ -37,6 +39,14 @@ pub(crate) enum Kind {
     Step,
     /// The critical path of a trace before and after a change.
     Forecast,
+    /// Two names of which the first happens before the second.
+    Order,
+    /// Two names that are mutually exclusive.
+    Exclusion,
+    /// Two tasks that are a pipeline.
+    Pipe,
+    /// A relation that few traces refute.
+    Nearly,
     /// A row of another kind.
     Other,
 }
@@ -72,6 +82,7 @@ fn header_view(word: &str) -> Option<View>
         "slack" => Some(View::Slack),
         "tail" => Some(View::Tail),
         "whatif" => Some(View::WhatIf),
+        "evidence" => Some(View::Evidence),
         _ => None,
     }
 }
@@ -86,6 +97,10 @@ fn kind_of(view: View, word: &str) -> Kind
         (View::Paths, "path") | (View::Slack, "trace") => Kind::Trace,
         (View::Paths, "step") => Kind::Step,
         (View::WhatIf, "forecast") => Kind::Forecast,
+        (View::Evidence, "hb") => Kind::Order,
+        (View::Evidence, "mx") => Kind::Exclusion,
+        (View::Evidence, "pipe") => Kind::Pipe,
+        (View::Evidence, "nearly") => Kind::Nearly,
         _ => Kind::Other,
     }
 }

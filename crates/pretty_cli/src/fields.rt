@@ -30,7 +30,7 @@ pub(crate) fn field<'t>(fields: &[&'t str], index: usize) -> &'t str
 }
 
 /// Reads a number; what is none below 2^64 counts as 2^64 - 1.
-fn number_of(text: &str) -> u64
+pub(crate) fn number_of(text: &str) -> u64
     ensures { result ≡ number_of text.now }
 {
     match text.parse::<u64>() {

@@ -1,5 +1,6 @@
 ghost use Rattle.std.specs.Prelude.{◌≡◌, ◌++◌, IfOk, OnOk, codes, decimal, string_bytes};
 ghost use Rattle.pretty_cli.specs.Fields.{field_at, figure_of, texts_of};
+ghost use Rattle.pretty_cli.specs.Relations.{counts_text};
 ghost use Rattle.pretty_cli.specs.Shown.{header_text, header_time, traces_text};
 
 use crate::context::View;
@@ -69,6 +70,33 @@ fn push_forecast(alloc: Global, text: &mut String, fields: &[&str]) -> Result<()
     push_time(alloc, text, fields, 3, "after=")
 }
 
+/// Appends a text and the number that a header has in this field behind a name.
+fn push_count(
+    text: &mut String,
+    fields: &[&str],
+    index: usize,
+    name: &str,
+    said: &str,
+) -> Result<(), AllocError>
+    ensures { OnOk result (string_bytes text.new ≡ string_bytes text.old ++ said.now
+        ++ decimal (figure_of name.now (field_at (texts_of fields.now) index))) }
+{
+    let count = figure(fields, index, name);
+    text.push_str(said)?;
+    write!(text, "{count}")
+}
+
+/// Appends what the header of `evidence` tells behind its traces.
+fn push_counts(text: &mut String, fields: &[&str]) -> Result<(), AllocError>
+    ensures { OnOk result
+        (string_bytes text.new ≡ string_bytes text.old ++ counts_text (texts_of fields.now)) }
+{
+    push_count(text, fields, 2, "hb=", ", before: ")?;
+    push_count(text, fields, 3, "mx=", ", exclusive: ")?;
+    push_count(text, fields, 4, "pipe=", ", pipe: ")?;
+    push_count(text, fields, 5, "nearly=", ", nearly: ")
+}
+
 /// Writes what a header tells.
 pub(crate) fn header_text(alloc: Global, view: View, fields: &[&str]) -> Result<String, AllocError>
     ensures { IfOk result (λ text. string_bytes text ≡ header_text view (texts_of fields.now)) }
@@ -78,6 +106,7 @@ pub(crate) fn header_text(alloc: Global, view: View, fields: &[&str]) -> Result<
         View::Report => push_report(alloc, &mut text, fields)?,
         View::Tail => push_tail(alloc, &mut text, fields)?,
         View::WhatIf => push_forecast(alloc, &mut text, fields)?,
+        View::Evidence => push_counts(&mut text, fields)?,
         _ => text.push_str(", the slowest first")?,
     }
     Ok(text)

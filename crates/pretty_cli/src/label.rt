@@ -8,6 +8,7 @@ use crate::dates::push_date;
 use crate::durations::push_duration;
 use crate::fields::{field, number_at};
 use crate::header::header_text;
+use crate::relation_label::{exclusion_text, nearly_text, order_text, pipe_text};
 use std::alloc::{AllocError, Global};
 
 /// Writes the name of a segment, whose three texts begin at the second field.
@@ -76,6 +77,10 @@ pub(crate) fn label_text(
         Kind::Segment => segment_text(alloc, context.view, fields),
         Kind::Trace | Kind::Forecast => request_text(alloc, fields),
         Kind::Step => name_text(alloc, fields),
+        Kind::Order => order_text(alloc, fields),
+        Kind::Exclusion => exclusion_text(alloc, fields),
+        Kind::Pipe => pipe_text(alloc, fields),
+        Kind::Nearly => nearly_text(alloc, fields),
         Kind::Other => Ok(String::new(alloc)),
     }
 }

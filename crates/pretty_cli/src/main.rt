@@ -16,6 +16,8 @@ mod label;
 mod line;
 mod place;
 mod printing;
+mod relation_cells;
+mod relation_label;
 mod row;
 mod titles;
 

@@ -29,6 +29,7 @@ fn title_columns(view: View) -> &'static str
         View::Slack => "   slack     lasts   latency  ",
         View::Tail => "   apart      slow    others  ",
         View::WhatIf => "    gain     share    before     after  ",
+        View::Evidence => "  traces     least  greatest  ",
         View::Other => "",
     }
 }
@@ -43,6 +44,7 @@ fn legend(view: View) -> &'static str
         View::Slack => "trace, and its segments",
         View::Tail => "segment, on the path of a slow trace and of another",
         View::WhatIf => "trace, and its critical path",
+        View::Evidence => "relation, and the gaps between its sides",
         View::Other => "",
     }
 }

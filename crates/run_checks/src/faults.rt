@@ -31,7 +31,7 @@ fn blank_input_has_the_empty_model(rt: HostRuntime) -> Result<(), Fail> {
     Ok(())
 }
 
-const OUTSIDE_THE_GRAMMAR: [&[&str]; 53] = [
+const OUTSIDE_THE_GRAMMAR: [&[&str]; 63] = [
     &[],
     &[""],
     &["model"],
@@ -73,6 +73,16 @@ const OUTSIDE_THE_GRAMMAR: [&[&str]; 53] = [
     &["verify", "", "f"],
     &["verify", "f", ""],
     &["verify", "f", "g", ""],
+    &["evidence"],
+    &["evidence", "f", ""],
+    &["evidence", "--reduced"],
+    &["evidence", "--least"],
+    &["evidence", "--least", "f"],
+    &["evidence", "--least", "0", "f"],
+    &["evidence", "--least", "02", "f"],
+    &["evidence", "--least", "2147483648", "f"],
+    &["evidence", "--least", "2", "--least", "2", "f"],
+    &["evidence", "--reduced", "--reduced", "f"],
     &["drill"],
     &["drill", "1"],
     &["drill", "1", "0"],

@@ -11,6 +11,8 @@ mod certificate_runs;
 #[cfg(test)]
 mod drills;
 #[cfg(test)]
+mod evidence;
+#[cfg(test)]
 mod fault_tables;
 #[cfg(test)]
 mod faults;

@@ -11,6 +11,7 @@ use book_laws::laws::names_are_listed;
 use certificate_rows::laws::{claims_have_verdicts, refutations_are_listed};
 use certificate_rows::{print_certificate, print_verdicts};
 use event_lines::Command;
+use evidence_printing::print_evidence;
 use mystery_io::Sink;
 use session_rules::SessionPart;
 use std::thread::Threads;
@@ -100,6 +101,9 @@ impl Session {
             Job::Tail => print_tail(&workers, self.alloc, &self.book, sink, buffer),
             Job::Why => print_certificate(self.alloc, &self.book, sink, buffer),
             Job::Verify { claims } => print_verdicts(&self.book, claims.items(), sink, buffer),
+            Job::Evidence { choice } => {
+                print_evidence(self.alloc, &self.book, choice, sink, buffer)
+            }
         }
     }
 }

@@ -3,7 +3,7 @@
 //! out all in order. An add cuts a batch of events into traces, names them, records them by many
 //! workers and adds their days to the book, all or none; the other jobs drop days, set a number or
 //! print what the kept traces leave: their model, their paths, slacks and graphs, reports on them,
-//! forecasts, and certificates and their check.
+//! forecasts, certificates and their check, and the evidence of relations.
 #![tactic(auto)]
 
 mod add_fault;

@@ -23,7 +23,7 @@ use Rattle.session_rules.specs.Refutations.{AreRefutations, IsVerdict, RefutesMa
 use Rattle.session_rules.specs.ReportTexts.{AreKeptNames}
 use Rattle.session_rules.specs.Sessions.{Adds, Does, Passes, PassesLimitOf, State, graced, report_parts, state_after, tail_parts, verify_parts, watch_parts, why_parts}
 use Rattle.session_rules.specs.declared.job.Job.{Job}
-use Rattle.session_rules.specs.declared.job.Job.TheVariants.{Add, Control, Summary, WhatIf, Tail, Why, Verify}
+use Rattle.session_rules.specs.declared.job.Job.TheVariants.{Add, Control, Summary, WhatIf, Tail, Why, Verify, Evidence}
 use Rattle.session_rules.specs.declared.limit.Limit.{Limit}
 use Rattle.session_rules.specs.declared.limit.Limit.TheVariants.{Names, Tasks, Days}
 use Rattle.session_rules.specs.declared.refused.Refused.{Refused}
@@ -169,6 +169,7 @@ module _ (verdict : OneVerdict) where
   no_limit w Tail s next parts limit h k = absurd k
   no_limit w Why s next parts limit h k = absurd k
   no_limit w (Verify claims) s next parts limit h k = absurd k
+  no_limit w (Evidence choice) s next parts limit h k = absurd k
 
   -- a job passes one limit
   pub one_limit : (job : Job) (s : State) (l m : Limit) → Passes job s l → Passes job s m → l ≡ m
@@ -181,6 +182,7 @@ module _ (verdict : OneVerdict) where
   one_limit Tail s l m h k = absurd h
   one_limit Why s l m h k = absurd h
   one_limit (Verify claims) s l m h k = absurd h
+  one_limit (Evidence choice) s l m h k = absurd h
 
   module _ (told : OneListing) where
     adds_one : (w : ℕ) (events : List Event) (s next other : State) (parts others : List Part) → Adds w events s parts next → Adds w events s others other → (parts ≡ others) × (next ≡ other)
@@ -220,3 +222,4 @@ module _ (verdict : OneVerdict) where
     does_one w Tail s next other parts others h k = (h.1.2 ∙ ap (tail_parts s.kept) (names_one s.kept h.1.0 k.1.0 h.1.1 k.1.1) ∙ sym k.1.2, h.0 ∙ sym k.0)
     does_one w Why s next other parts others h k = (h.1.2 ∙ ap (why_parts s.kept) (refutations_one told s.kept h.1.0 k.1.0 h.1.1 k.1.1) ∙ sym k.1.2, h.0 ∙ sym k.0)
     does_one w (Verify claims) s next other parts others h k = (h.1.2 ∙ ap (verify_parts claims) (verdicts_one s.kept claims h.1.0 k.1.0 h.1.1 k.1.1) ∙ sym k.1.2, h.0 ∙ sym k.0)
+    does_one w (Evidence choice) s next other parts others h k = (h.1 ∙ sym k.1, h.0 ∙ sym k.0)

@@ -1,5 +1,7 @@
 pub mod CertificateTextLemmas
 pub mod EndingLemmas
+pub mod EvidenceRowLemmas
+pub mod EvidenceTextLemmas
 pub mod ForecastTextLemmas
 pub mod JobLemmas
 pub mod PartLemmas

@@ -6,7 +6,7 @@ use Rattle.std.specs.Ordering.{nat_cmp}
 use Rattle.trace_rules.specs.Pipes.{IsPipeline}
 use Rattle.session_rules.specs.KeptTraces.{Kept, SurvivesIn, by_kept, day_of}
 use Rattle.session_rules.specs.ModelTexts.{AreModelFigures, Figures, IsModelHead, IsModelText, header_row, model_text}
-use Rattle.session_rules.specs.Parts.{AreWatchRows, Part, IsPart, Refusals, Watched, Dropped, KeptNewest, ModelOf, Header, PathOf, SlacksOf, GraphOf, ModelHead, ReportHead, LatenciesOf, SegmentOf, TailHead, TailOf, ForecastHead, ForecastOf, WhyHead, RefutedOf, Verdict, Verified}
+use Rattle.session_rules.specs.Parts.{AreWatchRows, Part, IsPart, Refusals, Watched, Dropped, KeptNewest, ModelOf, Header, PathOf, SlacksOf, GraphOf, ModelHead, ReportHead, LatenciesOf, SegmentOf, TailHead, TailOf, ForecastHead, ForecastOf, WhyHead, RefutedOf, Verdict, Verified, EvidenceOf}
 use Rattle.trace_paths.specs.PathLaws.{PathsAreOne}
 use Rattle.text_rows.specs.TextsOfParts.{AreTexts}
 use Rattle.trace_graph.specs.GraphLaws.{HasOneGraph}
@@ -18,6 +18,7 @@ use Rattle.trace_types.specs.Segments.{SegmentName, name_of, task_of}
 use Rattle.session_laws.specs.WatchLaws.{AreAlikeByPart, AreSameRows, IsAlike}
 use Rattle.session_laws.proofs.JobLemmas.{OneRisingList, one_listed}
 use Rattle.session_laws.proofs.CertificateTextLemmas.{refuted_one}
+use Rattle.session_laws.proofs.EvidenceTextLemmas.{OneEvidence, evidence_one}
 use Rattle.session_laws.proofs.ForecastTextLemmas.{forecast_head_one, forecast_row_one}
 use Rattle.session_laws.proofs.ReportTextLemmas.{latencies_one, report_head_one, segment_one, tail_head_one, tail_one}
 use Rattle.session_laws.proofs.TraceTextLemmas.{graph_one, path_one, slacks_one}
@@ -38,6 +39,7 @@ pub record OneTelling : Type 0 where
   pub task_order : IsTotalOrder (pair_cmp (slice_cmp nat_cmp))
   pub graphs : (kept : List Kept) → HasOneGraph by_kept (SurvivesIn kept)
   pub paths : (kept : List Kept) → PathsAreOne by_kept (SurvivesIn kept)
+  pub evidence : OneEvidence
 
 watch_one : (every workers day : ℕ) (traces : List Kept) (t u : List ℕ) → AreWatchRows every workers day traces t → AreWatchRows every workers day traces u → AreSameRows day t u
 watch_one every workers day traces t u h k = record { lines = h.lines; others = k.lines; text_is = h.text; other_is = k.text; marks = h.are.marks ∙ sym k.are.marks }
@@ -98,6 +100,7 @@ module _ (told : OneTelling) where
   part_one (RefutedOf kept matter) t u h k = refuted_one kept matter t u h k
   part_one (Verdict verdict line) t u h k = h ∙ sym k
   part_one (Verified shown claims) t u h k = h ∙ sym k
+  part_one (EvidenceOf choice kept) t u h k = evidence_one told.evidence choice kept t u h k
 
   pub parts_one : (parts : List Part) (t u : List ℕ) → AreTexts IsPart parts t → AreTexts IsPart parts u → AreAlikeByPart parts t u
   parts_one [] t u h k = (h, k)

@@ -5,7 +5,7 @@ use Rattle.session_rules.specs.Parts.{Part, IsPart, watch_row}
 use Rattle.session_rules.specs.Parts.{Refusals, Watched, Dropped, KeptNewest, ModelOf, Header}
 use Rattle.session_rules.specs.Parts.{PathOf, SlacksOf, GraphOf, ModelHead, ReportHead}
 use Rattle.session_rules.specs.Parts.{LatenciesOf, SegmentOf, TailHead, TailOf, ForecastHead}
-use Rattle.session_rules.specs.Parts.{ForecastOf, WhyHead, RefutedOf, Verdict, Verified}
+use Rattle.session_rules.specs.Parts.{ForecastOf, WhyHead, RefutedOf, Verdict, Verified, EvidenceOf}
 use Rattle.text_rows.specs.TextsOfParts.{AreTexts}
 use Rattle.trace_rules.specs.declared.watch_line.WatchLine.{WatchLine}
 use Rattle.session_laws.specs.EndingLaws.{AreAlike}
@@ -46,6 +46,7 @@ IsAlike (WhyHead traces refuted) text other = text ≡ other
 IsAlike (RefutedOf kept matter) text other = text ≡ other
 IsAlike (Verdict verdict line) text other = text ≡ other
 IsAlike (Verified shown claims) text other = text ≡ other
+IsAlike (EvidenceOf choice kept) text other = text ≡ other
 
 -- two texts are alike part by part
 abbrev pub AreAlikeByPart : List Part → List ℕ → List ℕ → Type 0

@@ -65,6 +65,7 @@ pub fn only_watch_numbers_differ()
     a_list_is_told_in_one_way::<Text>();
     a_list_is_told_in_one_way::<(NameText, NameText)>();
     a_list_is_told_in_one_way::<(Text, Text)>();
+    a_list_is_told_in_one_way::<(u32, u32)>();
     names_are_totally_ordered::<NameText>();
     names_are_totally_ordered::<Text>();
     a_trace_has_one_graph::<KeptTrace, Segment, NameText, Text, Text>();

@@ -7,7 +7,7 @@ use Rattle.event_lines.specs.declared.line.Line.TheVariants as lines
 use Rattle.trace_types.specs.declared.event.Event as events
 use Rattle.session_rules.specs.declared.job.Job.{Job}
 use Rattle.session_rules.specs.declared.job.Job.TheVariants.{Add, Control, Summary, WhatIf, Tail}
-use Rattle.session_rules.specs.declared.job.Job.TheVariants.{Why, Verify}
+use Rattle.session_rules.specs.declared.job.Job.TheVariants.{Why, Verify, Evidence}
 
 -- the job of a command, where these events came since the last add: an add takes them, and each other
 -- command is a job of its own
@@ -41,3 +41,4 @@ IsNoAdd (WhatIf change) = ⊤
 IsNoAdd Tail = ⊤
 IsNoAdd Why = ⊤
 IsNoAdd (Verify claims) = ⊤
+IsNoAdd (Evidence choice) = ⊤

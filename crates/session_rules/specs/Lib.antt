@@ -1,5 +1,6 @@
 pub mod Batches
 pub mod CertificateTexts
+pub mod EvidenceTexts
 pub mod ForecastTexts
 pub mod JobTexts
 pub mod Jobs

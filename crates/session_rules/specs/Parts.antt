@@ -8,7 +8,9 @@ use Rattle.trace_rules.specs.declared.watch_line.WatchLine.{WatchLine}
 use Rattle.trace_types.specs.Segments.{SegmentName}
 use Rattle.session_rules.specs.declared.named_change.NamedChange.{NamedChange}
 use Rattle.session_rules.specs.declared.refused.Refused.{Refused}
+use Rattle.evidence_rules.specs.declared.choice.Choice.{Choice}
 use Rattle.session_rules.specs.CertificateTexts.{IsRefutedText, verdict_row, why_row}
+use Rattle.session_rules.specs.EvidenceTexts.{IsEvidenceText}
 use Rattle.session_rules.specs.ForecastTexts.{IsForecastHead, IsForecastText}
 use Rattle.session_rules.specs.KeptTraces.{Kept, SurvivesIn, by_kept}
 use Rattle.session_rules.specs.ModelTexts.{IsModelHead, IsModelText}
@@ -53,6 +55,8 @@ pub data Part : Type 0 where
   -- of its check: whether the claim of a line is shown; how many are, and how many there are
   Verdict : Bool → ℕ → Part
   Verified : ℕ → ℕ → Part
+  -- what stands behind the relations that the kept traces leave, so much of it as is chosen
+  EvidenceOf : Choice → List Kept → Part
 
 -- `refused`, the request, the reason and its number
 abbrev pub refused_row : Refused → List ℕ
@@ -104,3 +108,4 @@ IsPart (WhyHead traces refuted) bytes = bytes ≡ why_row traces refuted
 IsPart (RefutedOf kept matter) bytes = IsRefutedText kept matter bytes
 IsPart (Verdict verdict line) bytes = bytes ≡ verdict_row verdict line
 IsPart (Verified shown claims) bytes = bytes ≡ count_row (codes "verified") shown claims
+IsPart (EvidenceOf choice kept) bytes = IsEvidenceText choice kept bytes

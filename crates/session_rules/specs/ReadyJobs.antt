@@ -6,7 +6,7 @@ use Rattle.trace_types.specs.Batch.{requests_of}
 use Rattle.trace_types.specs.Times.{AreTimely}
 use Rattle.session_rules.specs.declared.job.Job.{Job}
 use Rattle.session_rules.specs.declared.job.Job.TheVariants.{Add, Control, Summary, WhatIf, Tail}
-use Rattle.session_rules.specs.declared.job.Job.TheVariants.{Why, Verify}
+use Rattle.session_rules.specs.declared.job.Job.TheVariants.{Why, Verify, Evidence}
 
 -- the greatest grace, in microseconds: a second
 abbrev pub most_micros : ℕ
@@ -21,6 +21,7 @@ requests_in (WhatIf change) = 0
 requests_in Tail = 0
 requests_in Why = 0
 requests_in (Verify claims) = 0
+requests_in (Evidence choice) = 0
 
 -- a session carries out the command: an add is a job of its own
 abbrev pub IsReadyCommand : asked.Command → Type 0
@@ -46,6 +47,7 @@ IsReady (WhatIf change) = (0 < change.den) × (change.num ≤ change.den)
 IsReady Tail = ⊤
 IsReady Why = ⊤
 IsReady (Verify claims) = length claims < 2 ^ 32
+IsReady (Evidence choice) = ⊤
 
 -- sessions carry out each of the jobs, and all their requests are fewer than 4,294,967,296
 pub record AreReady (jobs : List Job) : Type 0 where

@@ -17,7 +17,7 @@ use Rattle.trace_types.specs.Listing.{ListsExactly}
 use Rattle.trace_types.specs.Segments.{SegmentName}
 use Rattle.session_rules.specs.declared.job.Job.{Job}
 use Rattle.session_rules.specs.declared.job.Job.TheVariants.{Add, Control, Summary, WhatIf, Tail}
-use Rattle.session_rules.specs.declared.job.Job.TheVariants.{Why, Verify}
+use Rattle.session_rules.specs.declared.job.Job.TheVariants.{Why, Verify, Evidence}
 use Rattle.session_rules.specs.declared.limit.Limit.{Limit}
 use Rattle.session_rules.specs.declared.limit.Limit.TheVariants.{Names, Tasks, Days}
 use Rattle.session_rules.specs.declared.named_change.NamedChange.{NamedChange}
@@ -28,7 +28,7 @@ use Rattle.session_rules.specs.KeptTraces.{with_taken, without_day}
 use Rattle.session_rules.specs.Parts.{Part, Refusals, Watched, Dropped, KeptNewest, ModelOf, Header}
 use Rattle.session_rules.specs.Parts.{PathOf, SlacksOf, GraphOf, ModelHead, ReportHead}
 use Rattle.session_rules.specs.Parts.{LatenciesOf, SegmentOf, TailHead, TailOf, ForecastHead}
-use Rattle.session_rules.specs.Parts.{ForecastOf, WhyHead, RefutedOf, Verdict, Verified}
+use Rattle.session_rules.specs.Parts.{ForecastOf, WhyHead, RefutedOf, Verdict, Verified, EvidenceOf}
 use Rattle.session_rules.specs.Refutations.{Refutations, AreRefutations, IsVerdict, matters_of}
 use Rattle.session_rules.specs.ReportTexts.{AreKeptNames}
 
@@ -160,6 +160,7 @@ Does workers Why s parts next = (next ≡ s) × ((refuted : Refutations)
     × AreRefutations s.kept refuted × (parts ≡ why_parts s.kept refuted))
 Does workers (Verify claims) s parts next = (next ≡ s) × ((verdicts : List Bool)
     × AllZip (IsVerdict s.kept) claims verdicts × (parts ≡ verify_parts claims verdicts))
+Does workers (Evidence choice) s parts next = (next ≡ s) × (parts ≡ EvidenceOf choice s.kept ∷ [])
 
 -- a job passes this limit: it prints nothing. None but an add passes one
 abbrev pub Passes : Job → State → Limit → Type 0

@@ -1,6 +1,7 @@
 use crate::NamedChange;
 use certificates::ClaimList;
 use event_lines::{Command, EventParts};
+use evidence_rules::Choice;
 
 /// What a session is asked to do.
 #[derive(Debug, Drop)]
@@ -30,5 +31,10 @@ pub enum Job {
     Verify {
         /// The claims.
         claims: ClaimList,
+    },
+    /// Print what stands behind the relations that the traces leave.
+    Evidence {
+        /// How much of it.
+        choice: Choice,
     },
 }

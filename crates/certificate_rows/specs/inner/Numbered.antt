@@ -1,6 +1,6 @@
 -- The rows of a certificate whose names and tasks are numbers of a catalogue.
 use Rattle.std.specs.Prelude.{ℕ, Option, Some, None, List, [], ◌∷◌, ◌++◌, length, codes, decimal}
-use Rattle.std.specs.Prelude.{option_and_then, slice_get, slice_index_or}
+use Rattle.std.specs.Prelude.{option_and_then, slice_get}
 use Rattle.std.specs.List.{flat_map}
 use Rattle.certificates.specs.declared.matter.Matter.{Matter}
 use Rattle.certificates.specs.declared.matter.Matter.TheVariants as matter
@@ -10,18 +10,11 @@ use Rattle.day_partitions.specs.Books.{KeptDay}
 use Rattle.segment_names.specs.Known.{Known}
 use Rattle.session_rules.specs.CertificateTexts.{matter_fields}
 use Rattle.text_rows.specs.Rows.{row_of}
-use Rattle.trace_types.specs.Segments.{SegmentName}
 use Rattle.trace_types.specs.declared.named_trace.NamedTrace.{NamedTrace}
 use Rattle.certificate_rows.specs.declared.kind.Kind.{Kind}
 use Rattle.certificate_rows.specs.declared.kind.Kind.TheVariants.{Before, Exclusive, Pipe}
+use Rattle.certificate_rows.specs.Orders.{numbered_name, numbered_task}
 use Rattle.certificate_rows.specs.inner.Pairs.{pairs_of, refuted_pairs, refuter_between}
-
--- the name and the task with this number
-abbrev pub numbered_name : Known → ℕ → SegmentName
-numbered_name known number = slice_index_or known.names number ([], [], [])
-
-abbrev pub numbered_task : Known → ℕ → List ℕ
-numbered_task known number = slice_index_or known.tasks number []
 
 -- the relation of a kind between two numbers, by their texts
 abbrev pub matter_between : Known → Kind → ℕ → ℕ → Matter

@@ -13,7 +13,7 @@ use Rattle.text_rows.specs.TextsOfParts.{AreTexts}
 use Rattle.trace_types.specs.Listing.{ListsExactly}
 use Rattle.certificate_rows.specs.declared.kind.Kind.TheVariants.{Before, Exclusive, Pipe}
 use Rattle.certificate_rows.specs.inner.Numbered.{kind_count, kind_rows}
-use Rattle.certificate_rows.specs.inner.Orders.{name_number_cmp, task_number_cmp}
+use Rattle.certificate_rows.specs.Orders.{name_number_cmp, task_number_cmp}
 use Rattle.certificate_rows.specs.inner.Sources.{HasRefuters}
 
 -- how many relations between these names and tasks are refuted

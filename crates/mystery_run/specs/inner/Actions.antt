@@ -1,7 +1,8 @@
 -- What reading the arguments tells of an action.
 use Rattle.std.specs.Prelude.{ℕ, ◌+◌, ◌<◌, ◌≤◌, length, ⊤}
 use Rattle.mystery_run.specs.CommandLines.{Action, session, view, what_if, tail, why, verify}
-use Rattle.mystery_run.specs.CommandLines.{drill, replay, certificate_of_action, files_of_action}
+use Rattle.mystery_run.specs.CommandLines.{evidence, drill, replay, certificate_of_action}
+use Rattle.mystery_run.specs.CommandLines.{files_of_action}
 
 -- how many files are read for it
 abbrev pub file_count : Action → ℕ
@@ -16,5 +17,6 @@ IsInRange (what_if change files) = (0 < change.den) × (change.num ≤ change.de
 IsInRange (tail files) = ⊤
 IsInRange (why files) = ⊤
 IsInRange (verify file files) = 0 < length files
+IsInRange (evidence choice files) = ⊤
 IsInRange (drill number traces) = traces ≤ 20000
 IsInRange (replay file) = ⊤

@@ -9,7 +9,7 @@ use Rattle.mystery_run.specs.declared.input.Input.TheVariants.{Bytes, Lines, Bad
 use Rattle.mystery_run.specs.declared.input_form.InputForm.{InputForm}
 use Rattle.mystery_run.specs.declared.input_form.InputForm.TheVariants as forms
 use Rattle.mystery_run.specs.CommandLines.{Action, session, view, what_if, tail, why, verify}
-use Rattle.mystery_run.specs.CommandLines.{drill, replay}
+use Rattle.mystery_run.specs.CommandLines.{evidence, drill, replay}
 
 -- what an action reads its input as
 abbrev pub form_of_action : Action → InputForm
@@ -19,6 +19,7 @@ form_of_action (what_if change files) = forms.Lines
 form_of_action (tail files) = forms.Lines
 form_of_action (why files) = forms.Lines
 form_of_action (verify file files) = forms.Lines
+form_of_action (evidence choice files) = forms.Lines
 form_of_action (drill number traces) = forms.Lines
 form_of_action (replay file) = forms.Steps
 

@@ -1,6 +1,6 @@
 -- Parsed arguments, seen as what the grammar says of them.
 use Rattle.mystery_run.specs.CommandLines.{Action, Call, session, view, what_if, tail, why, verify}
-use Rattle.mystery_run.specs.CommandLines.{drill, replay}
+use Rattle.mystery_run.specs.CommandLines.{evidence, drill, replay}
 use Rattle.mystery_run.specs.declared.action.Action as asked
 use Rattle.mystery_run.specs.declared.action.Action.TheVariants as actions
 use Rattle.mystery_run.specs.declared.change_words.ChangeWords.{ChangeWords}
@@ -19,6 +19,7 @@ action_of (actions.WhatIf change files) = what_if (change_of change) files.now
 action_of (actions.Tail files) = tail files.now
 action_of (actions.Why files) = why files.now
 action_of (actions.Verify file files) = verify file.now files.now
+action_of (actions.Evidence choice files) = evidence choice files.now
 action_of (actions.Drill number traces) = drill number traces
 action_of (actions.Replay file) = replay file.now
 

@@ -6,7 +6,7 @@ use Rattle.segment_names.specs.Known.{Known}
 use Rattle.session_rules.specs.Sessions.{why_parts}
 use Rattle.text_rows.specs.Printing.{PrintsText}
 use Rattle.trace_types.specs.Listing.{ListsExactly}
-use Rattle.certificate_rows.specs.inner.Orders.{name_number_cmp, task_number_cmp}
+use Rattle.certificate_rows.specs.Orders.{name_number_cmp, task_number_cmp}
 use Rattle.certificate_rows.specs.inner.Sources.{HasRefuters}
 use Rattle.certificate_rows.specs.inner.Wholes.{certificate_text}
 use Rattle.certificate_rows.proofs.TextLemmas.{parts_printed}

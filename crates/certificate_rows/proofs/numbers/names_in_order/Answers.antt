@@ -3,7 +3,7 @@ use Rattle.std.proofs.lemmas.Result.{IfOk-weaker}
 use Rattle.trace_types.specs.Listing.{ListsExactly}
 use Rattle.trace_types.proofs.ComparingLemmas.{name_exact}
 use Rattle.trace_types.proofs.ListingLemmas.{name_total}
-use Rattle.certificate_rows.specs.inner.Orders.{name_number_cmp}
+use Rattle.certificate_rows.specs.Orders.{name_number_cmp}
 use Rattle.certificate_rows.proofs.OrderLemmas.{entries_done, entries_few, entries_push, no_entries, number_in}
 use Rattle.certificate_rows.proofs.numbers.names_in_order.Goals as goal
 

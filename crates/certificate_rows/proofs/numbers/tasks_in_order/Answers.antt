@@ -2,7 +2,7 @@ use Rattle.std.proofs.Common.{◌≡◌, ℕ, ◌<◌, ◌≤◌, ◌∙◌, [],
 use Rattle.std.proofs.lemmas.Result.{IfOk-weaker}
 use Rattle.trace_types.specs.Listing.{ListsExactly}
 use Rattle.trace_types.proofs.ComparingLemmas.{text_exact, text_total}
-use Rattle.certificate_rows.specs.inner.Orders.{task_number_cmp}
+use Rattle.certificate_rows.specs.Orders.{task_number_cmp}
 use Rattle.certificate_rows.proofs.OrderLemmas.{entries_done, entries_few, entries_push, no_entries, number_in}
 use Rattle.certificate_rows.proofs.numbers.tasks_in_order.Goals as goal
 

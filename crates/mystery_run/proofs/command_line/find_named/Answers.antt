@@ -13,5 +13,5 @@ pub returns-in_default-clause-asked : goal.returns-in_default-clause-asked
 returns-in_default-clause-asked c =
     let name = c.args.name.now in
     let over : action_over name c.args.words.now ≡ named_action name c.args.words.now =
-    rw (apart name (codes "whatif") c.in_default.not-whatif, apart name (codes "verify") c.in_default.not-verify, apart name (codes "drill") c.in_default.not-drill) in
+    rw (apart name (codes "whatif") c.in_default.not-whatif, apart name (codes "verify") c.in_default.not-verify, apart name (codes "evidence") c.in_default.not-evidence, apart name (codes "drill") c.in_default.not-drill) in
     c.find_over_files.ensures.asked ∙ over

@@ -19,6 +19,14 @@ returns c =
       task_order = c.names_are_totally_ordered-2.ensures.pairs (slice_cmp nat_cmp) nat_list_cmp_total;
       graphs = λ kept. c.a_trace_has_one_graph.ensures by_kept kept;
       paths = λ kept. c.paths_are_one.ensures by_kept kept;
+      evidence = record {
+        names = c.a_list_is_told_in_one_way-2.ensures.listed;
+        tasks = c.a_list_is_told_in_one_way-3.ensures.listed;
+        supports = c.a_list_is_told_in_one_way-6.ensures.listed;
+        elements = c.a_list_is_told_in_one_way-3.ensures.counted;
+        name_order = c.names_are_totally_ordered.ensures.names;
+        task_order = nat_list_cmp_total;
+      };
     } in
     record {
       part = part_one told;

@@ -1,0 +1,11 @@
+pub mod FieldLemmas
+pub mod ListLemmas
+pub mod MeetingLemmas
+pub mod NamedLemmas
+pub mod PartLemmas
+pub mod PlaceLemmas
+pub mod RowLemmas
+pub mod SharingLemmas
+pub mod ShownLemmas
+pub mod TableLemmas
+pub mod WitnessLemmas

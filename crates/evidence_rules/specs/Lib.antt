@@ -1,0 +1,5 @@
+pub mod EvidenceRows
+pub mod Meetings
+pub mod Reaching
+pub mod RowTexts
+pub mod Sharings

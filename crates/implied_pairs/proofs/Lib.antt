@@ -1,0 +1,3 @@
+pub mod ImplyLemmas
+pub mod MatrixLemmas
+pub mod ReachLemmas

@@ -1,0 +1,13 @@
+pub mod ChainLemmas
+pub mod CountLemmas
+pub mod FigureLemmas
+pub mod KeptLemmas
+pub mod ModelLemmas
+pub mod NamedLemmas
+pub mod NearlyLemmas
+pub mod PlaceLemmas
+pub mod ReachLemmas
+pub mod ReducedLemmas
+pub mod SortedLemmas
+pub mod TestLemmas
+pub mod WitnessLemmas

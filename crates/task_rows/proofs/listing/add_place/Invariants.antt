@@ -1,0 +1,6 @@
+use Rattle.std.proofs.Common.{◌≡◌, ◌++◌}
+use Rattle.task_rows.specs.inner.Listings.{rows_of_place}
+use Rattle.task_rows.proofs.listing.add_place.Given as goal
+
+abbrev pub invariant-seconds : goal.invariant-seconds
+invariant-seconds l = l.rows.items ≡ l.fn.rows.items ++ rows_of_place l.table l.tasks l.kind l.least l.second l.first
