@@ -1,10 +1,10 @@
 """A short restatement of `mystery inspect`: the rows of files, worked out in another way than by the
-program. `restate.py FILE...` prints them, `--lines` those on lines alone, `--cut` also that of requests which lack
-what others have, which the program does not print yet."""
+program. `restate.py FILE...` prints them, `--lines` those on lines alone."""
 
 import json
+import re
 import sys
-from collections import defaultdict
+from collections import Counter, defaultdict
 
 LATEST = 4102444800000000000
 DAY = 86400 * 10**9
@@ -125,8 +125,8 @@ def line_rows(names, files, events):
     return rows + bad[:100]
 
 
-def offsets(trace):
-    """The offset of each machine of a trace, as far as pairings lead to it."""
+def clocks(trace):
+    """For each machine of a trace, as far as pairings lead to it, its offset and the round trip to its parent."""
     sent = {e["send"]: e for e in trace if e["send"] is not None}
     least = {}
     for r in trace:
@@ -134,14 +134,14 @@ def offsets(trace):
         if s and s["machine"] != r["machine"]:
             key = s["machine"], r["machine"]
             least[key] = min(least.get(key, r["time"] - s["time"]), r["time"] - s["time"])
-    found, frontier = {trace[0]["machine"]: 0}, [trace[0]["machine"]]
+    found, frontier = {trace[0]["machine"]: (0, 0)}, [trace[0]["machine"]]
     while frontier:
         after = {}
         for m in {n for m, n in least} - set(found):
             parents = sorted((p for p in frontier if (p, m) in least and (m, p) in least), key=str.encode)
             if parents:
-                p = parents[0]
-                after[m] = found[p] + (least[p, m] - least[m, p]) // 2
+                there, back = least[parents[0], m], least[m, parents[0]]
+                after[m] = found[parents[0]][0] + (there - back) // 2, there + back
         found.update(after)
         frontier = list(after)
     return found
@@ -153,24 +153,27 @@ def repeats(keys):
 
 
 def verdict(trace):
-    """The fault of a trace, or none, and how many segments and waits it has."""
+    """The fault of a trace, or none, and its segments: their two events, each with its adjusted time."""
     if len(trace) > 4096:
-        return FAULTS[0], 0, 0
+        return FAULTS[0], []
     if repeats([(e["task"], e["event"]) for e in trace]):
-        return FAULTS[1], 0, 0
+        return FAULTS[1], []
     if repeats([e["send"] for e in trace]):
-        return FAULTS[2], 0, 0
+        return FAULTS[2], []
     if repeats([e["recv"] for e in trace]):
-        return FAULTS[3], 0, 0
-    clock = offsets(trace)
-    keys = [(e["time"] - clock.get(e["machine"], 0), k) for k, e in enumerate(trace)]
+        return FAULTS[3], []
+    clock = clocks(trace)
+    keys = [(e["time"] - clock.get(e["machine"], (0, 0))[0], k) for k, e in enumerate(trace)]
     if any(not -LATEST <= time <= 2 * LATEST for time, _ in keys):
-        return FAULTS[4], 0, 0
-    tasks = defaultdict(list)
+        return FAULTS[4], []
+    tasks = {event["task"]: [] for event in trace}
     for key, event in sorted(zip(keys, trace), key=lambda pair: pair[0]):
-        tasks[event["task"]].append(event)
-    segments = [pair for events in tasks.values() for pair in zip(events, events[1:])]
-    return None, len(segments), sum(a["send"] is not None and b["recv"] is not None for a, b in segments)
+        tasks[event["task"]].append((event, key[0]))
+    return None, [pair for events in tasks.values() for pair in zip(events, events[1:])]
+
+
+def is_wait(segment):
+    return segment[0][0]["send"] is not None and segment[1][0]["recv"] is not None
 
 
 def first(tests, requests):
@@ -199,7 +202,32 @@ def cut_traces(traces):
     return cut, of
 
 
-def trace_rows(events, with_cut=False):
+def clock_rows(traces, requests, faults):
+    """The rows on clocks: of each trace whose events and messages have no fault, what is told of each machine but that
+    of its first event."""
+    told = []
+    for request, trace, fault in zip(requests, traces, faults):
+        if fault in (None, FAULTS[4]):
+            found = clocks(trace)
+            for machine in dict.fromkeys(e["machine"] for e in trace if e["machine"] != trace[0]["machine"]):
+                told.append((request, machine, found.get(machine)))
+    machines = list(dict.fromkeys(machine for _, machine, _ in told))[:100]
+    rows = []
+    for machine in [None, *machines]:
+        mine = [t for t in told if machine in (None, t[1])]
+        known = [clock for _, _, clock in mine if clock]
+        lost = [request for request, _, clock in mine if not clock]
+        torn = [request for request, _, clock in mine if clock and clock[1] < 0]
+        shown = lambda those: machine or (those[0] if those else "-")
+        rows.append(row("clock", share(len(lost), len(mine)), len(lost), len(mine), shown(lost), "no offset"))
+        rows.append(row("clock", share(len(torn), len(known)), len(torn), len(known), shown(torn), "delays contradict"))
+        if machine and known:
+            least, greatest = min(known)[0], max(known)[0]
+            rows.append(row("clock", "ok", least, greatest, machine, "least and greatest offset"))
+    return rows
+
+
+def trace_rows(events):
     by_request = defaultdict(list)
     for event in events:
         by_request[event["request"]].append(event)
@@ -223,25 +251,90 @@ def trace_rows(events, with_cut=False):
     slow = [20 * sum(s > span for s in spans) < count for span in spans]
     lost = lambda n, of: "ok" if n == 0 else "warn" if n * count > 2 * (count - kept) * of else "note"
     rows.append(count_row("refused", lost, [s and f is not None for s, f in zip(slow, faults)], sum(slow), requests, "slowest twentieth"))
+    rows += clock_rows(traces, requests, faults)
     for end, other, what in (("send", "recv", "never received"), ("recv", "send", "never sent")):
         missing = [sum(e[end] is not None and e[end] not in {x[other] for x in t} for e in t) for t in traces]
         of = sum(e[end] is not None for e in events)
         rows.append(row("message", share(sum(missing), of), sum(missing), of, first(missing, requests), what))
-    if with_cut:
-        cut, of = cut_traces(traces)
-        rows.append(count_row("cut", share, cut, of, requests, "lacks what nine of ten have"))
-    waits, segments = [v[2] for v in verdicts], sum(v[1] for v in verdicts)
+    cut, of = cut_traces(traces)
+    rows.append(count_row("cut", share, cut, of, requests, "lacks what nine of ten have"))
+    waits, segments = [sum(map(is_wait, v[1])) for v in verdicts], sum(len(v[1]) for v in verdicts)
     rows.append(row("wait", share(sum(waits), segments), sum(waits), segments, first(waits, requests), "from a send to a receipt"))
-    return rows
+    segments = [v[1] for v in verdicts]
+    return rows + name_rows(segments) + grace_rows(segments, requests)
 
 
-def rows_of(names, files, lines_alone=False, with_cut=False):
+def name_of(segment):
+    return segment[0][0]["task"], segment[0][0]["event"], segment[1][0]["event"]
+
+
+def label(name):
+    return "%s: %s -> %s" % name if isinstance(name, tuple) else name
+
+
+def pattern(text):
+    """What is left of a text where ids may stand: runs that touch are one."""
+    marked = list(text)
+    for run in ("[0-9]+", "[0-9a-fA-F]{8,}", "[0-9a-fA-F-]{36,}", "(?<=@).+"):
+        for found in re.finditer(run, text, re.S):
+            marked[found.start():found.end()] = ["\0"] * (found.end() - found.start())
+    return re.sub("\0+", "{}", "".join(marked))
+
+
+def kind_rows(kind, seen, limit, what):
+    """The rows on names or tasks, each as often as it is seen, against their limit."""
+    different = list(dict.fromkeys(seen))
+    over = len(different) > limit
+    rows = [row(kind, "warn" if over else "ok", len(different), limit, label(different[limit]) if over else "-", what)]
+    if kind == "name":
+        counts = Counter(seen)
+        alone = [name for name in different if counts[name] == 1]
+        example = label(alone[0]) if alone else "-"
+        rows.append(row(kind, "note" if alone else "ok", len(alone), len(different), example, "in one trace alone"))
+    families = defaultdict(list)
+    for name in different:
+        families[label(tuple(map(pattern, name)) if kind == "name" else pattern(name))].append(name)
+    large = sorted((p for p in families if len(families[p]) >= 10), key=lambda p: -len(families[p]))
+    return rows + [row(kind, "note", len(families[p]), len(different), label(families[p][0]), p) for p in large[:100]]
+
+
+def grace_rows(traces, requests):
+    """The rows on relations that few traces refute, all of these by little."""
+    names = list(dict.fromkeys(name_of(s) for t in traces for s in t))
+    if len(names) > 512 or len({name[0] for name in names}) > 64:
+        return ["\t".join(["grace", "note", "-", "-", "-", "too many names or tasks"])]
+    gaps = defaultdict(list)
+    for request, trace in zip(requests, traces):
+        for one in trace:
+            for other in trace:
+                gap, back = other[0][1] - one[1][1], one[0][1] - other[1][1]
+                gaps[name_of(one), name_of(other)].append((request, gap, max(gap, back)))
+    rows, met = [], 0
+    for a, one in enumerate(names):
+        for b, other in enumerate(names):
+            meetings = gaps.get((one, other), [])
+            for at, told, kind in ((1, a != b, "happens before"), (2, a < b, "excludes")):
+                refuted = [m for m in meetings if m[at] < 0]
+                met += told and len(meetings) > 0
+                if told and 0 < 100 * len(refuted) < len(meetings) and min(m[at] for m in refuted) > -(10**6):
+                    micros = next(n for n in range(1001) if all(m[at] >= -1000 * n for m in refuted))
+                    what = "%s | %s | %s | survives with a grace of %d" % (label(one), kind, label(other), micros)
+                    rows.append(row("grace", "note", len(refuted), len(meetings), refuted[0][0], what))
+    return [row("grace", "note" if rows else "ok", len(rows), met, "-", "refuted by few, by less than 1 ms")] + rows[:100]
+
+
+def name_rows(segments):
+    seen = [name_of(s) for trace in segments for s in trace]
+    return kind_rows("name", seen, 512, "segment names") + kind_rows("task", [name[0] for name in seen], 64, "tasks")
+
+
+def rows_of(names, files, lines_alone=False):
     events = []
     rows = line_rows(names, files, events)
-    return rows if lines_alone else rows + trace_rows(events, with_cut)
+    return rows if lines_alone else rows + trace_rows(events)
 
 
 if __name__ == "__main__":
-    words = [word for word in sys.argv[1:] if word not in ("--lines", "--cut")]
-    for text in rows_of(words, [open(word, "rb").read() for word in words], "--lines" in sys.argv, "--cut" in sys.argv):
+    words = [word for word in sys.argv[1:] if word != "--lines"]
+    for text in rows_of(words, [open(word, "rb").read() for word in words], "--lines" in sys.argv):
         print(text)

@@ -9,7 +9,7 @@ const ADD: &[u8] = b"{\"do\":\"add\"}\n";
 
 /// The rows of `ADD`.
 const ROWS: &[u8] =
-    b"lines\twarn\t0\t1\t-\tevent lines\ntime\tok\t0\t0\t-\tleast and greatest\ntime\tok\t0\t0\t-\tdays\ntime\tok\t0\t0\t-\tno time passes\ntime\tok\t0\t0\t-\tlonger than a day\ntraces\tok\t0\t0\t-\tvalid\nrefused\tok\t0\t0\t-\tslowest twentieth\nmessage\tok\t0\t0\t-\tnever received\nmessage\tok\t0\t0\t-\tnever sent\nwait\tok\t0\t0\t-\tfrom a send to a receipt\n";
+    b"lines\twarn\t0\t1\t-\tevent lines\ntime\tok\t0\t0\t-\tleast and greatest\ntime\tok\t0\t0\t-\tdays\ntime\tok\t0\t0\t-\tno time passes\ntime\tok\t0\t0\t-\tlonger than a day\ntraces\tok\t0\t0\t-\tvalid\nrefused\tok\t0\t0\t-\tslowest twentieth\nclock\tok\t0\t0\t-\tno offset\nclock\tok\t0\t0\t-\tdelays contradict\nmessage\tok\t0\t0\t-\tnever received\nmessage\tok\t0\t0\t-\tnever sent\ncut\tok\t0\t0\t-\tlacks what nine of ten have\nwait\tok\t0\t0\t-\tfrom a send to a receipt\nname\tok\t0\t512\t-\tsegment names\nname\tok\t0\t0\t-\tin one trace alone\ntask\tok\t0\t64\t-\ttasks\ngrace\tok\t0\t0\t-\trefuted by few, by less than 1 ms\n";
 
 #[test]
 fn arguments_outside_the_grammar_are_refused(rt: HostRuntime) -> Result<(), Fail> {

@@ -5,8 +5,14 @@
 #[cfg(test)]
 mod bad_members;
 #[cfg(test)]
+mod clocks;
+#[cfg(test)]
 mod faults;
 #[cfg(test)]
+mod grace_rows;
+#[cfg(test)]
 mod line_rows;
+#[cfg(test)]
+mod name_rows;
 #[cfg(test)]
 mod running;

@@ -94,5 +94,9 @@ told words readings lines findings h text t = record {
   read = same_events lines ∙ h.events;
   rows = t.rows;
   told = t.told;
-  printed = t.printed ∙ ap (λ xs. xs ++ t.rows) (lines_told words readings lines findings h);
+  on_names = t.on_names;
+  names_told = t.names_told;
+  on_graces = t.on_graces;
+  graces_told = t.graces_told;
+  printed = t.printed ∙ ap (λ xs. xs ++ t.rows ++ t.on_names ++ t.on_graces) (lines_told words readings lines findings h);
 }

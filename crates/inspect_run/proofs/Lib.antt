@@ -2,6 +2,9 @@ pub mod CountLemmas
 pub mod EndingLemmas
 pub mod InputLemmas
 pub mod JudgingLemmas
+pub mod LawLemmas
 pub mod LoggedLemmas
 pub mod MessageLemmas
+pub mod NameRowLemmas
 pub mod ResultLemmas
+pub mod MachineLemmas

@@ -1,5 +1,5 @@
 -- Clauses on results.
-use Rattle.std.proofs.Common.{◌≡◌, ℕ, List, Result, Ok, Err, length, subst, sym}
+use Rattle.std.proofs.Common.{◌≡◌, List, Result, Ok, Err, length, subst, sym}
 use Rattle.std.specs.List.{AllZip}
 use Rattle.std.specs.Result.{IfOk, OnOk}
 use Rattle.std.proofs.lemmas.Slice.Zip.{AllZip-long}

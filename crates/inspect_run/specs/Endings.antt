@@ -11,8 +11,10 @@ use Rattle.mystery_io.specs.Prefixes.{AppendsPrefix}
 use Rattle.mystery_io.specs.ReadFaults.{FilesSeen, OpensFirst}
 use Rattle.mystery_io.specs.Readings.{AreEnded, Reading}
 use Rattle.inspect_run.specs.CommandLines.{is_in_grammar}
+use Rattle.inspect_run.specs.GraceRows.{AreGraceRows}
 use Rattle.inspect_run.specs.Judging.{size_given}
 use Rattle.inspect_run.specs.LineRows.{line_rows}
+use Rattle.inspect_run.specs.NameRows.{AreNameRows}
 use Rattle.inspect_run.specs.TraceRows.{AreTraceRows}
 use Rattle.inspect_run.specs.declared.outcome.Outcome.{Outcome}
 use Rattle.inspect_run.specs.declared.outcome.Outcome.TheVariants.{Done, Memory, Arguments, File}
@@ -65,14 +67,19 @@ pub record Stops (outcome : Outcome) (seen : Seen) : Type 0 where
   pub written : seen.written_now ≡ seen.written_before
 
 -- the text tells the quality of the files with these names that were read: the rows on their lines,
--- and those on the traces of their events, whatever numbers their lines have
+-- those on the traces of their events, those on the names of segments of these, and those on
+-- relations that few of them refute, whatever numbers their lines have
 pub record IsQuality (names : List (List ℕ)) (readings : List Reading) (text : List ℕ)
     : Type 0 where
   pub events : List Event
   pub read : map without_line events ≡ events_read (lines_read readings)
   pub rows : List ℕ
   pub told : AreTraceRows (traces_of events) rows
-  pub printed : text ≡ line_rows names readings ++ rows
+  pub on_names : List ℕ
+  pub names_told : AreNameRows (traces_of events) on_names
+  pub on_graces : List ℕ
+  pub graces_told : AreGraceRows (traces_of events) on_graces
+  pub printed : text ≡ line_rows names readings ++ rows ++ on_names ++ on_graces
 
 -- the arguments are in the grammar, all files were read, and the text tells their quality
 pub record HasText (seen : Seen) (text : List ℕ) : Type 0 where

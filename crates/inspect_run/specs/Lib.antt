@@ -1,9 +1,13 @@
 pub mod CommandLines
 pub mod Endings
+pub mod GraceRows
 pub mod Judging
+pub mod Levels
 pub mod LineRows
 pub mod Logged
+pub mod MachineRows
 pub mod Messages
+pub mod NameRows
 pub mod Rows
 pub mod TraceRows
 pub mod inner

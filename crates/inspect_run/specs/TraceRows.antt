@@ -1,10 +1,12 @@
 -- The rows on traces.
-use Rattle.std.specs.Prelude.{ℕ, ◌≡◌, ◌+◌, ◌-◌, ◌*◌, ◌/◌, ◌==◌, ◌&&◌, ◌++◌, List, [], ◌∷◌, Bool, false}
+use Rattle.std.specs.Prelude.{ℕ, ◌≡◌, ◌+◌, ◌-◌, ◌*◌, ◌/◌, ◌==◌, ◌++◌, List, [], ◌∷◌, Bool, false}
 use Rattle.std.specs.Prelude.{MatchOption, Option, None, Some, codes, if◌then◌else◌, length, map}
 use Rattle.std.specs.Prelude.{nat_lt, slice_index_or}
 use Rattle.std.specs.List.{AllZip, flat_map, position, sum_by}
 use Rattle.segment_cut.specs.Cutting.{nanoseconds_per_day}
 use Rattle.trace_types.specs.Batch.{PlainTrace}
+use Rattle.machine_quality.specs.Told.{AreTold, NamedClock}
+use Rattle.trace_groups.specs.Groups.{counts_cut, counts_grouped}
 use Rattle.trace_quality.specs.Extremes.{AreExtremes}
 use Rattle.trace_quality.specs.Facts.{IsFacts}
 use Rattle.trace_quality.specs.Measures.{counted, counted_of, refusal_text}
@@ -13,22 +15,26 @@ use Rattle.trace_quality.specs.declared.measure.Measure.{Measure}
 use Rattle.trace_quality.specs.declared.measure.Measure.TheVariants.{NoTime, OverADay, Valid}
 use Rattle.trace_quality.specs.declared.measure.Measure.TheVariants.{Refused, NeverReceived}
 use Rattle.trace_quality.specs.declared.measure.Measure.TheVariants.{NeverSent, Wait}
+use Rattle.trace_quality.specs.declared.measure.Measure.TheVariants.{NoOffset, Contradiction}
 use Rattle.trace_quality.specs.declared.refusal.Refusal.TheVariants.{ManyEvents, EventTwice}
 use Rattle.trace_quality.specs.declared.refusal.Refusal.TheVariants.{SentTwice, ReceivedTwice}
 use Rattle.trace_quality.specs.declared.refusal.Refusal.TheVariants.{ClockRange}
 use Rattle.trace_quality.specs.declared.tallies.Tally.{Tally}
 use Rattle.trace_quality.specs.declared.times.Times.{Times}
 use Rattle.trace_quality.specs.declared.trace_facts.TraceFacts.{TraceFacts}
+use Rattle.inspect_run.specs.Levels.{all_level, any_level, share_level, slowest_level}
+use Rattle.inspect_run.specs.Levels.{valid_level}
+use Rattle.inspect_run.specs.MachineRows.{machine_rows}
 use Rattle.inspect_run.specs.Rows.{no_example, row_text}
 use Rattle.inspect_run.specs.declared.level.Level.{Level}
-use Rattle.inspect_run.specs.declared.level.Level.TheVariants.{Fine, Note, Warn}
+use Rattle.inspect_run.specs.declared.level.Level.TheVariants.{Fine, Note}
 
 -- a part of what each trace counts is added up; the first trace that counts any is at this index
-abbrev pub tally_of : (part whole : TraceFacts → ℕ) → List TraceFacts → Tally
-tally_of part whole facts = record {
-  count = sum_by part facts;
-  of = sum_by whole facts;
-  first = position (λ f. nat_lt 0 (part f)) facts;
+abbrev pub tally_of : {X : Type 0} → (part whole : X → ℕ) → List X → Tally
+tally_of part whole xs = record {
+  count = sum_by part xs;
+  of = sum_by whole xs;
+  first = position (λ x. nat_lt 0 (part x)) xs;
 }
 
 -- the request at this index, or none
@@ -36,36 +42,14 @@ abbrev pub example_at : List (List ℕ) → Option ℕ → List ℕ
 example_at requests None = no_example
 example_at requests (Some index) = slice_index_or requests index []
 
--- fine where there is none, a note below one in a hundred
-abbrev pub share_level : Tally → Level
-share_level t =
-    if t.count == 0 then Fine else (if nat_lt (100 * t.count) t.of then Note else Warn)
-
--- fine where there is none
-abbrev pub any_level : Tally → Level
-any_level t = if t.count == 0 then Fine else Warn
-
--- a warning where all traces are counted, and there are some
-abbrev pub all_level : Tally → Level
-all_level t = if nat_lt 0 t.count && (t.count == t.of) then Warn else Fine
-
--- fine where all traces are valid, a note where some are
-abbrev pub valid_level : Tally → Level
-valid_level t = if t.count == t.of then Fine else (if t.count == 0 then Warn else Note)
-
--- a warning where of the slowest traces more than twice the share is refused that is of all traces;
--- a note where any is
-abbrev pub slowest_level : (valid slowest : Tally) → Level
-slowest_level valid t =
-    if t.count == 0 then Fine
-    else (if nat_lt (2 * ((valid.of - valid.count) * t.of)) (t.count * valid.of) then Warn else Note)
-
 -- the kind of the row of a measure
 abbrev pub measure_kind : Measure → List ℕ
 measure_kind NoTime = codes "time"
 measure_kind OverADay = codes "time"
 measure_kind Valid = codes "traces"
 measure_kind (Refused refusal) = codes "refused"
+measure_kind NoOffset = codes "clock"
+measure_kind Contradiction = codes "clock"
 measure_kind NeverReceived = codes "message"
 measure_kind NeverSent = codes "message"
 measure_kind Wait = codes "wait"
@@ -76,6 +60,8 @@ measure_text NoTime = codes "no time passes"
 measure_text OverADay = codes "longer than a day"
 measure_text Valid = codes "valid"
 measure_text (Refused refusal) = refusal_text refusal
+measure_text NoOffset = codes "no offset"
+measure_text Contradiction = codes "delays contradict"
 measure_text NeverReceived = codes "never received"
 measure_text NeverSent = codes "never sent"
 measure_text Wait = codes "from a send to a receipt"
@@ -86,6 +72,8 @@ measure_level NoTime t = all_level t
 measure_level OverADay t = any_level t
 measure_level Valid t = valid_level t
 measure_level (Refused refusal) t = share_level t
+measure_level NoOffset t = share_level t
+measure_level Contradiction t = share_level t
 measure_level NeverReceived t = share_level t
 measure_level NeverSent t = share_level t
 measure_level Wait t = share_level t
@@ -96,6 +84,8 @@ measure_example NoTime first = first
 measure_example OverADay first = first
 measure_example Valid first = None
 measure_example (Refused refusal) first = first
+measure_example NoOffset first = first
+measure_example Contradiction first = first
 measure_example NeverReceived first = first
 measure_example NeverSent first = first
 measure_example Wait first = first
@@ -106,6 +96,8 @@ is_left_out NoTime t = false
 is_left_out OverADay t = false
 is_left_out Valid t = false
 is_left_out (Refused refusal) t = t.count == 0
+is_left_out NoOffset t = false
+is_left_out Contradiction t = false
 is_left_out NeverReceived t = false
 is_left_out NeverSent t = false
 is_left_out Wait t = false
@@ -121,14 +113,18 @@ abbrev pub measure_row : (requests : List (List ℕ)) → List TraceFacts → Me
 measure_row requests facts measure =
     tally_row requests measure (tally_of (counted measure) (counted_of measure) facts)
 
--- the measures whose rows stand before that of the slowest traces, and those behind it
+-- the measures whose rows stand before that of the slowest traces, those on clocks, and those on
+-- messages
 abbrev pub first_measures : List Measure
 first_measures =
     NoTime ∷ OverADay ∷ Valid ∷ Refused ManyEvents ∷ Refused EventTwice ∷ Refused SentTwice
     ∷ Refused ReceivedTwice ∷ Refused ClockRange ∷ []
 
-abbrev pub last_measures : List Measure
-last_measures = NeverReceived ∷ NeverSent ∷ Wait ∷ []
+abbrev pub clock_measures : List Measure
+clock_measures = NoOffset ∷ Contradiction ∷ []
+
+abbrev pub message_measures : List Measure
+message_measures = NeverReceived ∷ NeverSent ∷ []
 
 -- the row of the slowest twentieth of the traces: how many of them are refused
 abbrev pub slowest_tally_row : (requests : List (List ℕ)) → (valid slowest : Tally) → List ℕ
@@ -163,25 +159,54 @@ abbrev pub days_row : Option Times → (traces : ℕ) → List ℕ
 days_row times traces =
     row_text (codes "time") Fine (count_days times) traces no_example (codes "days")
 
--- the rows on traces of these requests and with these facts
-abbrev pub trace_rows : (requests : List (List ℕ)) → List TraceFacts → Option Times → List ℕ
-trace_rows requests facts times =
+-- the requests of traces
+abbrev pub requests_in : List PlainTrace → List (List ℕ)
+requests_in traces = map (λ (t : PlainTrace). t.request) traces
+
+-- the row of the traces that lack an event that nine of ten of their group have
+abbrev pub cut_tally_row : (requests : List (List ℕ)) → Tally → List ℕ
+cut_tally_row requests t =
+    row_text (codes "cut") (share_level t) t.count t.of (example_at requests t.first)
+    (codes "lacks what nine of ten have")
+
+abbrev pub cut_row : List PlainTrace → List ℕ
+cut_row traces =
+    cut_tally_row (requests_in traces) (tally_of (counts_cut traces) (counts_grouped traces) traces)
+
+-- the rows on times and verdicts of traces with these facts
+abbrev pub verdict_rows : List PlainTrace → List TraceFacts → Option Times → List ℕ
+verdict_rows traces facts times =
     times_row times ++ days_row times (length facts)
-    ++ flat_map (measure_row requests facts) first_measures ++ slowest_row requests facts
-    ++ flat_map (measure_row requests facts) last_measures
+    ++ flat_map (measure_row (requests_in traces) facts) first_measures
+    ++ slowest_row (requests_in traces) facts
+
+-- those on the clocks of machines, of which they tell this
+abbrev pub clock_rows : List PlainTrace → List TraceFacts → List NamedClock → List ℕ
+clock_rows traces facts told =
+    flat_map (measure_row (requests_in traces) facts) clock_measures ++ machine_rows told
+
+-- those on messages, on traces that were cut short, and on waits
+abbrev pub message_rows : List PlainTrace → List TraceFacts → List ℕ
+message_rows traces facts =
+    flat_map (measure_row (requests_in traces) facts) message_measures
+    ++ cut_row traces ++ measure_row (requests_in traces) facts Wait
+
+-- the rows on traces with these facts, which tell this of their machines
+abbrev pub trace_rows : List PlainTrace → List TraceFacts → List NamedClock → Option Times
+    → List ℕ
+trace_rows traces facts told times =
+    verdict_rows traces facts times ++ clock_rows traces facts told ++ message_rows traces facts
 
 -- these are the least and the greatest time of all events of traces with these facts
 abbrev pub AreTimesOf : List TraceFacts → Option Times → Type 0
 AreTimesOf facts times = MatchOption times (facts ≡ []) (AreExtremes facts)
 
--- the requests of traces
-abbrev pub requests_in : List PlainTrace → List (List ℕ)
-requests_in traces = map (λ (t : PlainTrace). t.request) traces
-
--- the rows on traces, by the facts of each
+-- the rows on traces, by the facts of each and what they tell of their machines
 pub record AreTraceRows (traces : List PlainTrace) (rows : List ℕ) : Type 0 where
   pub facts : List TraceFacts
   pub found : AllZip IsFacts traces facts
+  pub told : List NamedClock
+  pub heard : AreTold traces told
   pub times : Option Times
   pub extremes : AreTimesOf facts times
-  pub printed : rows ≡ trace_rows (requests_in traces) facts times
+  pub printed : rows ≡ trace_rows traces facts told times

@@ -3,15 +3,23 @@
 #![tactic(auto)]
 
 mod command_line;
+mod grace_rows;
 mod input_reading;
+mod labels;
+pub mod laws;
 mod level;
 mod line_counts;
 mod line_rows;
+mod listed;
+mod machine_rows;
 mod measures;
 mod message;
+mod name_rows;
+mod near_rows;
 mod outcome;
 mod program;
 mod row;
+mod subject;
 mod trace_rows;
 mod traces;
 

@@ -1,13 +1,14 @@
 ghost use Rattle.std.specs.Prelude.{◌≡◌};
-ghost use Rattle.inspect_run.specs.TraceRows.{all_level, any_level, is_left_out, measure_example};
-ghost use Rattle.inspect_run.specs.TraceRows.{measure_kind, measure_level, measure_text};
-ghost use Rattle.inspect_run.specs.TraceRows.{share_level, slowest_level, valid_level};
+ghost use Rattle.inspect_run.specs.Levels.{all_level, any_level, share_level, slowest_level};
+ghost use Rattle.inspect_run.specs.Levels.{valid_level};
+ghost use Rattle.inspect_run.specs.TraceRows.{is_left_out, measure_example, measure_kind};
+ghost use Rattle.inspect_run.specs.TraceRows.{measure_level, measure_text};
 
 use crate::Level;
 use trace_quality::{Measure, Tally};
 
 /// Gives the level of a share: fine where there is none, a note below one in a hundred.
-fn share_level(tally: Tally) -> Level
+pub(crate) fn share_level(tally: Tally) -> Level
     ensures { result ≡ share_level tally }
 {
     if tally.count == 0 {
@@ -79,6 +80,7 @@ pub(crate) fn kind_of(measure: Measure) -> &'static str
         Measure::NoTime | Measure::OverADay => "time",
         Measure::Valid => "traces",
         Measure::Refused { .. } => "refused",
+        Measure::NoOffset | Measure::Contradiction => "clock",
         Measure::NeverReceived | Measure::NeverSent => "message",
         Measure::Wait => "wait",
     }
@@ -93,6 +95,8 @@ pub(crate) fn text_of(measure: Measure) -> &'static str
         Measure::OverADay => "longer than a day",
         Measure::Valid => "valid",
         Measure::Refused { refusal } => refusal.reason(),
+        Measure::NoOffset => "no offset",
+        Measure::Contradiction => "delays contradict",
         Measure::NeverReceived => "never received",
         Measure::NeverSent => "never sent",
         Measure::Wait => "from a send to a receipt",
@@ -107,8 +111,12 @@ pub(crate) fn level_of(measure: Measure, tally: Tally) -> Level
         Measure::NoTime => all_level(tally),
         Measure::OverADay => any_level(tally),
         Measure::Valid => valid_level(tally),
-        Measure::Refused { .. } | Measure::NeverReceived | Measure::NeverSent | Measure::Wait =>
-            share_level(tally),
+        Measure::Refused { .. }
+        | Measure::NoOffset
+        | Measure::Contradiction
+        | Measure::NeverReceived
+        | Measure::NeverSent
+        | Measure::Wait => share_level(tally),
     }
 }
 
@@ -121,6 +129,8 @@ pub(crate) fn example_of(measure: Measure, tally: Tally) -> Option<usize>
         Measure::NoTime
         | Measure::OverADay
         | Measure::Refused { .. }
+        | Measure::NoOffset
+        | Measure::Contradiction
         | Measure::NeverReceived
         | Measure::NeverSent
         | Measure::Wait => tally.first,
@@ -136,6 +146,8 @@ pub(crate) fn is_left_out(measure: Measure, tally: Tally) -> bool
         Measure::NoTime
         | Measure::OverADay
         | Measure::Valid
+        | Measure::NoOffset
+        | Measure::Contradiction
         | Measure::NeverReceived
         | Measure::NeverSent
         | Measure::Wait => false,

@@ -17,10 +17,12 @@ ghost use Rattle.inspect_run.specs.inner.Leaving.{quality_text, sink_faults_afte
 
 use crate::Outcome;
 use crate::command_line::are_files;
+use crate::grace_rows::push_grace_rows;
 use crate::input_reading::{Judged, read_input};
 use crate::line_counts::{count_events, count_lines};
 use crate::line_rows::push_line_rows;
 use crate::message::send_message;
+use crate::name_rows::push_name_rows;
 use crate::trace_rows::push_trace_rows;
 use crate::traces::gather_traces;
 use mystery_io::{Files, Sink, write_text};
@@ -57,6 +59,8 @@ fn make_text<R: Threads + Sync>(
     push_lines(&mut text, words, &judged)?;
     let traces = gather_traces(rt, alloc, judged.runs)?;
     push_trace_rows(alloc, &mut text, &traces)?;
+    push_name_rows(alloc, &mut text, &traces)?;
+    push_grace_rows(rt, alloc, &mut text, &traces)?;
     Ok(text)
 }
 

@@ -2,20 +2,27 @@ ghost use Rattle.std.specs.Prelude.{◌≡◌, ◌++◌, ◌<◌, ◌^◌, All, 
 ghost use Rattle.std.specs.List.{AllZip, flat_map};
 ghost use Rattle.trace_types.specs.Batch.{PlainTrace};
 ghost use Rattle.trace_types.specs.Times.{AreTimely};
+ghost use Rattle.trace_groups.specs.Groups.{counts_cut, counts_grouped};
 ghost use Rattle.trace_quality.specs.Facts.{IsFacts};
 ghost use Rattle.trace_quality.specs.Slowest.{counts_slow, counts_slow_refused};
 ghost use Rattle.trace_quality.specs.Tallies.{IsTally};
-ghost use Rattle.inspect_run.specs.TraceRows.{count_days, days_row, example_at, extremes_row};
-ghost use Rattle.inspect_run.specs.TraceRows.{first_measures, last_measures, level_of_times};
-ghost use Rattle.inspect_run.specs.TraceRows.{measure_row, requests_in, slowest_row};
-ghost use Rattle.inspect_run.specs.TraceRows.{slowest_tally_row, tally_row, times_row, trace_rows};
-ghost use Rattle.inspect_run.specs.inner.Traces.{AppendsFacts, AppendsTraceRows};
+ghost use Rattle.inspect_run.specs.TraceRows.{count_days, cut_row, days_row, example_at};
+ghost use Rattle.inspect_run.specs.TraceRows.{extremes_row, level_of_times};
+ghost use Rattle.inspect_run.specs.TraceRows.{measure_row, message_rows, requests_in};
+ghost use Rattle.inspect_run.specs.TraceRows.{slowest_row, slowest_tally_row, tally_row, times_row};
+ghost use Rattle.inspect_run.specs.TraceRows.{verdict_rows};
+ghost use Rattle.inspect_run.specs.inner.Traces.{AppendsClocks, AppendsTraceRows};
 
 use crate::Level;
-use crate::measures::{example_of, is_left_out, kind_of, level_of, slowest_level, text_of};
+use crate::machine_rows::push_machine_rows;
+use crate::measures::{
+    example_of, is_left_out, kind_of, level_of, share_level, slowest_level, text_of,
+};
 use crate::row::{Row, push_row};
 use event_table::GatheredEvents;
+use machine_quality::find_told;
 use std::alloc::{AllocError, Global};
+use trace_groups::tally_cut;
 use trace_quality::{
     Measure, Refusal, Tally, Times, TraceFacts, add_up, find_extremes, find_facts, tally_slowest,
 };
@@ -48,8 +55,11 @@ const FIRST_MEASURES: [Measure; 8] = [
     },
 ];
 
-/// The measures whose rows stand behind it.
-const LAST_MEASURES: [Measure; 3] = [Measure::NeverReceived, Measure::NeverSent, Measure::Wait];
+/// The measures on clocks.
+const CLOCK_MEASURES: [Measure; 2] = [Measure::NoOffset, Measure::Contradiction];
+
+/// The measures on messages.
+const MESSAGE_MEASURES: [Measure; 2] = [Measure::NeverReceived, Measure::NeverSent];
 
 /// Lends the request of the trace with this index, or `-`.
 fn example_at(traces: &GatheredEvents, index: Option<usize>) -> &str
@@ -164,6 +174,26 @@ fn push_slowest(
     push_slowest_tally(text, traces, add_up(Measure::Valid, facts), slowest)
 }
 
+/// Appends the row of the traces that were cut short.
+fn push_cut(text: &mut Vec<u8>, traces: &GatheredEvents, cut: Tally) -> Result<(), AllocError>
+    requires tally { IsTally (counts_cut traces.now.traces) (counts_grouped traces.now.traces)
+        traces.now.traces cut }
+    requires within { IfSome cut.first (λ i. i < length traces.now.traces) }
+    ensures { OnOk result (text.new.items ≡ text.old.items ++ cut_row traces.now.traces) }
+{
+    push_row(
+        text,
+        Row {
+            kind: "cut",
+            level: share_level(cut),
+            count: cut.count,
+            of: cut.of,
+            example: example_at(traces, cut.first),
+            what: "lacks what nine of ten have",
+        },
+    )
+}
+
 /// Appends the row of these times.
 fn push_extremes(
     text: &mut Vec<u8>,
@@ -240,8 +270,17 @@ fn push_days(text: &mut Vec<u8>, times: Option<Times>, traces: u64) -> Result<()
     )
 }
 
-/// Appends the rows on traces with these facts and times.
-fn push_all(
+/// Appends the rows on the times of so many traces.
+fn push_time_rows(text: &mut Vec<u8>, times: Option<Times>, traces: u64) -> Result<(), AllocError>
+    ensures { OnOk result (text.new.items
+        ≡ text.old.items ++ times_row times ++ days_row times traces) }
+{
+    push_times(text, times)?;
+    push_days(text, times, traces)
+}
+
+/// Appends the rows on times and verdicts.
+fn push_verdicts(
     text: &mut Vec<u8>,
     traces: &GatheredEvents,
     facts: &[TraceFacts],
@@ -254,32 +293,51 @@ fn push_all(
         slowest }
     requires within { IfSome slowest.first (λ i. i < length facts.now) }
     ensures { OnOk result (text.new.items
-        ≡ text.old.items ++ trace_rows (requests_in traces.now.traces) facts.now times) }
+        ≡ text.old.items ++ verdict_rows traces.now.traces facts.now times) }
 {
-    push_times(text, times)?;
-    push_days(text, times, facts.len() as u64)?;
+    push_time_rows(text, times, facts.len() as u64)?;
     push_measures(text, traces, facts, &FIRST_MEASURES)?;
-    push_slowest(text, traces, facts, slowest)?;
-    push_measures(text, traces, facts, &LAST_MEASURES)
+    push_slowest(text, traces, facts, slowest)
 }
 
-/// Appends the rows on traces with these facts, whose least and greatest time it finds.
-fn push_facts(
+/// Appends the rows on the clocks of machines of traces, whose facts these are.
+fn push_clocks(
+    alloc: Global,
     text: &mut Vec<u8>,
     traces: &GatheredEvents,
     facts: &[TraceFacts],
-    slowest: Tally,
+) -> Result<(), AllocError>
+    requires found { AllZip IsFacts traces.now.traces facts.now }
+    requires one { length facts.now ≡ length traces.now.traces }
+    requires count { length facts.now < 2 ^ 32 }
+    requires few { All (λ (t : PlainTrace). length t.events < 2 ^ 32) traces.now.traces }
+    requires timely { All (λ (t : PlainTrace). AreTimely t.events) traces.now.traces }
+    ensures { OnOk result (AppendsClocks traces.now.traces facts.now text.old.items
+        text.new.items) }
+{
+    let told = find_told(alloc, traces, facts)?;
+    push_measures(text, traces, facts, &CLOCK_MEASURES)?;
+    push_machine_rows(alloc, text, traces, &told)
+}
+
+/// Appends the rows on messages, on traces that were cut short, and on waits.
+fn push_messages(
+    text: &mut Vec<u8>,
+    traces: &GatheredEvents,
+    facts: &[TraceFacts],
+    cut: Tally,
 ) -> Result<(), AllocError>
     requires one { length facts.now ≡ length traces.now.traces }
     requires few { length facts.now < 2 ^ 32 }
-    requires tally { IsTally (counts_slow_refused facts.now) (counts_slow facts.now) facts.now
-        slowest }
-    requires within { IfSome slowest.first (λ i. i < length facts.now) }
-    ensures { OnOk result (AppendsFacts traces.now.traces facts.now text.old.items
-        text.new.items) }
+    requires tally { IsTally (counts_cut traces.now.traces) (counts_grouped traces.now.traces)
+        traces.now.traces cut }
+    requires within { IfSome cut.first (λ i. i < length traces.now.traces) }
+    ensures { OnOk result (text.new.items
+        ≡ text.old.items ++ message_rows traces.now.traces facts.now) }
 {
-    let times = find_extremes(facts);
-    push_all(text, traces, facts, times, slowest)
+    push_measures(text, traces, facts, &MESSAGE_MEASURES)?;
+    push_cut(text, traces, cut)?;
+    push_measure(text, traces, facts, Measure::Wait)
 }
 
 /// Appends the rows on traces, whose facts these are.
@@ -291,11 +349,17 @@ fn push_found(
 ) -> Result<(), AllocError>
     requires found { AllZip IsFacts traces.now.traces facts.now }
     requires one { length facts.now ≡ length traces.now.traces }
-    requires few { length facts.now < 2 ^ 32 }
+    requires count { length facts.now < 2 ^ 32 }
+    requires few { All (λ (t : PlainTrace). length t.events < 2 ^ 32) traces.now.traces }
+    requires timely { All (λ (t : PlainTrace). AreTimely t.events) traces.now.traces }
     ensures { OnOk result (AppendsTraceRows traces.now.traces text.old.items text.new.items) }
 {
+    let times = find_extremes(facts);
     let slowest = tally_slowest(alloc, facts)?;
-    push_facts(text, traces, facts, slowest)
+    let cut = tally_cut(alloc, traces)?;
+    push_verdicts(text, traces, facts, times, slowest)?;
+    push_clocks(alloc, text, traces, facts)?;
+    push_messages(text, traces, facts, cut)
 }
 
 /// Finds the facts of traces.

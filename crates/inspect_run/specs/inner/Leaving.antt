@@ -7,8 +7,10 @@ use Rattle.mystery_io.specs.Prefixes.{AppendsPrefix}
 use Rattle.event_lines.specs.declared.line.Line.{Line}
 use Rattle.line_quality.specs.EventsRead.{events_in}
 use Rattle.line_quality.specs.declared.findings.Findings.{Findings}
+use Rattle.inspect_run.specs.GraceRows.{AreGraceRows}
 use Rattle.inspect_run.specs.LineRows.{rows_of_lines}
 use Rattle.inspect_run.specs.Logged.{logged_events}
+use Rattle.inspect_run.specs.NameRows.{AreNameRows}
 use Rattle.inspect_run.specs.TraceRows.{AreTraceRows}
 use Rattle.inspect_run.specs.declared.outcome.Outcome.{Outcome}
 use Rattle.inspect_run.specs.declared.outcome.Outcome.TheVariants.{Done, Memory, Arguments, File}
@@ -57,9 +59,14 @@ quality_text words lines findings =
     rows_of_lines words (length (events_in lines)) (length lines + length findings.reasons.items)
     findings.reasons.items findings.first.items
 
--- the text has the rows on lines that were judged, and those on the traces of their events
+-- the text has the rows on lines that were judged, those on the traces of their events, those on the
+-- names of segments of these, and those on relations that few of them refute
 pub record IsText (words : List (List ℕ)) (lines : List Line) (findings : Findings)
     (text : List ℕ) : Type 0 where
   pub rows : List ℕ
   pub told : AreTraceRows (traces_of (logged_events lines)) rows
-  pub printed : text ≡ quality_text words lines findings ++ rows
+  pub on_names : List ℕ
+  pub names_told : AreNameRows (traces_of (logged_events lines)) on_names
+  pub on_graces : List ℕ
+  pub graces_told : AreGraceRows (traces_of (logged_events lines)) on_graces
+  pub printed : text ≡ quality_text words lines findings ++ rows ++ on_names ++ on_graces

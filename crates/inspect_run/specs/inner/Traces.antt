@@ -1,16 +1,16 @@
 -- How rows on traces are appended.
-use Rattle.std.specs.Prelude.{ℕ, ◌≡◌, ◌++◌, List, Option}
+use Rattle.std.specs.Prelude.{ℕ, ◌≡◌, ◌++◌, List}
+use Rattle.machine_quality.specs.Told.{AreTold, NamedClock}
 use Rattle.trace_types.specs.Batch.{PlainTrace}
 use Rattle.trace_quality.specs.declared.trace_facts.TraceFacts.{TraceFacts}
-use Rattle.inspect_run.specs.TraceRows.{AreTimesOf, AreTraceRows, requests_in, trace_rows}
-use Rattle.trace_quality.specs.declared.times.Times.{Times}
+use Rattle.inspect_run.specs.TraceRows.{AreTraceRows, clock_rows}
 
--- the rows of traces with these facts were appended
-pub record AppendsFacts (traces : List PlainTrace) (facts : List TraceFacts) (old new : List ℕ)
+-- the rows on the clocks of machines were appended, of traces with these facts
+pub record AppendsClocks (traces : List PlainTrace) (facts : List TraceFacts) (old new : List ℕ)
     : Type 0 where
-  pub times : Option Times
-  pub extremes : AreTimesOf facts times
-  pub appended : new ≡ old ++ trace_rows (requests_in traces) facts times
+  pub told : List NamedClock
+  pub heard : AreTold traces told
+  pub appended : new ≡ old ++ clock_rows traces facts told
 
 -- the rows on traces were appended
 pub record AppendsTraceRows (traces : List PlainTrace) (old new : List ℕ) : Type 0 where

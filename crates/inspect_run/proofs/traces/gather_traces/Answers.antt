@@ -1,9 +1,8 @@
-use Rattle.std.proofs.Common.{◌≡◌, ◌<◌, ◌∙◌, All, List, ap, arith, length, subst, sym}
+use Rattle.std.proofs.Common.{◌<◌, ◌∙◌, All, List, ap, arith, length, subst, sym}
 use Rattle.trace_types.specs.Batch.{PlainTrace}
 use Rattle.trace_types.specs.Times.{AreTimely}
 use Rattle.event_lines.specs.LineParts.{lines_of_runs}
 use Rattle.event_table.specs.Gathered.{events_of_tables}
-use Rattle.inspect_run.specs.Logged.{logged_events}
 use Rattle.inspect_run.proofs.LoggedLemmas.{events_few, events_timely}
 use Rattle.inspect_run.proofs.ResultLemmas.{if_ok_with}
 use Rattle.inspect_run.proofs.traces.gather_traces.Goals as goal

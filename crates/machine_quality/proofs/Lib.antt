@@ -1,0 +1,5 @@
+pub mod ListLemmas
+pub mod TellingLemmas
+pub mod SightLemmas
+pub mod TallyLemmas
+pub mod LawLemmas

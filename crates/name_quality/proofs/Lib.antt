@@ -1,0 +1,4 @@
+pub mod AloneLemmas
+pub mod GatherLemmas
+pub mod LawLemmas
+pub mod PatternLemmas

@@ -1,0 +1,2 @@
+pub mod NearRelations
+pub mod inner

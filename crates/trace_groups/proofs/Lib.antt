@@ -1,0 +1,5 @@
+pub mod CountLemmas
+pub mod CountedLemmas
+pub mod CutLemmas
+pub mod NameLemmas
+pub mod PairLemmas
