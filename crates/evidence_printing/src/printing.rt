@@ -21,8 +21,10 @@ use evidence_text::{EvidenceRows, Naming, print_evidence_rows};
 use kept_books::KeptBook;
 use mystery_io::Sink;
 use std::alloc::Global;
+use std::thread::Threads;
 use text_rows::{PrintFault, RowBuffer};
 use trace_types::{NamedSegment, NamedTrace};
+use worker_limit::WorkerLimit;
 
 /// Prints the rows of the names and tasks with these numbers.
 fn print_rows<S: Sink>(
@@ -93,7 +95,8 @@ fn print_tables<S: Sink>(
 /// many rows of each kind follow, then the rows. All rows are found before the header is printed.
 /// After an error a prefix of the text was printed, or nothing of it, and nothing is said of the
 /// buffer.
-pub fn print_evidence<S: Sink>(
+pub fn print_evidence<R: Threads + Sync, S: Sink>(
+    workers: &WorkerLimit<'_, R>,
     alloc: Global,
     book: &KeptBook,
     choice: Choice,
@@ -106,6 +109,6 @@ pub fn print_evidence<S: Sink>(
         buffer.old buffer.new }
     ensures counted { S.faults sink.new ≡ print_faults result (S.faults sink.old) }
 {
-    let tables = make_tables(alloc, book)?;
+    let tables = make_tables(workers, alloc, book)?;
     print_tables(alloc, book, choice, &tables, sink, buffer)
 }

@@ -1,2 +1,5 @@
+pub mod CircleLemmas
 pub mod FigureLemmas
+pub mod StripLemmas
 pub mod TableLemmas
+pub mod TurnLemmas

@@ -1,5 +1,5 @@
--- A table of figures, with an entry for each ordered pair of names.
-use Rattle.std.specs.Prelude.{◌≡◌, ℕ, ◌+◌, ◌*◌, ◌<◌, ◌==◌, pos, List, map, slice_index_or}
+-- A table of figures, with those of each ordered pair of names.
+use Rattle.std.specs.Prelude.{ℕ, ◌<◌, ◌==◌, pos, List, [], slice_index_or}
 use Rattle.evidence_rules.specs.Meetings.{AreMeetingFigures, meetings_from}
 use Rattle.evidence_rules.specs.declared.between.Between.{Between}
 use Rattle.trace_types.specs.Parts.{by_number}
@@ -19,18 +19,14 @@ no_figures = record {
   nearest = pos 0;
 }
 
--- a table: the number of names, and the figures by the first name and then by the second
+-- a table: the number of names, and for each of them the figures of it and each name
 pub record TableState : Type 0 where
   pub names : ℕ
-  pub figures : List Between
-
--- the figures at a place
-abbrev pub entry : List Between → ℕ → Between
-entry figures place = slice_index_or figures place no_figures
+  pub rows : List (List Between)
 
 -- the figures of two names
 abbrev pub figures_of : TableState → ℕ → ℕ → Between
-figures_of t a b = entry t.figures (a * t.names + b)
+figures_of t a b = slice_index_or (slice_index_or t.rows a []) b no_figures
 
 -- the table has the figures of the meetings of each two names below this number
 abbrev pub IsTableOf : ℕ → List NamedTrace → TableState → Type 0

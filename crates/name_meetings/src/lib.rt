@@ -1,10 +1,12 @@
-//! The figures of the meetings of all names of many traces, in one pass: a table with an entry for
-//! each ordered pair of names.
+//! The figures of the meetings of all names of many traces: a table with an entry for each two
+//! names, which serves them in either order. Sixteen rows are filled at a time, by several workers.
 #![tactic(auto)]
 
-mod adding;
+mod circle;
+mod gap;
 mod meeting_table;
 mod noting;
+mod pair_figures;
+mod strip_table;
 
-pub use meeting_table::MeetingTable;
-pub use noting::meet_all;
+pub use meeting_table::{MeetingTable, meet_all};

@@ -1,97 +1,143 @@
-ghost use Rattle.std.specs.Prelude.{◌≡◌, ◌+◌, ◌*◌, ◌<◌, ◌≤◌, ◌^◌, All, IfOk, List, length, map};
-ghost use Rattle.std.specs.Prelude.{slice_set};
+ghost use Rattle.std.specs.Prelude.{◌≡◌, ◌+◌, ◌*◌, ◌<◌, ◌≤◌, ◌^◌, All, length, map, slice_set};
 ghost use Rattle.std.specs.Borrow.{Bor};
-ghost use Rattle.name_meetings.specs.Tables.{IsTableOf, entry};
 ghost use Rattle.name_meetings.specs.inner.Adding.{IsCounted, with_meeting};
-ghost use Rattle.name_meetings.specs.inner.Noting.{AreAtMost, AreBelow, IsRowAlone, IsRowAtMost};
-ghost use Rattle.name_meetings.specs.inner.Noting.{Meetings, Tells, and_then, meetings_among};
-ghost use Rattle.name_meetings.specs.inner.Noting.{meetings_with};
+ghost use Rattle.name_meetings.specs.inner.Noting.{AreAtMost, AreBelow, AreNew, AreTimed};
+ghost use Rattle.name_meetings.specs.inner.Noting.{IsRowAlone, IsRowAtMost, IsTimed, Meetings};
+ghost use Rattle.name_meetings.specs.inner.Noting.{TellsBoth, TellsSome, and_then, entry};
+ghost use Rattle.name_meetings.specs.inner.Noting.{meetings_among, meetings_with, met_onward};
+ghost use Rattle.name_meetings.specs.inner.Noting.{met_turned, onward_meeting, onwards};
+ghost use Rattle.name_meetings.specs.inner.Noting.{turned_meeting, turneds};
+ghost use Rattle.trace_types.specs.declared.named_segment.NamedSegment.{NamedSegment};
 ghost use Rattle.trace_types.specs.declared.named_trace.NamedTrace.{NamedTrace};
 
-use crate::MeetingTable;
-use crate::adding::{meeting, with_meeting};
-use evidence_rules::{Between, Meeting};
-use std::alloc::{AllocError, Global};
+use crate::circle::{ROWS, is_in_row, steps_between, width};
+use crate::gap::Gap;
+use crate::pair_figures::{GapMeeting, PairFigures};
 use trace_types::{NamedSegment, NamedTrace};
 
-/// Adds a meeting to the figures at a place.
-fn note_meeting(figures: &mut [Between], place: usize, meeting: &Meeting)
+/// Adds the meeting of two segments of a trace to the figures at a place.
+fn note_meeting<G: Gap>(
+    figures: &mut [PairFigures<G>],
+    place: usize,
+    index: u32,
+    trace: &NamedTrace,
+    one: &NamedSegment,
+    other: &NamedSegment,
+)
     requires within { place < length figures.old }
-    requires few { IsCounted (entry figures.old place) 4294967294 }
-    ensures { figures.new ≡ slice_set figures.old place
-        (with_meeting (entry figures.old place) meeting.now) }
+    requires few { IsCounted (entry (onwards G.value figures.old) place) 4294967294 }
+    requires one { IsTimed G.fits one.now }
+    requires other { IsTimed G.fits other.now }
+    ensures onward { onwards G.value figures.new ≡ slice_set (onwards G.value figures.old) place
+        (with_meeting (entry (onwards G.value figures.old) place)
+        (onward_meeting index trace.now one.now other.now)) }
+    ensures turned { turneds G.value figures.new ≡ slice_set (turneds G.value figures.old) place
+        (with_meeting (entry (turneds G.value figures.old) place)
+        (turned_meeting index trace.now one.now other.now)) }
 {
-    figures[place] = with_meeting(&figures[place], meeting);
+    let met = GapMeeting {
+        trace: index,
+        grace: trace.grace,
+        gap: G::between(one.end, other.start),
+        back: G::between(other.end, one.start),
+    };
+    figures[place].note(&met);
 }
 
-/// Adds the meetings of one segment of a trace with all of them.
-fn note_row(names: u32, figures: &mut [Between], index: u32, trace: &NamedTrace, one: &NamedSegment)
-    requires told { (met : Meetings) × Tells names figures.old met }
+/// Adds the meetings of one segment of a trace with those whose names stand in its row, among the
+/// sixteen rows of which the first has this name.
+fn note_row<G: Gap>(
+    names: u32,
+    first: u32,
+    figures: &mut [PairFigures<G>],
+    index: u32,
+    trace: &NamedTrace,
+    one: &NamedSegment,
+)
+    requires told { TellsSome G.value names first figures.old }
     requires below { AreBelow names trace.now.segments }
+    requires timed { AreTimed G.fits trace.now.segments }
+    requires from { first ≤ one.now.name }
+    requires to { one.now.name < first + 16 }
     requires one { one.now.name < names }
+    requires one_timed { IsTimed G.fits one.now }
     requires few_names { names ≤ 512 }
-    requires few { IsRowAtMost names one.now.name figures.old index }
+    requires few { IsRowAtMost names first one.now.name (onwards G.value figures.old) index }
     requires index { index < 4294967295 }
-    ensures told { (met : Meetings) → Tells names figures.old met → Tells names figures.new
-        (and_then met (meetings_with index trace.now one.now trace.now.segments)) }
-    ensures few { IsRowAtMost names one.now.name figures.new (index + 1) }
-    ensures alone { IsRowAlone names one.now.name figures.old figures.new }
+    ensures told { (onward turned : Meetings)
+        → TellsBoth G.value names first figures.old onward turned
+        → TellsBoth G.value names first figures.new
+        (and_then onward
+        (meetings_with (onward_meeting index trace.now) one.now trace.now.segments))
+        (and_then turned
+        (meetings_with (turned_meeting index trace.now) one.now trace.now.segments)) }
+    ensures few { IsRowAtMost names first one.now.name (onwards G.value figures.new)
+        (index + 1) }
+    ensures alone { IsRowAlone names first one.now.name (onwards G.value figures.old)
+        (onwards G.value figures.new) }
 {
     let segments = trace.segments.items();
+    let row = (one.name - first) as usize * width(names);
     'others: for at in 0..segments.len() {
         let other = &segments[at];
-        let place = one.name as usize * names as usize + other.name as usize;
-        note_meeting(figures, place, &meeting(index, trace, one, other));
+        if is_in_row(names, one.name, other.name) {
+            let place = row + steps_between(names, one.name, other.name) as usize;
+            note_meeting(figures, place, index, trace, one, other);
+        }
     }
 }
 
-/// Adds the meetings of a trace.
-fn note_trace(names: u32, figures: &mut [Between], index: u32, trace: &NamedTrace)
-    requires told { (met : Meetings) × Tells names figures.old met }
+/// Adds the meetings of a trace to sixteen rows, of which the first has this name.
+fn note_trace<G: Gap>(
+    names: u32,
+    first: u32,
+    figures: &mut [PairFigures<G>],
+    index: u32,
+    trace: &NamedTrace,
+)
+    requires told { TellsSome G.value names first figures.old }
     requires below { AreBelow names trace.now.segments }
+    requires timed { AreTimed G.fits trace.now.segments }
     requires few_names { names ≤ 512 }
-    requires few { AreAtMost names figures.old index }
+    requires first { first < 512 }
+    requires few { AreAtMost names first (onwards G.value figures.old) index }
     requires index { index < 4294967295 }
-    ensures told { (met : Meetings) → Tells names figures.old met → Tells names figures.new
-        (and_then met (meetings_among index trace.now trace.now.segments)) }
-    ensures few { AreAtMost names figures.new (index + 1) }
+    ensures told { (onward turned : Meetings)
+        → TellsBoth G.value names first figures.old onward turned
+        → TellsBoth G.value names first figures.new
+        (and_then onward (meetings_among (onward_meeting index trace.now) trace.now.segments
+        trace.now.segments))
+        (and_then turned (meetings_among (turned_meeting index trace.now) trace.now.segments
+        trace.now.segments)) }
+    ensures few { AreAtMost names first (onwards G.value figures.new) (index + 1) }
 {
     let segments = trace.segments.items();
     'ones: for at in 0..segments.len() {
-        note_row(names, figures, index, trace, &segments[at]);
+        let one = &segments[at];
+        if first <= one.name && one.name < first + ROWS {
+            note_row(names, first, figures, index, trace, one);
+        }
     }
 }
 
-/// Makes the table of the meetings of each two names below a number in traces, in one pass. The only
-/// error is out of memory.
-pub fn meet_all(
-    alloc: Global,
+/// Adds the meetings of traces to sixteen new rows, of which the first has this name.
+pub(crate) fn note_traces<G: Gap>(
     names: u32,
+    first: u32,
+    figures: &mut [PairFigures<G>],
     traces: &[&NamedTrace],
-) -> Result<MeetingTable, AllocError>
+)
+    requires none { AreNew G.value names figures.old }
     requires few_names { names ≤ 512 }
+    requires first { first < 512 }
     requires few { length traces.now < 2 ^ 32 }
-    requires below { All (λ (t : Bor NamedTrace). All (λ (s : NamedSegment). s.name < names)
-        t.now.segments) traces.now }
-    ensures names { IfOk result (λ table. table.names ≡ names) }
-    ensures told { IfOk result
-        (IsTableOf names (map (λ (t : Bor NamedTrace). t.now) traces.now)) }
+    requires below { All (λ (t : Bor NamedTrace). AreBelow names t.now.segments) traces.now }
+    requires timed { All (λ (t : Bor NamedTrace). AreTimed G.fits t.now.segments) traces.now }
+    ensures { TellsBoth G.value names first figures.new
+        (met_onward (map (λ (t : Bor NamedTrace). t.now) traces.now))
+        (met_turned (map (λ (t : Bor NamedTrace). t.now) traces.now)) }
 {
-    let count = names as usize * names as usize;
-    let none = Between {
-        traces: 0,
-        early: 0,
-        turned: 0,
-        both: 0,
-        first_early: 0,
-        first_both: 0,
-        least: 0,
-        greatest: 0,
-        nearest: 0,
-    };
-    let mut figures = Vec::from_elem(alloc, none, count)?;
     'traces: for index in 0..traces.len() {
-        note_trace(names, figures.as_mut_slice(), index as u32, traces[index]);
+        note_trace(names, first, figures, index as u32, traces[index]);
     }
-    Ok(MeetingTable { names, figures })
 }

@@ -102,7 +102,7 @@ impl Session {
             Job::Why => print_certificate(self.alloc, &self.book, sink, buffer),
             Job::Verify { claims } => print_verdicts(&self.book, claims.items(), sink, buffer),
             Job::Evidence { choice } => {
-                print_evidence(self.alloc, &self.book, choice, sink, buffer)
+                print_evidence(&workers, self.alloc, &self.book, choice, sink, buffer)
             }
         }
     }

@@ -15,6 +15,10 @@ lesser_of none one other = if none || int_lt other one then other else one
 abbrev pub greater_of : Bool → ℤ → ℤ → ℤ
 greater_of none one other = if none || int_lt one other then other else one
 
+-- the greater of two gaps
+abbrev pub greater_gap : ℤ → ℤ → ℤ
+greater_gap one other = if int_lt one other then other else one
+
 -- the index where it is the first that counts
 abbrev pub first_of : ℕ → Bool → ℕ → ℕ → ℕ
 first_of count wanted first index = if (count == 0) && wanted then index else first
@@ -32,6 +36,10 @@ with_meeting f m = record {
   greatest = greater_of (f.traces == 0) f.greatest m.gap;
   nearest = lesser_of (f.traces == 0) f.nearest (distance m);
 }
+
+-- the meeting with its two segments in the other order
+abbrev pub turned_round : Meeting → Meeting
+turned_round m = record { trace = m.trace; grace = m.grace; gap = m.back; back = m.gap }
 
 -- no count is above this number
 pub record IsCounted (f : Between) (most : ℕ) : Type 0 where
