@@ -4,12 +4,12 @@ ghost use Rattle.evidence_text.specs.Naming.{rows_of};
 ghost use Rattle.name_rows.specs.Kinds.{between_at};
 ghost use Rattle.task_rows.specs.Kinds.{sharing_at};
 
-use crate::of_names::{kind_rows as kind_rows_of_names, order_rows};
-use crate::of_tasks::kind_rows as kind_rows_of_tasks;
+use crate::of_names::{order_rows, sorted_rows};
+use crate::of_tasks::kind_rows;
 use evidence_rules::Choice;
 use evidence_text::EvidenceRows;
 use name_meetings::MeetingTable;
-use name_rows::NameKind;
+use name_rows::list_rows;
 use std::alloc::{AllocError, Global};
 use task_rows::{SharingTable, TaskKind};
 
@@ -30,15 +30,14 @@ pub fn find_rows(
     ensures { IfOk result (λ rows. AreRows choice (length names.now) (length tasks.now)
         (between_at meetings.now names.now) (sharing_at sharings.now tasks.now) (rows_of rows)) }
 {
-    let exclusion = NameKind::Exclusion;
-    let nearly_order = NameKind::NearlyOrder;
-    let nearly_exclusion = NameKind::NearlyExclusion;
+    let lists = list_rows(alloc, meetings, names, choice.least)?;
+    let count = names.len() as u32;
     Ok(EvidenceRows {
-        orders: order_rows(alloc, choice, meetings, names)?,
-        exclusions: kind_rows_of_names(alloc, choice, meetings, names, exclusion)?,
-        pipes: kind_rows_of_tasks(alloc, choice, sharings, tasks, TaskKind::Pipe)?,
-        nearly_orders: kind_rows_of_names(alloc, choice, meetings, names, nearly_order)?,
-        nearly_exclusions: kind_rows_of_names(alloc, choice, meetings, names, nearly_exclusion)?,
-        nearly_pipes: kind_rows_of_tasks(alloc, choice, sharings, tasks, TaskKind::NearlyPipe)?,
+        orders: order_rows(alloc, choice.reduced, count, &lists.orders)?,
+        exclusions: sorted_rows(alloc, &lists.exclusions)?,
+        pipes: kind_rows(alloc, choice, sharings, tasks, TaskKind::Pipe)?,
+        nearly_orders: sorted_rows(alloc, &lists.nearly_orders)?,
+        nearly_exclusions: sorted_rows(alloc, &lists.nearly_exclusions)?,
+        nearly_pipes: kind_rows(alloc, choice, sharings, tasks, TaskKind::NearlyPipe)?,
     })
 }

@@ -1,46 +1,38 @@
-ghost use Rattle.std.specs.Prelude.{◌<◌, ◌≤◌, All, IfOk, length};
-ghost use Rattle.evidence_rules.specs.EvidenceRows.{AreNameRows, AreOrderRows};
-ghost use Rattle.name_rows.specs.Kinds.{between_at, is_told};
+ghost use Rattle.std.specs.Prelude.{◌≤◌, ℕ, IfOk, List};
+ghost use Rattle.evidence_rules.specs.EvidenceRows.{AreBySupport};
+ghost use Rattle.name_rows.specs.Kinds.{traces_of};
+ghost use Rattle.evidence_rows.specs.inner.Listed.{AreListed, AreOrdersBySupport};
 
-use evidence_rules::{Between, Choice, PairRow};
-use name_meetings::MeetingTable;
-use name_rows::{NameKind, list_rows, sort_rows, without_implied};
+use evidence_rules::{Between, PairRow};
+use name_rows::{sort_rows, without_implied};
 use std::alloc::{AllocError, Global};
 
-/// Lists the rows of a kind, in the order of their support.
-pub(crate) fn kind_rows(
+/// Sorts listed rows of at most 512 names by their support.
+pub(crate) fn sorted_rows(
     alloc: Global,
-    choice: Choice,
-    table: &MeetingTable,
-    names: &[u32],
-    kind: NameKind,
+    rows: &[PairRow<Between>],
 ) -> Result<Vec<PairRow<Between>>, AllocError>
-    requires names { All (λ n. n < table.now.names) names.now }
-    requires few { length names.now ≤ 512 }
-    ensures { IfOk result (λ rows. AreNameRows choice (length names.now)
-        (between_at table.now names.now) (is_told kind) rows.items) }
+    requires { (names : ℕ) × (names ≤ 512) × AreListed names rows.now }
+    ensures { IfOk result (λ sorted. AreBySupport traces_of rows.now sorted.items) }
 {
-    let rows = list_rows(alloc, table, names, kind, choice.least)?;
-    sort_rows(alloc, &rows)
+    sort_rows(alloc, rows)
 }
 
-/// Lists the orders, in the order of their support, without those that others imply where this is
-/// asked.
+/// Sorts the listed orders of so many names by their support, without those that others imply where
+/// this is asked.
 pub(crate) fn order_rows(
     alloc: Global,
-    choice: Choice,
-    table: &MeetingTable,
-    names: &[u32],
+    reduced: bool,
+    names: u32,
+    rows: &[PairRow<Between>],
 ) -> Result<Vec<PairRow<Between>>, AllocError>
-    requires names { All (λ n. n < table.now.names) names.now }
-    requires few { length names.now ≤ 512 }
-    ensures { IfOk result (λ rows. AreOrderRows choice (length names.now)
-        (between_at table.now names.now) rows.items) }
+    requires few { names ≤ 512 }
+    requires listed { AreListed names rows.now }
+    ensures { IfOk result (λ sorted. AreOrdersBySupport reduced rows.now sorted.items) }
 {
-    let rows = list_rows(alloc, table, names, NameKind::Order, choice.least)?;
-    if !choice.reduced {
-        return sort_rows(alloc, &rows);
+    if !reduced {
+        return sort_rows(alloc, rows);
     }
-    let left = without_implied(alloc, names.len() as u32, &rows)?;
+    let left = without_implied(alloc, names, rows)?;
     sort_rows(alloc, &left)
 }

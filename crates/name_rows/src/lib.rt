@@ -9,6 +9,6 @@ mod reducing;
 mod sorting;
 
 pub use kind::NameKind;
-pub use listing::list_rows;
+pub use listing::{NameLists, list_rows};
 pub use reducing::without_implied;
 pub use sorting::sort_rows;

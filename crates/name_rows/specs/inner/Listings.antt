@@ -8,11 +8,14 @@ use Rattle.name_meetings.specs.Tables.{TableState}
 use Rattle.name_rows.specs.Kinds.{between_at, is_told, traces_of}
 use Rattle.name_rows.specs.declared.kind.NameKind.{NameKind}
 
--- the row of two places where it is told and supported
+-- the row of two places with these figures, where it is told and supported
+abbrev pub row_told : NameKind → ℕ → ℕ → ℕ → Between → List (PairRow Between)
+row_told kind least a b figures = if supported traces_of least (is_told kind) a b figures
+    then record { first = a; second = b; figures = figures } ∷ [] else []
+
+-- that of two places of a list of names
 abbrev pub rows_of_pair : TableState → List ℕ → NameKind → ℕ → ℕ → ℕ → List (PairRow Between)
-rows_of_pair table names kind least a b =
-    if supported traces_of least (is_told kind) a b (between_at table names a b)
-    then record { first = a; second = b; figures = between_at table names a b } ∷ [] else []
+rows_of_pair table names kind least a b = row_told kind least a b (between_at table names a b)
 
 -- those of one place with the first so many
 abbrev pub rows_of_place : TableState → List ℕ → NameKind → ℕ → ℕ → ℕ → List (PairRow Between)
