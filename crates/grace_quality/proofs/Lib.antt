@@ -1,2 +1,3 @@
 pub mod GapLemmas
 pub mod NearLemmas
+pub mod GraceLemmas

@@ -1,3 +1,4 @@
 pub mod Graces
+pub mod GraceLaws
 pub mod Near
 pub mod inner
