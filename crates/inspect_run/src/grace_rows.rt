@@ -13,6 +13,7 @@ use near_relations::{NearFound, find_near_relations};
 use segment_names::NameFault;
 use std::alloc::{AllocError, Global};
 use std::thread::Threads;
+use worker_limit::WorkerLimit;
 
 /// Appends the rows on the relations that were found.
 fn push_found(alloc: Global, text: &mut Vec<u8>, found: &NearFound) -> Result<(), AllocError>
@@ -36,7 +37,7 @@ fn push_too_many(text: &mut Vec<u8>) -> Result<(), AllocError>
 /// Appends the rows on relations that few traces refute, all of these by little. The only error is
 /// out of memory.
 pub(crate) fn push_grace_rows<R: Threads + Sync>(
-    rt: &R,
+    workers: &WorkerLimit<'_, R>,
     alloc: Global,
     text: &mut Vec<u8>,
     traces: &GatheredEvents,
@@ -46,7 +47,7 @@ pub(crate) fn push_grace_rows<R: Threads + Sync>(
     requires timely { All (λ (t : PlainTrace). AreTimely t.events) traces.now.traces }
     ensures { OnOk result (AppendsGraceRows traces.now.traces text.old.items text.new.items) }
 {
-    match find_near_relations(rt, alloc, traces) {
+    match find_near_relations(workers, alloc, traces) {
         Ok(found) => push_found(alloc, text, &found),
         Err(NameFault::Memory) => Err(AllocError),
         Err(NameFault::Over { .. }) => push_too_many(text),

@@ -2,6 +2,7 @@
 //! tell the quality of the input, over any files and sinks.
 #![tactic(auto)]
 
+mod all_rows;
 mod command_line;
 mod grace_rows;
 mod input_reading;
@@ -22,6 +23,7 @@ mod row;
 mod subject;
 mod trace_rows;
 mod traces;
+mod workers;
 
 pub use level::Level;
 pub use outcome::Outcome;

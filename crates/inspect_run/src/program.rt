@@ -16,15 +16,14 @@ ghost use Rattle.inspect_run.specs.inner.Leaving.{IsText, LeavesFiles, LeavesSin
 ghost use Rattle.inspect_run.specs.inner.Leaving.{quality_text, sink_faults_after};
 
 use crate::Outcome;
+use crate::all_rows::push_all_rows;
 use crate::command_line::are_files;
-use crate::grace_rows::push_grace_rows;
 use crate::input_reading::{Judged, read_input};
 use crate::line_counts::{count_events, count_lines};
 use crate::line_rows::push_line_rows;
 use crate::message::send_message;
-use crate::name_rows::push_name_rows;
-use crate::trace_rows::push_trace_rows;
 use crate::traces::gather_traces;
+use crate::workers::limit_on;
 use mystery_io::{Files, Sink, write_text};
 use std::alloc::{AllocError, Global};
 use std::thread::Threads;
@@ -57,10 +56,8 @@ fn make_text<R: Threads + Sync>(
 {
     let mut text = Vec::new(alloc);
     push_lines(&mut text, words, &judged)?;
-    let traces = gather_traces(rt, alloc, judged.runs)?;
-    push_trace_rows(alloc, &mut text, &traces)?;
-    push_name_rows(alloc, &mut text, &traces)?;
-    push_grace_rows(rt, alloc, &mut text, &traces)?;
+    let traces = gather_traces(&limit_on(rt), alloc, judged.runs)?;
+    push_all_rows(rt, alloc, &mut text, &traces)?;
     Ok(text)
 }
 

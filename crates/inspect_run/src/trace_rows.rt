@@ -22,10 +22,12 @@ use crate::row::{Row, push_row};
 use event_table::GatheredEvents;
 use machine_quality::find_told;
 use std::alloc::{AllocError, Global};
+use std::thread::Threads;
 use trace_groups::tally_cut;
 use trace_quality::{
     Measure, Refusal, Tally, Times, TraceFacts, add_up, find_extremes, find_facts, tally_slowest,
 };
+use worker_limit::WorkerLimit;
 
 /// A day of 86,400 seconds, in nanoseconds.
 const NANOSECONDS_PER_DAY: u64 = 86_400_000_000_000;
@@ -363,17 +365,22 @@ fn push_found(
 }
 
 /// Finds the facts of traces.
-fn find_all(alloc: Global, traces: &GatheredEvents) -> Result<Vec<TraceFacts>, AllocError>
+fn find_all<R: Threads + Sync>(
+    workers: &WorkerLimit<'_, R>,
+    alloc: Global,
+    traces: &GatheredEvents,
+) -> Result<Vec<TraceFacts>, AllocError>
     requires few { All (λ (t : PlainTrace). length t.events < 2 ^ 32) traces.now.traces }
     requires timely { All (λ (t : PlainTrace). AreTimely t.events) traces.now.traces }
     ensures found { IfOk result (λ facts. AllZip IsFacts traces.now.traces facts.items) }
     ensures one { IfOk result (λ facts. length facts.items ≡ length traces.now.traces) }
 {
-    find_facts(alloc, traces)
+    find_facts(workers, alloc, traces)
 }
 
 /// Appends the rows on traces. The only error is out of memory.
-pub(crate) fn push_trace_rows(
+pub(crate) fn push_trace_rows<R: Threads + Sync>(
+    workers: &WorkerLimit<'_, R>,
     alloc: Global,
     text: &mut Vec<u8>,
     traces: &GatheredEvents,
@@ -383,6 +390,6 @@ pub(crate) fn push_trace_rows(
     requires timely { All (λ (t : PlainTrace). AreTimely t.events) traces.now.traces }
     ensures { OnOk result (AppendsTraceRows traces.now.traces text.old.items text.new.items) }
 {
-    let facts = find_all(alloc, traces)?;
+    let facts = find_all(workers, alloc, traces)?;
     push_found(alloc, text, traces, &facts)
 }

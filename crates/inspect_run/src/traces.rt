@@ -11,9 +11,7 @@ use event_table::{GatheredEvents, gather};
 use std::alloc::{AllocError, Global};
 use std::thread::Threads;
 use trace_quality::laws::traces_are_few;
-
-/// How many workers place the events.
-const WORKERS: u32 = 4;
+use worker_limit::WorkerLimit;
 
 /// Takes the events out of runs of lines.
 fn take_events(alloc: Global, runs: Vec<LineRun>) -> Result<EventParts, AllocError>
@@ -28,7 +26,7 @@ fn take_events(alloc: Global, runs: Vec<LineRun>) -> Result<EventParts, AllocErr
 
 /// Gathers the events of lines into traces. The only error is out of memory.
 pub(crate) fn gather_traces<R: Threads + Sync>(
-    rt: &R,
+    workers: &WorkerLimit<'_, R>,
     alloc: Global,
     runs: Vec<LineRun>,
 ) -> Result<GatheredEvents, AllocError>
@@ -45,5 +43,5 @@ pub(crate) fn gather_traces<R: Threads + Sync>(
     traces_keep_facts();
     traces_are_few();
     let events = take_events(alloc, runs)?;
-    gather(rt, alloc, events.into_parts(), WORKERS)
+    gather(workers.runtime, alloc, events.into_parts(), workers.most)
 }

@@ -22,6 +22,7 @@ use std::alloc::{AllocError, Global};
 use std::thread::Threads;
 use trace_types::laws::numbering_is_one_to_one;
 use trace_types::{NameText, NamedTrace};
+use worker_limit::WorkerLimit;
 
 /// Lends each of some traces.
 fn lend_all(alloc: Global, traces: &[NamedTrace]) -> Result<Vec<&NamedTrace>, AllocError>
@@ -35,7 +36,12 @@ fn lend_all(alloc: Global, traces: &[NamedTrace]) -> Result<Vec<&NamedTrace>, Al
 }
 
 /// Makes the table of the meetings of each two names in traces.
-fn make_table(alloc: Global, names: u32, traces: &[NamedTrace]) -> Result<MeetingTable, AllocError>
+fn make_table<R: Threads + Sync>(
+    workers: &WorkerLimit<'_, R>,
+    alloc: Global,
+    names: u32,
+    traces: &[NamedTrace],
+) -> Result<MeetingTable, AllocError>
     requires few_names { names ≤ 512 }
     requires few { length traces.now < 2 ^ 32 }
     requires below { All (HaveNamesBelow names) traces.now }
@@ -43,11 +49,12 @@ fn make_table(alloc: Global, names: u32, traces: &[NamedTrace]) -> Result<Meetin
     ensures told { IfOk result (IsTableOf names traces.now) }
 {
     let lent = lend_all(alloc, traces)?;
-    meet_all(alloc, names, &lent)
+    meet_all(workers, alloc, names, &lent)
 }
 
 /// Finds the relations in traces, and how many there are of names that meet.
-fn find_all(
+fn find_all<R: Threads + Sync>(
+    workers: &WorkerLimit<'_, R>,
     alloc: Global,
     names: u32,
     traces: &[NamedTrace],
@@ -57,7 +64,7 @@ fn find_all(
     requires below { All (HaveNamesBelow names) traces.now }
     ensures { IfOk result (λ found. AreFound names traces.now found.0 found.1.items) }
 {
-    let table = make_table(alloc, names, traces)?;
+    let table = make_table(workers, alloc, names, traces)?;
     Ok((count_met(&table, names), find_near(alloc, &table, names)?))
 }
 
@@ -65,7 +72,7 @@ fn find_all(
 /// fewer than one in a hundred of those with both names, and all of them by less than a millisecond.
 /// The errors are out of memory, and a limit of names or tasks that the traces pass.
 pub fn find_near_relations<R: Threads + Sync>(
-    rt: &R,
+    workers: &WorkerLimit<'_, R>,
     alloc: Global,
     gathered: &GatheredEvents,
 ) -> Result<NearFound, NameFault>
@@ -81,9 +88,9 @@ pub fn find_near_relations<R: Threads + Sync>(
     // For the proof alone.
     numbering_is_one_to_one::<NameText>();
     let mut catalogue = Catalogue::new(alloc);
-    let traces = name_traces(rt, alloc, gathered, &mut catalogue)?;
+    let traces = name_traces(workers, alloc, gathered, &mut catalogue)?;
     let names = catalogue.names();
-    let (met, near) = find_all(alloc, names, &traces)?;
+    let (met, near) = find_all(workers, alloc, names, &traces)?;
     Ok(NearFound {
         catalogue,
         traces,

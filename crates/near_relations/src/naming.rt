@@ -11,14 +11,12 @@ use segment_names::{Catalogue, NameFault};
 use std::alloc::Global;
 use std::thread::Threads;
 use trace_types::NamedTrace;
-
-/// How many workers cut and name the traces.
-const WORKERS: u32 = 4;
+use worker_limit::WorkerLimit;
 
 /// Cuts the traces of a batch, and names the valid ones by an empty catalogue, to which their names
 /// are added.
 pub(crate) fn name_traces<R: Threads + Sync>(
-    rt: &R,
+    workers: &WorkerLimit<'_, R>,
     alloc: Global,
     gathered: &GatheredEvents,
     catalogue: &mut Catalogue,
@@ -30,14 +28,14 @@ pub(crate) fn name_traces<R: Threads + Sync>(
         (λ named. IsBatchNamed gathered.now.traces catalogue.new named.items) }
     ensures cause { IfErr result (HasCause (PassesLimitOf gathered.now.traces)) }
 {
-    let judged = judge_batch(rt, alloc, gathered, WORKERS)?;
+    let judged = judge_batch(workers.runtime, alloc, gathered, workers.most)?;
     name_batch(
-        rt,
+        workers.runtime,
         alloc,
         catalogue,
         gathered.texts(),
         judged.valid,
         0,
-        WORKERS,
+        workers.most,
     )
 }

@@ -1,5 +1,5 @@
 -- The facts of traces, one after another.
-use Rattle.std.proofs.Common.{◌≡◌, ℕ, ◌+◌, ◌≤◌, List, [], ◌∷◌, ◌++◌, length, get_or, take, subst, sym, Some}
+use Rattle.std.proofs.Common.{◌≡◌, ℕ, zero, suc, ◌+◌, ◌<◌, ◌≤◌, List, [], ◌∷◌, ◌++◌, length, get_or, take, subst, sym, Some, refl, arith}
 use Rattle.std.specs.List.{AllZip, slice_get}
 use Rattle.std.proofs.lemmas.List.{take_all, take_more}
 use Rattle.std.proofs.lemmas.Option.{get_or_from_slice_get, slice_get_within}
@@ -24,3 +24,9 @@ module _ (traces : List PlainTrace) (facts : List TraceFacts) (i : ℕ) (h : All
 
   pub facts_all : length traces ≤ i → AllZip IsFacts traces facts
   facts_all ge = subst (λ ts. AllZip IsFacts ts facts) (take_all i traces ge) h
+
+-- a place within a list has an element
+pub some_at : {X : Type 0} (xs : List X) (i : ℕ) → i < length xs → (x : X) × slice_get xs i ≡ Some x
+some_at [] i h = absurd (omega (arith, h))
+some_at (x ∷ xs) zero h = (x, refl)
+some_at (x ∷ xs) (suc i) h = some_at xs i (omega (arith, h))

@@ -2,3 +2,4 @@
 pub mod Adding
 pub mod MessageSets
 pub mod NamedSets
+pub mod Finding
