@@ -1,0 +1,4 @@
+mod FieldLemmas
+mod NumberLemmas
+mod ReadingLemmas
+mod RowLemmas
