@@ -1,0 +1,9 @@
+//! The head of a page: the figures of all loads, their latency rank by rank, and what was refused.
+#![tactic(auto)]
+
+mod columns;
+mod figures;
+mod head;
+mod texts;
+
+pub use head::push_head;

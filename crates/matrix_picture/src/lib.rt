@@ -1,0 +1,12 @@
+//! The relations between the boxes of the model, as a matrix: a cell for each two boxes.
+#![tactic(auto)]
+
+mod cell;
+mod labels;
+pub mod laws;
+mod mark;
+mod matrix;
+mod texts;
+
+pub use mark::Mark;
+pub use matrix::push_matrix;

@@ -1,0 +1,3 @@
+mod GainLemmas
+mod RankLemmas
+mod StripLemmas

@@ -1,0 +1,4 @@
+pub mod Rankings
+pub mod Strips
+pub mod Tables
+pub mod Texts

@@ -1,0 +1,8 @@
+use Rattle.std.proofs.Common.{◌≡◌, ◌++◌, take}
+use Rattle.std.specs.List.{flat_map}
+use Rattle.room_picture.specs.Rooms.{line_text}
+use Rattle.room_picture.proofs.ticks.push_lines.Given as goal
+
+-- the lines so far were appended
+abbrev pub invariant-powers : goal.invariant-powers
+invariant-powers l = l.bytes.items ≡ l.fn.bytes.items ++ flat_map (line_text l.full) (take l.power-index l.powers)

@@ -1,0 +1,3 @@
+pub mod Rooms
+pub mod Scales
+pub mod Texts

@@ -1,0 +1,44 @@
+-- Where a time lies on a scale whose steps grow: 1, 2 and 5 of each power of ten from 1 µs on.
+use Rattle.std.specs.Prelude.{ℕ, ◌≤◌, ◌+◌, ◌-◌, ◌*◌, ◌==◌, List, [], ◌∷◌, if◌then◌else◌}
+use Rattle.std.specs.Prelude.{sum_by}
+use Rattle.picture_parts.specs.Places.{part_of}
+use Rattle.picture_parts.specs.declared.span.Span.{Span}
+
+-- the powers of ten that begin a decade, in nanoseconds: 1 µs to 10,000 s
+abbrev pub decades : List ℕ
+decades = 1000 ∷ 10000 ∷ 100000 ∷ 1000000 ∷ 10000000 ∷ 100000000 ∷ 1000000000 ∷ 10000000000
+    ∷ 100000000000 ∷ 1000000000000 ∷ 10000000000000 ∷ []
+
+-- how far a time reaches into the decade from a power of ten on: each of its three steps, from 1 to
+-- 2, from 2 to 5 and from 5 to 10, is as wide as the others
+abbrev pub decade_part : (n power : ℕ) → ℕ
+decade_part n power = part_of 1000 (n - power) power
+    + (part_of 1000 (n - 2 * power) (3 * power) + part_of 1000 (n - 5 * power) (5 * power))
+
+-- how far a time reaches into all decades, in thousandths of a step
+abbrev pub steps_to : ℕ → ℕ
+steps_to n = sum_by (decade_part n) decades
+
+-- the place of a time on the width of a picture that ends at the time `full`: 0 stands apart at the
+-- left
+unfoldable pub room_place : (n full : ℕ) → ℕ
+room_place n full =
+    if n == 0 then 2000 else 12000 + part_of 84000 (steps_to n) (steps_to full)
+
+-- the bar from one time to another
+unfoldable pub room_span : (from to full : ℕ) → Span
+room_span from to full =
+    record { x = room_place from full; width = room_place to full - room_place from full }
+
+-- a place is within the width
+abbrev pub RoomPlaceIsWithin : Type 0
+RoomPlaceIsWithin = (n full : ℕ) → room_place n full ≤ 96000
+
+-- a longer time lies no further to the left
+abbrev pub RoomPlacesKeepOrder : Type 0
+RoomPlacesKeepOrder = (n m full : ℕ) → n ≤ m → room_place n full ≤ room_place m full
+
+-- a bar is within the width
+abbrev pub RoomSpanIsWithin : Type 0
+RoomSpanIsWithin =
+    (from to full : ℕ) → (room_span from to full).x + (room_span from to full).width ≤ 96000

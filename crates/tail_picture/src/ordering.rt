@@ -1,0 +1,109 @@
+ghost use Rattle.std.specs.Prelude.{◌≡◌, ◌++◌, ◌<◌, ◌^◌, IfOk, IsPermutation, OnOk};
+ghost use Rattle.std.specs.List.{flat_map};
+ghost use Rattle.std.specs.List.Sorted.{IsSortedByKey};
+ghost use Rattle.std.specs.Ordering.{nat_cmp};
+ghost use Rattle.tail_picture.specs.Tails.{IsTailOrder, apart, mean_of, others_of, row_if_seen};
+ghost use Rattle.tail_picture.specs.Tails.{tail_key, tailed_row};
+
+use crate::TailedRow;
+use page_rows::{Amount, Page, TailHead, TailRow};
+use std::alloc::{AllocError, Global};
+
+/// Finds the mean of a sum over so many.
+fn mean_of(sum: &Amount, count: u128) -> Amount
+    ensures { result ≡ mean_of sum.now count }
+{
+    let sum = sum.get();
+    if count == 0 {
+        return Amount::of(0);
+    }
+    Amount::of(sum / count)
+}
+
+/// Tells how many loads are not slow.
+pub(crate) fn others_of(head: &TailHead) -> u128
+    ensures { result ≡ others_of head.now }
+{
+    head.traces.get().saturating_sub(head.slow.get())
+}
+
+/// Makes the row of a name.
+fn make_row(alloc: Global, head: &TailHead, row: &TailRow) -> Result<TailedRow, AllocError>
+    ensures { IfOk result (λ made. made ≡ tailed_row head.now row.now) }
+{
+    Ok(TailedRow {
+        name: row.name.copy(alloc)?,
+        slow: mean_of(&row.slow_sum, head.slow.get()),
+        rest: mean_of(&row.rest_sum, others_of(head)),
+    })
+}
+
+/// Appends the row of a name, if it is on a critical path for some time.
+fn add_row(
+    alloc: Global,
+    head: &TailHead,
+    row: &TailRow,
+    rows: &mut Vec<TailedRow>,
+) -> Result<(), AllocError>
+    ensures { OnOk result (rows.new.items ≡ rows.old.items ++ row_if_seen head.now row.now) }
+{
+    if row.slow_sum.get() + row.rest_sum.get() > 0 {
+        rows.push(make_row(alloc, head, row)?)?;
+    }
+    Ok(())
+}
+
+/// Makes the rows of the names that are on critical paths.
+fn list_rows(
+    alloc: Global,
+    head: &TailHead,
+    segments: &[TailRow],
+) -> Result<Vec<TailedRow>, AllocError>
+    ensures { IfOk result (λ rows. rows.items ≡ flat_map (row_if_seen head.now) segments.now) }
+{
+    let mut rows = Vec::new(alloc);
+    'segments: for row in segments {
+        add_row(alloc, head, row, &mut rows)?;
+    }
+    Ok(rows)
+}
+
+/// Tells how far the two means are apart.
+pub(crate) fn apart(row: &TailedRow) -> u128
+    ensures value { result ≡ apart row.now }
+    ensures small { result < 2 ^ 80 }
+{
+    let slow = row.slow.get();
+    let rest = row.rest.get();
+    if slow < rest {
+        rest - slow
+    } else {
+        slow - rest
+    }
+}
+
+/// Returns the key by which rows are ordered: the farthest apart has the least.
+fn tail_key(row: &TailedRow) -> u128
+    ensures { result ≡ tail_key row.now }
+{
+    u128::MAX - apart(row)
+}
+
+/// Brings rows into order, those first that are farthest apart.
+fn order_rows(rows: &mut Vec<TailedRow>) -> Result<(), AllocError>
+    ensures same { IsPermutation rows.old.items rows.new.items }
+    ensures sorted { OnOk result (IsSortedByKey tail_key nat_cmp rows.new.items) }
+{
+    rows.sort_by_key(tail_key)?;
+    Ok(())
+}
+
+/// Finds the names on critical paths, those first that are farthest apart. The only error is out of
+/// memory.
+pub fn order_tail(alloc: Global, page: &Page) -> Result<Vec<TailedRow>, AllocError>
+    ensures { IfOk result (λ rows. IsTailOrder page.now rows.items) }
+{
+    let mut rows = list_rows(alloc, page.tail(), page.tail_segments())?;
+    order_rows(&mut rows)?;
+    Ok(rows)
+}
