@@ -1,0 +1,4 @@
+pub mod CommandLines
+pub mod Endings
+pub mod Messages
+pub mod inner
