@@ -1,0 +1,12 @@
+pub mod AcceptedLemmas
+pub mod BuiltLemmas
+pub mod CountLemmas
+pub mod FieldLemmas
+pub mod LawLemmas
+pub mod LineLemmas
+pub mod LookLemmas
+pub mod MarkLemmas
+pub mod MergedLemmas
+pub mod NumberLemmas
+pub mod RowLemmas
+pub mod WholeLemmas

@@ -1,0 +1,2 @@
+pub mod ReadableDigests
+pub mod ReadingLaws

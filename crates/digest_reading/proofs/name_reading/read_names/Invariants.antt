@@ -1,0 +1,16 @@
+use Rattle.std.proofs.Common.{◌≡◌, ◌+◌, ◌-◌, ◌≤◌, [], length}
+use Rattle.digest_reading.specs.DigestRows.{name_said}
+use Rattle.digest_reading.specs.Readings.{rows_said}
+use Rattle.digest_reading.proofs.name_reading.read_names.Given as goal
+
+-- the rows that are left after those so far are those of all
+abbrev pub invariant-rows : goal.invariant-rows
+invariant-rows l = record {
+  told : rows_said (name_said l.tasks) (l.count - length l.names.items) l.names.items l.number l.left ≡ rows_said (name_said l.tasks) l.count [] l.first l.bytes;
+  few : length l.names.items ≤ l.count;
+  room : l.number + length l.left ≤ l.first + length l.bytes;
+  later : l.first ≤ l.number;
+}
+
+abbrev pub decreases-rows : goal.decreases-rows
+decreases-rows l = l.count - length l.names.items

@@ -1,0 +1,3 @@
+pub mod DigestRows
+pub mod Headers
+pub mod Readings
