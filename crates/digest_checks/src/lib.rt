@@ -1,7 +1,7 @@
 //! Tests of digests over texts in memory: the two page loads of the examples, each a shard.
 #![tactic(auto)]
 
-use digest_merging::{DigestLimit, MergeFault, merge_digests};
+use digest_merging::{DigestLimit, MergeFault, merge_all, merge_digests};
 use digest_reading::{DigestFault, read_digests};
 use digest_text::{DigestTable, make_text};
 use std::alloc::{AllocError, Global};
@@ -96,6 +96,17 @@ fn merged_text(alloc: Global, texts: &[u8]) -> Option<Vec<u8>> {
     let Ok(tables) = tables_of(alloc, texts) else {
         return None;
     };
+    let Ok(all) = merge_all(alloc, &tables) else {
+        return None;
+    };
+    make_text(alloc, &all).ok()
+}
+
+/// Reads two shards as one text, and prints their merge; none where any of it fails.
+fn text_of_both(alloc: Global, texts: &[u8]) -> Option<Vec<u8>> {
+    let Ok(tables) = tables_of(alloc, texts) else {
+        return None;
+    };
     let [first, second] = tables.as_slice() else {
         return None;
     };
@@ -105,56 +116,66 @@ fn merged_text(alloc: Global, texts: &[u8]) -> Option<Vec<u8>> {
     make_text(alloc, &both).ok()
 }
 
-/// Reads the two digests of a text, and tells which limit their merge passes; none where it passes
+/// Prints the merge of no digest; none where it fails.
+fn text_of_none(alloc: Global) -> Option<Vec<u8>> {
+    let Ok(none) = merge_all(alloc, &[]) else {
+        return None;
+    };
+    make_text(alloc, &none).ok()
+}
+
+/// Reads the digests of a text, and tells which limit their merge passes; none where it passes
 /// none, or any of it fails.
 fn limit_passed(alloc: Global, texts: &[u8]) -> Option<DigestLimit> {
     let Ok(tables) = tables_of(alloc, texts) else {
         return None;
     };
-    let [first, second] = tables.as_slice() else {
-        return None;
-    };
-    match merge_digests(alloc, first, second) {
+    match merge_all(alloc, &tables) {
         Err(MergeFault::Limit(limit)) => Some(limit),
         _ => None,
     }
 }
 
-/// Appends the text of a digest with so many tasks, which have these numbers from `from` on, each
-/// with one name.
-fn put_tasks(alloc: Global, text: &mut String, from: u32, count: u32) -> Result<(), AllocError> {
-    let header = format!(in alloc; "summary\ttraces=1\tdays=1\ttasks={count}\tnames={count}\n")?;
+/// Appends the text of a digest of the most traces, with 40 tasks, which have these numbers from
+/// `from` on, each with so many names.
+fn put_digest(alloc: Global, text: &mut String, from: u32, each: u32) -> Result<(), AllocError> {
+    let names = u64::from(each) * 40;
+    let header = format!(in alloc;
+        "summary\ttraces=18446744073709551615\tdays=1\ttasks=40\tnames={names}\nday\t7\n"
+    )?;
     text.push_str(&header)?;
-    text.push_str("day\t7\n")?;
-    for kind in 0..2u32 {
-        for number in 0..count {
-            put_row(
-                alloc,
-                text,
-                kind,
-                u64::from(from) + u64::from(number),
-                number,
-            )?;
-        }
+    for number in 0..40u32 {
+        let task = u64::from(from) + u64::from(number);
+        let row = format!(in alloc; "task\t{task}\t")?;
+        text.push_str(&row)?;
+        put_marks(text, u64::from(number))?;
+    }
+    for number in 0..40u32 {
+        put_names(alloc, text, from, number, each)?;
     }
     Ok(())
 }
 
-/// Appends the row of a task or a name with this number, and so many marks.
-fn put_row(
+/// Appends the rows of the names of a task.
+fn put_names(
     alloc: Global,
     text: &mut String,
-    kind: u32,
-    number: u64,
-    marks: u32,
+    from: u32,
+    number: u32,
+    each: u32,
 ) -> Result<(), AllocError> {
-    let row = if kind == 0 {
-        format!(in alloc; "task\t{number}\t")?
-    } else {
-        format!(in alloc; "name\t{number}\tstart\tend\t")?
-    };
-    text.push_str(&row)?;
-    for _ in 0..marks {
+    let task = u64::from(from) + u64::from(number);
+    for start in 0..each {
+        let row = format!(in alloc; "name\t{task}\tstart {start}\tend\t")?;
+        text.push_str(&row)?;
+        put_marks(text, u64::from(number) * u64::from(each) + u64::from(start))?;
+    }
+    Ok(())
+}
+
+/// Appends so many marks of pairs of which nothing is known, and ends the row.
+fn put_marks(text: &mut String, count: u64) -> Result<(), AllocError> {
+    for _ in 0..count {
         text.push('.')?;
     }
     text.push('\n')?;
@@ -223,20 +244,76 @@ fn the_first_line_outside_the_form_is_told(rt: HostRuntime) {
 }
 
 #[test]
-fn the_limit_that_a_merge_passes_is_told(rt: HostRuntime) {
+fn two_are_merged_alike(rt: HostRuntime) {
     let alloc = rt.alloc();
-    let most = concat!(
-        "summary\ttraces=18446744073709551615\tdays=1\ttasks=0\tnames=0\nday\t7\n",
-        "summary\ttraces=1\tdays=1\ttasks=0\tnames=0\nday\t7\n",
-    );
-    assert!(rt; limit_passed(alloc, most.as_bytes()) == Some(DigestLimit::Traces));
+    let mut shards = Vec::new(alloc);
+    assert!(rt; shards.extend_from_slice(SECOND.as_bytes()).is_ok());
+    assert!(rt; shards.extend_from_slice(FIRST.as_bytes()).is_ok());
+    let both = text_of_both(alloc, &shards);
+    assert!(rt; both.is_some_and(|text| text.as_slice() == BOTH.as_bytes()));
 }
 
 #[test]
-fn more_tasks_than_64_are_told(rt: HostRuntime) {
+fn no_digest_is_that_of_no_trace(rt: HostRuntime) {
+    let none = text_of_none(rt.alloc());
+    let empty = b"summary\ttraces=0\tdays=0\ttasks=0\tnames=0\n";
+    assert!(rt; none.is_some_and(|text| text.as_slice() == empty.as_slice()));
+}
+
+#[test]
+fn five_shards_count_alone(rt: HostRuntime) {
+    let alloc = rt.alloc();
+    let mut shards = Vec::new(alloc);
+    for _ in 0..5 {
+        assert!(rt; shards.extend_from_slice(SECOND.as_bytes()).is_ok());
+    }
+    let header = b"summary\ttraces=5\tdays=1\ttasks=9\tnames=9\n";
+    let rows = SECOND.as_bytes().get(header.len()..).unwrap_or(b"");
+    let all = merged_text(alloc, &shards);
+    assert!(rt; all.is_some_and(|text| text.starts_with(header) && text.ends_with(rows)));
+}
+
+#[test]
+fn a_day_after_the_latest_is_refused(rt: HostRuntime) {
+    let alloc = rt.alloc();
+    let header = "summary\ttraces=1\tdays=1\ttasks=0\tnames=0\n";
+    let latest = concat!(
+        "summary\ttraces=1\tdays=1\ttasks=0\tnames=0\n",
+        "day\t47482\n"
+    );
+    let later = concat!(
+        "summary\ttraces=1\tdays=1\ttasks=0\tnames=0\n",
+        "day\t47483\n"
+    );
+    assert_eq!(rt; bad_line(alloc, header.as_bytes()), 2);
+    assert_eq!(rt; bad_line(alloc, latest.as_bytes()), 0);
+    assert_eq!(rt; bad_line(alloc, later.as_bytes()), 2);
+}
+
+#[test]
+fn too_many_traces_are_told_last(rt: HostRuntime) {
     let alloc = rt.alloc();
     let mut text = String::new(alloc);
-    assert!(rt; put_tasks(alloc, &mut text, 100, 40).is_ok());
-    assert!(rt; put_tasks(alloc, &mut text, 130, 40).is_ok());
-    assert!(rt; limit_passed(alloc, text.as_bytes()) == Some(DigestLimit::Tasks));
+    assert!(rt; put_digest(alloc, &mut text, 100, 1).is_ok());
+    assert!(rt; put_digest(alloc, &mut text, 120, 1).is_ok());
+    assert!(rt; limit_passed(alloc, text.as_bytes()) == Some(DigestLimit::Traces));
+}
+
+#[test]
+fn too_many_tasks_are_told_before_traces(rt: HostRuntime) {
+    let alloc = rt.alloc();
+    let mut text = String::new(alloc);
+    assert!(rt; put_digest(alloc, &mut text, 100, 1).is_ok());
+    assert!(rt; put_digest(alloc, &mut text, 130, 1).is_ok());
+    assert!(rt; put_digest(alloc, &mut text, 150, 1).is_ok());
+    assert!(rt; limit_passed(alloc, text.as_bytes()) == Some(DigestLimit::Tasks { count: 90 }));
+}
+
+#[test]
+fn too_many_names_are_told_first(rt: HostRuntime) {
+    let alloc = rt.alloc();
+    let mut text = String::new(alloc);
+    assert!(rt; put_digest(alloc, &mut text, 100, 9).is_ok());
+    assert!(rt; put_digest(alloc, &mut text, 130, 9).is_ok());
+    assert!(rt; limit_passed(alloc, text.as_bytes()) == Some(DigestLimit::Names { count: 630 }));
 }

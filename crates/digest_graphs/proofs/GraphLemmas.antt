@@ -49,7 +49,7 @@ module _ {A S N T E : Type 0} (p : Parts A S N T E) where
   }
 
   -- and the graphs
-  moved_graph : (P Q : N → N → Type 0) → ((a b : N) → a ≢ b → P a b ↔ Q a b) → (trace : A) (order : List ℕ) (g : Graph) → NamesDiffer p.name (p.segments trace) → IsTraceGraph p P trace order g → IsTraceGraph p Q trace order g
+  pub moved_graph : (P Q : N → N → Type 0) → ((a b : N) → a ≢ b → P a b ↔ Q a b) → (trace : A) (order : List ℕ) (g : Graph) → NamesDiffer p.name (p.segments trace) → IsTraceGraph p P trace order g → IsTraceGraph p Q trace order g
   moved_graph P Q same trace order g differ h = record {
     has = h.has;
     edges = λ v w i j a b. (

@@ -1,5 +1,5 @@
 -- The table of a digest that can be read is accepted row by row.
-use Rattle.std.proofs.Common.{◌≡◌, ◌⊎◌, ℕ, ◌-◌, ◌<◌, ◌^◌, ◌||◌, List, [], ◌∷◌, ◌++◌, length, get_or, map, Bool, true, false, true≢false, Option, Some, None, refl, sym, ap, ◌∙◌, subst, ⊎_elim, arith, Ordering}
+use Rattle.std.proofs.Common.{◌≡◌, ◌⊎◌, ℕ, ◌-◌, ◌≤◌, ◌||◌, List, [], ◌∷◌, ◌++◌, length, get_or, map, Bool, true, false, true≢false, Option, Some, None, refl, sym, ap, ◌∙◌, subst, ⊎_elim, arith, Ordering}
 use Rattle.std.specs.Prelude.{All, Contains, slice_get}
 use Rattle.std.specs.Cmp.Lexicographic.{slice_cmp}
 use Rattle.std.specs.List.{list_all, list_any}
@@ -21,12 +21,13 @@ use Rattle.digest_facts.proofs.MergeLemmas.{name_apart, pair_apart}
 use Rattle.digest_facts.proofs.TableLemmas.{has_from, has_to}
 use Rattle.digest_facts.proofs.UnionLemmas.{cons_cases, cons_here, cons_there, head_before, nil_has, pairs_tail}
 use Rattle.certificates.specs.Claims.{name_of_texts}
-use Rattle.digest_reading.specs.DigestRows.{are_marks, are_named, comes_after, has_task, is_name_mark, is_task_mark}
+use Rattle.digest_reading.specs.DigestRows.{are_marks, are_named, comes_after, has_task, is_name_mark, is_task_mark, latest_day}
 use Rattle.digest_reading.specs.Headers.{are_possible}
 use Rattle.digest_reading.specs.declared.digest_counts.DigestCounts.{DigestCounts}
 use Rattle.digest_laws.specs.ReadableDigests.{IsReadable}
 use Rattle.digest_laws.specs.ReadingLaws.{table_by_text}
 use Rattle.digest_laws.proofs.CountLemmas.{possible_of}
+use Rattle.digest_laws.proofs.DayLemmas.{few_days}
 use Rattle.digest_laws.proofs.FieldLemmas.{DayIn, NameIn, TaskIn}
 use Rattle.digest_laws.proofs.NumberLemmas.{IsGoodName, IsGoodText, name_is}
 use Rattle.digest_laws.proofs.RowLemmas.{AreAccepted}
@@ -49,16 +50,16 @@ last_cases : {X : Type 0} (xs : List X) (x y : X) → Contains (xs ++ x ∷ []) 
 last_cases xs x y c = Contains-push_cases xs x y c
 
 -- ---- days
-pub days_accepted : (earlier days : List ℕ) → Rises nat_cmp days → ((y x : ℕ) → Contains earlier y → Contains days x → nat_cmp y x ≡ Less) → All (λ d. d < 2 ^ 32) days → AreAccepted DayIn earlier days
+pub days_accepted : (earlier days : List ℕ) → Rises nat_cmp days → ((y x : ℕ) → Contains earlier y → Contains days x → nat_cmp y x ≡ Less) → All (λ d. d ≤ latest_day) days → AreAccepted DayIn earlier days
 days_accepted earlier [] up below small = tt
 days_accepted earlier (d ∷ days) up below small = (
-  record { small = All-head (λ (n : ℕ). n < 2 ^ 32) d days small; after = after_from nat_cmp earlier d (λ y c. below y d c (cons_here d days)) },
+  record { small = All-head (λ (n : ℕ). n ≤ latest_day) d days small; after = after_from nat_cmp earlier d (λ y c. below y d c (cons_here d days)) },
   days_accepted (earlier ++ d ∷ []) days (pairs_tail (λ (a b : ℕ). nat_cmp a b ≡ Less) d days up)
       (λ y x c e. ⊎_elim
       (λ (k : Contains earlier y). below y x k (cons_there d days x e))
       (λ (k : d ≡ y). subst (λ (v : ℕ). nat_cmp v x ≡ Less) k (head_before (λ (a b : ℕ). nat_cmp a b ≡ Less) d days x up e))
       (last_cases earlier d y c))
-      (All-tail (λ (n : ℕ). n < 2 ^ 32) d days small),
+      (All-tail (λ (n : ℕ). n ≤ latest_day) d days small),
 )
 
 -- ---- rows
@@ -188,7 +189,7 @@ module _ (s : Digest SegmentName (List ℕ)) (h : IsReadable s) where
       record {
         counts = record {
           traces = h.traces;
-          days = h.few_days;
+          days = few_days s.days h.coherent.form.days h.days;
           tasks = omega (arith, task_count, few.tasks);
           names = omega (arith, name_count, few.names);
           possible = subst (λ (c : DigestCounts). are_possible c ≡ true) same h.possible;

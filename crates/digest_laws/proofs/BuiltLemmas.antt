@@ -1,5 +1,5 @@
 -- A table that was read is the table of a digest that can be read.
-use Rattle.std.proofs.Common.{◌≡◌, ℕ, ◌-◌, ◌<◌, ◌≤◌, ◌^◌, ◌==◌, ◌||◌, List, [], ◌∷◌, ◌++◌, length, get_or, map, Bool, true, false, true≢false, Option, Some, None, refl, sym, ap, ◌∙◌, subst, ⊎_elim, arith, Ordering}
+use Rattle.std.proofs.Common.{◌≡◌, ℕ, ◌-◌, ◌<◌, ◌≤◌, ◌==◌, ◌||◌, List, [], ◌∷◌, ◌++◌, length, get_or, map, Bool, true, false, true≢false, Option, Some, None, refl, sym, ap, ◌∙◌, subst, ⊎_elim, arith, Ordering}
 use Rattle.std.specs.Prelude.{All, Contains, slice_get}
 use Rattle.std.specs.Cmp.Lexicographic.{slice_cmp}
 use Rattle.std.specs.List.{list_all, list_any}
@@ -22,7 +22,7 @@ use Rattle.digest_facts.proofs.ListLemmas.{from_map, to_map}
 use Rattle.digest_facts.proofs.MergeLemmas.{name_apart, nat_apart, text_apart}
 use Rattle.digest_facts.proofs.UnionLemmas.{cons_cases, cons_here, cons_there, nil_has, rises_cons}
 use Rattle.certificates.specs.Claims.{name_of_texts}
-use Rattle.digest_reading.specs.DigestRows.{are_marks, comes_after, has_task, is_name_mark, is_task_mark}
+use Rattle.digest_reading.specs.DigestRows.{are_marks, comes_after, has_task, is_name_mark, is_task_mark, latest_day}
 use Rattle.digest_reading.specs.Headers.{are_possible}
 use Rattle.digest_reading.specs.declared.digest_counts.DigestCounts.{DigestCounts}
 use Rattle.digest_laws.specs.ReadableDigests.{IsReadable}
@@ -302,8 +302,7 @@ module _ (u : Table SegmentName (List ℕ)) (h : IsAccepted u) where
           named = name_there;
           possible = subst (λ (c : DigestCounts). are_possible c ≡ true) (λ i. record { traces = u.traces; days = length u.days; tasks = task_count i; names = name_count i }) h.counts.possible;
           traces = h.counts.traces;
-          days = listed_all (λ (d : ℕ). d < 2 ^ 32) DayIn (λ earlier day a. a.small) [] u.days h.days;
-          few_days = h.counts.days;
+          days = listed_all (λ (d : ℕ). d ≤ latest_day) DayIn (λ earlier day a. a.small) [] u.days h.days;
         };
         table = λ i. record { traces = u.traces; days = u.days; tasks = sym task_rows i; names = sym name_rows i };
       }

@@ -1,13 +1,13 @@
 -- What the rows of a table say, row by row: the fields that are printed are read again, and what is
 -- read is what is printed.
-use Rattle.std.proofs.Common.{◌≡◌, ℕ, ◌<◌, ◌^◌, ◌==◌, ◌&&◌, List, [], ◌∷◌, ◌++◌, length, map, drop, Bool, true, false, Option, Some, None, refl, ap, ◌∙◌, subst, arith, codes, decimal}
-use Rattle.std.specs.Prelude.{All, nat_eq, if◌then◌else◌}
+use Rattle.std.proofs.Common.{◌≡◌, ℕ, ◌<◌, ◌≤◌, ◌^◌, ◌==◌, ◌&&◌, List, [], ◌∷◌, ◌++◌, length, map, drop, Bool, true, false, Option, Some, None, refl, ap, ◌∙◌, subst, arith, codes, decimal}
+use Rattle.std.specs.Prelude.{All, nat_eq, nat_le, if◌then◌else◌}
 use Rattle.std.specs.Cmp.Lexicographic.{slice_cmp}
 use Rattle.std.specs.List.{join_with_byte, list_all, starts_with}
 use Rattle.std.specs.Option.{option_and_then, option_zip}
 use Rattle.std.specs.Ordering.{nat_cmp}
 use Rattle.std.specs.Str.{bytes_eq}
-use Rattle.std.proofs.lemmas.Bool.{and_parts}
+use Rattle.std.proofs.lemmas.Bool.{and_parts, le-leb, leb-true}
 use Rattle.std.proofs.lemmas.Bool.Decides.{Decides-eqb}
 use Rattle.std.proofs.lemmas.List.Elements.{All-cons, All-nil}
 use Rattle.std.proofs.lemmas.Slice.Eq.{bytes_eq-Decides, starts_is}
@@ -18,7 +18,7 @@ use Rattle.step_core.proofs.PlainLemmas.{of_number}
 use Rattle.certificates.specs.Claims.{line_fields, name_of_texts, text_of}
 use Rattle.text_rows.specs.Rows.{figure}
 use Rattle.digest_facts.specs.Texts.{IsUnbroken, day_fields, name_fields, task_fields}
-use Rattle.digest_reading.specs.DigestRows.{are_marks, comes_after, day_of_fields, day_said, has_task, is_name_mark, is_task_mark, name_of_fields, name_row, name_said, task_of_fields, task_row, task_said}
+use Rattle.digest_reading.specs.DigestRows.{are_marks, comes_after, day_of_fields, day_said, has_task, is_name_mark, is_next_day, is_task_mark, latest_day, name_of_fields, name_row, name_said, task_of_fields, task_row, task_said}
 use Rattle.digest_reading.specs.Headers.{after_label, are_possible, counts_of_fields, counts_said, header_said, long_number, possible_counts}
 use Rattle.digest_reading.specs.declared.digest_counts.DigestCounts.{DigestCounts}
 use Rattle.digest_reading.proofs.LongLemmas as longs
@@ -39,39 +39,42 @@ word_is : (word text : List ℕ) → bytes_eq word text ≡ true → word ≡ te
 word_is word text h = (bytes_eq-Decides word text).0 h
 
 -- ---- days
--- a day that fits 32 bits and comes after those before it
+-- a day that is no later than the latest one and comes after those before it
 pub record DayIn (earlier : List ℕ) (day : ℕ) : Type 0 where
-  pub small : day < 2 ^ 32
+  pub small : day ≤ latest_day
   pub after : comes_after nat_cmp earlier day ≡ true
+
+small_day : (day : ℕ) → day ≤ latest_day → day < 2 ^ 32
+small_day day h = omega (arith, h)
 
 day_whole : (day : ℕ) → day < 2 ^ 32 → All IsUnbroken (day_fields day)
 day_whole day h = two (codes "day") (decimal day) (word_whole (codes "day") refl refl) (number_whole day (omega arith))
 
 pub day_read : (earlier : List ℕ) (day : ℕ) → DayIn earlier day → IsReadBack day_said day_fields earlier day
 day_read earlier day h = record {
-  whole = joined_whole (day_fields day) (day_whole day h.small);
-  said_again = ap (day_of_fields earlier) (fields_back (codes "day") (decimal day ∷ []) (day_whole day h.small)) ∙ rw (of_number day h.small, h.after) refl;
+  whole = joined_whole (day_fields day) (day_whole day (small_day day h.small));
+  said_again = ap (day_of_fields earlier) (fields_back (codes "day") (decimal day ∷ []) (day_whole day (small_day day h.small))) ∙ rw (of_number day (small_day day h.small), h.after, le-leb day latest_day h.small) refl;
 }
 
 pub day_printed : (earlier : List ℕ) (line : List ℕ) (day : ℕ) → day_said earlier line ≡ Some day → IsPrinted DayIn day_fields earlier line day
 day_printed earlier line day h = by (line_fields line) refl h
   where
-    with_number : (word digits : List ℕ) (n : Option ℕ) (b : Bool) → line_fields line ≡ word ∷ digits ∷ [] → plain_number digits ≡ n → (c : ℕ) → n ≡ Some c → (bytes_eq word (codes "day") && comes_after nat_cmp earlier c) ≡ b → (if b then Some c else None) ≡ Some day → IsPrinted DayIn day_fields earlier line day
+    with_number : (word digits : List ℕ) (n : Option ℕ) (b : Bool) → line_fields line ≡ word ∷ digits ∷ [] → plain_number digits ≡ n → (c : ℕ) → n ≡ Some c → (bytes_eq word (codes "day") && is_next_day earlier c) ≡ b → (if b then Some c else None) ≡ Some day → IsPrinted DayIn day_fields earlier line day
     with_number word digits n false e f c g k told = absurd (cc told)
     with_number word digits n true e f c g k told =
         let same : c ≡ day = cc told in
-        let p = and_parts (bytes_eq word (codes "day")) (comes_after nat_cmp earlier c) k in
+        let p = and_parts (bytes_eq word (codes "day")) (is_next_day earlier c) k in
+        let q = and_parts (comes_after nat_cmp earlier c) (nat_le c latest_day) p.1 in
         let number = plain_is c digits (f ∙ g) in
-        let small : c < 2 ^ 32 = number.small in
         record {
-          accepted = record { small = subst (λ (d : ℕ). d < 2 ^ 32) same small; after = subst (λ (d : ℕ). comes_after nat_cmp earlier d ≡ true) same p.1 };
+          accepted = record { small = subst (λ (d : ℕ). d ≤ latest_day) same (leb-true c latest_day q.1); after = subst (λ (d : ℕ). comes_after nat_cmp earlier d ≡ true) same q.0 };
           line_is = line_of_fields line (word ∷ digits ∷ []) e ∙ ap (λ (w : List ℕ). join_with_byte 9 (w ∷ digits ∷ [])) (word_is word (codes "day") p.0)
               ∙ ap (λ (w : List ℕ). join_with_byte 9 (codes "day" ∷ w ∷ [])) (number.word_is ∙ ap decimal same);
         }
 
-    by_number : (word digits : List ℕ) (n : Option ℕ) → line_fields line ≡ word ∷ digits ∷ [] → plain_number digits ≡ n → option_and_then (λ d. if bytes_eq word (codes "day") && comes_after nat_cmp earlier d then Some d else None) n ≡ Some day → IsPrinted DayIn day_fields earlier line day
+    by_number : (word digits : List ℕ) (n : Option ℕ) → line_fields line ≡ word ∷ digits ∷ [] → plain_number digits ≡ n → option_and_then (λ d. if bytes_eq word (codes "day") && is_next_day earlier d then Some d else None) n ≡ Some day → IsPrinted DayIn day_fields earlier line day
     by_number word digits None e f told = absurd (cc told)
-    by_number word digits (Some c) e f told = with_number word digits (Some c) (bytes_eq word (codes "day") && comes_after nat_cmp earlier c) e f c refl refl told
+    by_number word digits (Some c) e f told = with_number word digits (Some c) (bytes_eq word (codes "day") && is_next_day earlier c) e f c refl refl told
 
     by : (fs : List (List ℕ)) → line_fields line ≡ fs → day_of_fields earlier fs ≡ Some day → IsPrinted DayIn day_fields earlier line day
     by [] e told = absurd (cc told)

@@ -1,7 +1,9 @@
 pub mod AcceptedLemmas
 pub mod BuiltLemmas
 pub mod CountLemmas
+pub mod DayLemmas
 pub mod FieldLemmas
+pub mod GivenLemmas
 pub mod LawLemmas
 pub mod LineLemmas
 pub mod LookLemmas
@@ -9,4 +11,5 @@ pub mod MarkLemmas
 pub mod MergedLemmas
 pub mod NumberLemmas
 pub mod RowLemmas
+pub mod TracesLemmas
 pub mod WholeLemmas

@@ -23,6 +23,7 @@ use Rattle.digest_facts.proofs.UnionLemmas.{cons_here, union_has}
 use Rattle.digest_merging.specs.Limits.{limit_passed}
 use Rattle.digest_merging.specs.Merges.{merged_digest}
 use Rattle.digest_merging.specs.declared.digest_limit.DigestLimit.TheVariants.{Names, Tasks, Traces}
+use Rattle.digest_reading.specs.DigestRows.{latest_day}
 use Rattle.digest_laws.specs.ReadableDigests.{IsReadable}
 use Rattle.digest_laws.proofs.CountLemmas.{possible_from, possible_of}
 
@@ -62,7 +63,7 @@ module _ {X : Type 0} (cmp : X → X → Ordering) (o : TellsApart cmp) where
       ((union_has cmp o xs ys (get_or (union cmp xs ys) k d)).0 (Contains-get_or (union cmp xs ys) k d lt))
 
   -- elements of a rising list differ
-  all_differ : (xs : List X) → Rises cmp xs → AllPairs (λ x y. x ≢ y) xs
+  pub all_differ : (xs : List X) → Rises cmp xs → AllPairs (λ x y. x ≢ y) xs
   all_differ xs up = λ i j d lt within e.
       let less : cmp (get_or xs i d) (get_or xs j d) ≡ Less = up i j d lt within in
       let tied : cmp (get_or xs i d) (get_or xs j d) ≡ Equal = subst (λ (v : X). cmp (get_or xs i d) v ≡ Equal) e (tied_itself o.total (get_or xs i d)) in
@@ -70,7 +71,7 @@ module _ {X : Type 0} (cmp : X → X → Ordering) (o : TellsApart cmp) where
       cc
 
 -- different tasks, each of which some name has, are no more than names
-no_more_tasks : (tasks : List (List ℕ)) (names : List SegmentName) → Rises (slice_cmp nat_cmp) tasks → ((task : List ℕ) → Contains tasks task → (name : SegmentName) × Contains names name × (name.0 ≡ task)) → length tasks ≤ length names
+pub no_more_tasks : (tasks : List (List ℕ)) (names : List SegmentName) → Rises (slice_cmp nat_cmp) tasks → ((task : List ℕ) → Contains tasks task → (name : SegmentName) × Contains names name × (name.0 ≡ task)) → length tasks ≤ length names
 no_more_tasks tasks names up named =
     let firsts : List (List ℕ) = map (λ (n : SegmentName). n.0) names in
     let le : length tasks ≤ length firsts = length-le_from_is_member text_laws tasks firsts (IsDistinct-from_AllPairs bytes_eq-Decides tasks (all_differ (slice_cmp nat_cmp) text_apart tasks up))
@@ -80,25 +81,25 @@ no_more_tasks tasks names up named =
     omega (arith, le, length-map names (λ (n : SegmentName). n.0))
 
 -- ---- limits
-within : (a b c : Bool) → (if a then Some Names else (if b then Some Tasks else (if c then Some Traces else None))) ≡ None → (a ≡ false) × (b ≡ false) × (c ≡ false)
-within false false false h = (refl, refl, refl)
-within true b c h = absurd (cc h)
-within false true c h = absurd (cc h)
-within false false true h = absurd (cc h)
+pub within : (a b c : Bool) (n t : ℕ) → (if a then Some (Names n) else (if b then Some (Tasks t) else (if c then Some Traces else None))) ≡ None → (a ≡ false) × (b ≡ false) × (c ≡ false)
+within false false false n t h = (refl, refl, refl)
+within true b c n t h = absurd (cc h)
+within false true c n t h = absurd (cc h)
+within false false true n t h = absurd (cc h)
 
 -- a number above which nothing is
-none_of : (n : ℕ) → (0 < n → ⊥) → n ≡ 0
+pub none_of : (n : ℕ) → (0 < n → ⊥) → n ≡ 0
 none_of zero h = refl
 none_of (suc n) h = absurd (h (omega arith))
 
 -- where each name has its task listed, no task means no name
-no_names : (names : List SegmentName) (tasks : List (List ℕ)) → ((name : SegmentName) → Contains names name → Contains tasks name.0) → length tasks ≡ 0 → length names ≡ 0
+pub no_names : (names : List SegmentName) (tasks : List (List ℕ)) → ((name : SegmentName) → Contains names name → Contains tasks name.0) → length tasks ≡ 0 → length names ≡ 0
 no_names [] tasks there none = refl
 no_names (n ∷ names) tasks there none =
     let c = there n (cons_here n names) in
     absurd (omega (arith, c.1, none))
 
-module _ (s t : Digest SegmentName (List ℕ)) (p : IsReadable s) (q : IsReadable t) (few : limit_passed (merged_digest s t) ≡ None) (days : length (union nat_cmp s.days t.days) < 2 ^ 32) where
+module _ (s t : Digest SegmentName (List ℕ)) (p : IsReadable s) (q : IsReadable t) (few : limit_passed (merged_digest s t) ≡ None) where
   task_there : (name : SegmentName) → Contains (union name_cmp s.names t.names) name → Contains (union (slice_cmp nat_cmp) s.tasks t.tasks) name.0
   task_there name c = (union_has (slice_cmp nat_cmp) text_apart s.tasks t.tasks name.0).1 (⊎_elim
       (λ (d : Contains s.names name). inl (p.listed name d))
@@ -117,7 +118,7 @@ module _ (s t : Digest SegmentName (List ℕ)) (p : IsReadable s) (q : IsReadabl
       let both : List (List ℕ) = union (slice_cmp nat_cmp) s.tasks t.tasks in
       let ps = possible_of (record { traces = s.traces; days = length s.days; tasks = length s.tasks; names = length s.names }) p.possible in
       let qs = possible_of (record { traces = t.traces; days = length t.days; tasks = length t.tasks; names = length t.names }) q.possible in
-      let limits = within (nat_lt 512 (length names)) (nat_lt 64 (length both)) (nat_lt (2 ^ 64 - 1) (s.traces + t.traces)) few in
+      let limits = within (nat_lt 512 (length names)) (nat_lt 64 (length both)) (nat_lt (2 ^ 64 - 1) (s.traces + t.traces)) (length names) (length both) few in
       let few_names : length names ≤ 512 = ltb-false 512 (length names) limits.0 in
       let few_tasks : length both ≤ 64 = ltb-false 64 (length both) limits.1 in
       let few_traces : s.traces + t.traces ≤ 2 ^ 64 - 1 = ltb-false (2 ^ 64 - 1) (s.traces + t.traces) limits.2 in
@@ -143,8 +144,7 @@ module _ (s t : Digest SegmentName (List ℕ)) (p : IsReadable s) (q : IsReadabl
           some_day = λ none. no_days none ps.some_day qs.some_day;
         });
         traces = omega (arith, few_traces);
-        days = union_all nat_cmp nat_apart (λ (d : ℕ). d < 2 ^ 32) s.days t.days p.days q.days;
-        few_days = days;
+        days = union_all nat_cmp nat_apart (λ (d : ℕ). d ≤ latest_day) s.days t.days p.days q.days;
       }
     where
       no_days : length (union nat_cmp s.days t.days) ≡ 0 → (length s.days ≡ 0 → s.traces ≡ 0) → (length t.days ≡ 0 → t.traces ≡ 0) → s.traces + t.traces ≡ 0

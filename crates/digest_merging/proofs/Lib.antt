@@ -1,3 +1,5 @@
+pub mod AllLemmas
+pub mod DifferentLemmas
 pub mod MarkLemmas
 pub mod MergeLemmas
 pub mod PlaceLemmas

@@ -1,8 +1,8 @@
 -- What a merge of tables gives, and when it passes a limit.
-use Rattle.std.proofs.Common.{◌≡◌, ℕ, ◌+◌, ◌-◌, ◌^◌, ◌<◌, ◌≤◌, List, [], ◌∷◌, ◌++◌, length, map, refl, sym, ap, ◌∙◌, subst, arith, false, Some, None}
+use Rattle.std.proofs.Common.{◌≡◌, ℕ, ◌+◌, ◌-◌, ◌^◌, ◌<◌, ◌≤◌, List, [], ◌∷◌, ◌++◌, length, map, refl, sym, ap, ◌∙◌, subst, arith, false, Some, None, ◌↔◌, ⊎_elim, inl, inr}
 use Rattle.std.specs.Prelude.{nat_lt}
 use Rattle.std.specs.Cmp.Lexicographic.{slice_cmp}
-use Rattle.std.specs.List.{AllZip}
+use Rattle.std.specs.List.{AllZip, Contains}
 use Rattle.std.specs.Ordering.{nat_cmp}
 use Rattle.std.proofs.lemmas.Bool.{le-ltb, lt-ltb}
 use Rattle.trace_types.specs.NameOrder.{name_cmp}
@@ -11,8 +11,9 @@ use Rattle.digest_facts.specs.Digests.{Digest, Rises, union}
 use Rattle.digest_facts.specs.Tables.{Table, name_byte, rows_from, task_byte}
 use Rattle.digest_facts.proofs.CoherenceLemmas.{merged_coherent}
 use Rattle.digest_facts.proofs.MergeLemmas.{name_apart, text_apart}
+use Rattle.digest_facts.proofs.UnionLemmas.{union_has}
 use Rattle.digest_merging.specs.Limits.{limit_passed}
-use Rattle.digest_merging.specs.Merges.{IsTableOf, merged_digest}
+use Rattle.digest_merging.specs.Merges.{IsTableOf, IsTaskOfSome, merged_digest}
 use Rattle.digest_merging.specs.inner.MergedRows.{ArePlaces, mark_by, placed_rows}
 use Rattle.digest_merging.specs.declared.digest_limit.DigestLimit.TheVariants.{Names, Tasks, Traces}
 use Rattle.digest_merging.specs.declared.places.Places.{Places}
@@ -23,6 +24,22 @@ pub keys_of : {X : Type 0} (f : X → X → ℕ) (earlier xs : List X) → map (
 keys_of f earlier [] = refl
 keys_of {X} f earlier (x ∷ xs) = ap (λ (l : List X). x ∷ l) (keys_of f (earlier ++ x ∷ []) xs)
 
+-- the tasks of a merge are those of its names
+abbrev pub AreTasksOf : List (List ℕ) → List SegmentName → Type 0
+AreTasksOf tasks names = (task : List ℕ) → Contains tasks task ↔ IsTaskOfSome names task
+
+pub merged_tasks : (s t : Digest SegmentName (List ℕ)) → AreTasksOf s.tasks s.names → AreTasksOf t.tasks t.names → AreTasksOf (union (slice_cmp nat_cmp) s.tasks t.tasks) (union name_cmp s.names t.names)
+merged_tasks s t h k task = (
+  (λ c. ⊎_elim
+      (λ (l : Contains s.tasks task). let n = (h task).0 l in (n.0, (union_has name_cmp name_apart s.names t.names n.0).1 (inl n.1), n.2))
+      (λ (r : Contains t.tasks task). let n = (k task).0 r in (n.0, (union_has name_cmp name_apart s.names t.names n.0).1 (inr n.1), n.2))
+      ((union_has (slice_cmp nat_cmp) text_apart s.tasks t.tasks task).0 c)),
+  (λ n. (union_has (slice_cmp nat_cmp) text_apart s.tasks t.tasks task).1 (⊎_elim
+      (λ (l : Contains s.names n.0). inl ((h task).1 (n.0, l, n.2)))
+      (λ (r : Contains t.names n.0). inr ((k task).1 (n.0, r, n.2)))
+      ((union_has name_cmp name_apart s.names t.names n.0).0 n.1))),
+)
+
 abbrev pub Name : Type 0
 Name = SegmentName × List ℕ
 
@@ -30,13 +47,13 @@ abbrev pub Task : Type 0
 Task = List ℕ × List ℕ
 
 module _ (u v : Table SegmentName (List ℕ)) (s t : Digest SegmentName (List ℕ)) (hs : IsTableOf s u) (ht : IsTableOf t v) where
-  names_left : map (λ (r : Name). r.0) u.names ≡ s.names
+  pub names_left : map (λ (r : Name). r.0) u.names ≡ s.names
   names_left = ap (λ (w : Table SegmentName (List ℕ)). map (λ (r : Name). r.0) w.names) hs.table ∙ keys_of _ [] s.names
 
   names_right : map (λ (r : Name). r.0) v.names ≡ t.names
   names_right = ap (λ (w : Table SegmentName (List ℕ)). map (λ (r : Name). r.0) w.names) ht.table ∙ keys_of _ [] t.names
 
-  tasks_left : map (λ (r : Task). r.0) u.tasks ≡ s.tasks
+  pub tasks_left : map (λ (r : Task). r.0) u.tasks ≡ s.tasks
   tasks_left = ap (λ (w : Table SegmentName (List ℕ)). map (λ (r : Task). r.0) w.tasks) hs.table ∙ keys_of _ [] s.tasks
 
   tasks_right : map (λ (r : Task). r.0) v.tasks ≡ t.tasks
@@ -62,8 +79,8 @@ module _ (u v : Table SegmentName (List ℕ)) (s t : Digest SegmentName (List �
   traces_are : u.traces + v.traces ≡ s.traces + t.traces
   traces_are = ap (λ (w : Table SegmentName (List ℕ)). w.traces + v.traces) hs.table ∙ ap (λ (w : Table SegmentName (List ℕ)). s.traces + w.traces) ht.table
 
-  pub too_many_names : (names : List SegmentName) → names ≡ union name_cmp s.names t.names → 512 < length names → limit_passed (merged_digest s t) ≡ Some Names
-  too_many_names names e gt = rw (lt-ltb 512 (length (union name_cmp s.names t.names)) (omega (arith, gt, ap (λ (l : List SegmentName). length l) e))) refl
+  pub too_many_names : (names : List SegmentName) → names ≡ union name_cmp s.names t.names → 512 < length names → limit_passed (merged_digest s t) ≡ Some (Names (length names))
+  too_many_names names e gt = rw (lt-ltb 512 (length (union name_cmp s.names t.names)) (omega (arith, gt, ap (λ (l : List SegmentName). length l) e))) (ap (λ (l : List SegmentName). Some (Names (length l))) (sym e))
 
   few_names : (names : List SegmentName) → names ≡ union name_cmp s.names t.names → length names ≤ 512 → nat_lt 512 (length (union name_cmp s.names t.names)) ≡ false
   few_names names e le = le-ltb 512 (length (union name_cmp s.names t.names)) (omega (arith, le, ap (λ (l : List SegmentName). length l) e))
@@ -71,9 +88,9 @@ module _ (u v : Table SegmentName (List ℕ)) (s t : Digest SegmentName (List �
   few_tasks : (tasks : List (List ℕ)) → tasks ≡ union (slice_cmp nat_cmp) s.tasks t.tasks → length tasks ≤ 64 → nat_lt 64 (length (union (slice_cmp nat_cmp) s.tasks t.tasks)) ≡ false
   few_tasks tasks e le = le-ltb 64 (length (union (slice_cmp nat_cmp) s.tasks t.tasks)) (omega (arith, le, ap (λ (l : List (List ℕ)). length l) e))
 
-  pub too_many_tasks : (names : List SegmentName) (tasks : List (List ℕ)) → names ≡ union name_cmp s.names t.names → tasks ≡ union (slice_cmp nat_cmp) s.tasks t.tasks → length names ≤ 512 → 64 < length tasks → limit_passed (merged_digest s t) ≡ Some Tasks
+  pub too_many_tasks : (names : List SegmentName) (tasks : List (List ℕ)) → names ≡ union name_cmp s.names t.names → tasks ≡ union (slice_cmp nat_cmp) s.tasks t.tasks → length names ≤ 512 → 64 < length tasks → limit_passed (merged_digest s t) ≡ Some (Tasks (length tasks))
   too_many_tasks names tasks e f le gt =
-      rw (few_names names e le, lt-ltb 64 (length (union (slice_cmp nat_cmp) s.tasks t.tasks)) (omega (arith, gt, ap (λ (l : List (List ℕ)). length l) f))) refl
+      rw (few_names names e le, lt-ltb 64 (length (union (slice_cmp nat_cmp) s.tasks t.tasks)) (omega (arith, gt, ap (λ (l : List (List ℕ)). length l) f))) (ap (λ (l : List (List ℕ)). Some (Tasks (length l))) (sym f))
 
   pub too_many_traces : (names : List SegmentName) (tasks : List (List ℕ)) → names ≡ union name_cmp s.names t.names → tasks ≡ union (slice_cmp nat_cmp) s.tasks t.tasks → length names ≤ 512 → length tasks ≤ 64 → 2 ^ 64 ≤ u.traces + v.traces → limit_passed (merged_digest s t) ≡ Some Traces
   too_many_traces names tasks e f le lt gt =
@@ -138,5 +155,6 @@ module _ (u v : Table SegmentName (List ℕ)) (s t : Digest SegmentName (List �
       let total : traces ≡ s.traces + t.traces = a ∙ traces_are in
       record {
         coherent = merged_coherent name_cmp (slice_cmp nat_cmp) name_apart text_apart s t hs.coherent ht.coherent;
+        tasks = merged_tasks s t hs.tasks ht.tasks;
         table = λ i. record { traces = total i; days = b i; tasks = c i; names = d i };
       }

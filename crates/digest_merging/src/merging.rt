@@ -2,17 +2,12 @@ ghost use Rattle.std.specs.Prelude.{IfErr, IfOk};
 ghost use Rattle.digest_merging.specs.Merges.{IsMergeFault, IsMergeOf};
 
 use crate::day_merging::union_of_days;
+use crate::limits::{MOST_NAMES, MOST_TASKS};
 use crate::name_merging::{merge_name_rows, union_of_names};
 use crate::task_merging::{merge_task_rows, union_of_tasks};
 use crate::{DigestLimit, MergeFault};
 use digest_text::DigestTable;
 use std::alloc::Global;
-
-/// The most names of a digest.
-const MOST_NAMES: usize = 512;
-
-/// The most tasks of a digest.
-const MOST_TASKS: usize = 64;
 
 /// Merges the digests of two tables: the table of the digest of the traces of both. The errors are
 /// `Memory`, and `Limit` where the merged digest has more than 512 names, 64 tasks or
@@ -27,11 +22,13 @@ pub fn merge_digests(
 {
     let names = union_of_names(alloc, &first.names, &second.names)?;
     if names.len() > MOST_NAMES {
-        return Err(MergeFault::Limit(DigestLimit::Names));
+        let count = names.len() as u64;
+        return Err(MergeFault::Limit(DigestLimit::Names { count }));
     }
     let tasks = union_of_tasks(alloc, &first.tasks, &second.tasks)?;
     if tasks.len() > MOST_TASKS {
-        return Err(MergeFault::Limit(DigestLimit::Tasks));
+        let count = tasks.len() as u64;
+        return Err(MergeFault::Limit(DigestLimit::Tasks { count }));
     }
     let Some(traces) = first.traces.checked_add(second.traces) else {
         return Err(MergeFault::Limit(DigestLimit::Traces));

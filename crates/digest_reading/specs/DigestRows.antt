@@ -1,6 +1,6 @@
 -- What one line of a digest's text says, by the rows of its kind before it.
 use Rattle.std.specs.Prelude.{ℕ, ◌-◌, ◌==◌, ◌&&◌, ◌||◌, List, [], ◌∷◌, length, map, codes, Bool}
-use Rattle.std.specs.Prelude.{true, if◌then◌else◌, Option, Some, None, slice_get}
+use Rattle.std.specs.Prelude.{true, nat_le, if◌then◌else◌, Option, Some, None, slice_get}
 use Rattle.std.specs.Cmp.Lexicographic.{slice_cmp}
 use Rattle.std.specs.Option.{option_and_then, option_map_or}
 use Rattle.std.specs.List.{list_all, list_any}
@@ -17,10 +17,18 @@ use Rattle.certificates.specs.Claims.{line_fields, name_of_texts, text_of}
 abbrev pub comes_after : {X : Type 0} → (X → X → Ordering) → List X → X → Bool
 comes_after cmp xs x = option_map_or (λ y. is_lt (cmp y x)) (slice_get xs (length xs - 1)) true
 
--- the day of the two fields of a row, which comes after those before it
+-- the day of the latest time of an event, in days of 86,400 seconds since 1970
+abbrev pub latest_day : ℕ
+latest_day = 47482
+
+-- the day comes after those before it, and is no later than the latest one
+abbrev pub is_next_day : List ℕ → ℕ → Bool
+is_next_day earlier day = comes_after nat_cmp earlier day && nat_le day latest_day
+
+-- the day of the two fields of a row, which may follow those before it
 abbrev pub day_of_fields : List ℕ → List (List ℕ) → Option ℕ
 day_of_fields earlier (word ∷ day ∷ []) = option_and_then
-    (λ d. if bytes_eq word (codes "day") && comes_after nat_cmp earlier d then Some d else None)
+    (λ d. if bytes_eq word (codes "day") && is_next_day earlier d then Some d else None)
     (plain_number day)
 day_of_fields earlier fields = None
 

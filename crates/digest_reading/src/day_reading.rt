@@ -1,6 +1,7 @@
 ghost use Rattle.std.specs.Prelude.{◌≡◌, ◌+◌, ◌<◌, ◌≤◌, ◌^◌, [], length, map, Ok, IfErr, IfOk};
 ghost use Rattle.std.specs.Ordering.{nat_cmp};
 ghost use Rattle.digest_reading.specs.DigestRows.{comes_after, day_of_fields, day_said};
+ghost use Rattle.digest_reading.specs.DigestRows.{is_next_day};
 ghost use Rattle.digest_reading.specs.Readings.{IsDigestFault, rows_said};
 
 use crate::DigestFault;
@@ -10,6 +11,9 @@ use crate::read_to::ReadTo;
 use std::alloc::{AllocError, Global};
 use step_core::plain_number;
 
+/// The day of the latest time of an event.
+const LATEST_DAY: u32 = 47_482;
+
 /// Tells whether a day comes after the last of those before it.
 fn comes_after(earlier: &[u32], day: u32) -> bool
     ensures { result ≡ comes_after nat_cmp earlier.now day }
@@ -18,6 +22,13 @@ fn comes_after(earlier: &[u32], day: u32) -> bool
         Some(last) => *last < day,
         None => true,
     }
+}
+
+/// Tells whether a day may follow those before it.
+fn is_next_day(earlier: &[u32], day: u32) -> bool
+    ensures { result ≡ is_next_day earlier.now day }
+{
+    comes_after(earlier, day) && day <= LATEST_DAY
 }
 
 /// Reads the day of the fields of a row; none where they have another form.
@@ -30,7 +41,7 @@ fn day_of_fields(earlier: &[u32], fields: &[&[u8]]) -> Option<u32>
     let Some(day) = plain_number(day) else {
         return None;
     };
-    if *word == b"day".as_slice() && comes_after(earlier, day) {
+    if *word == b"day".as_slice() && is_next_day(earlier, day) {
         Some(day)
     } else {
         None

@@ -1,6 +1,7 @@
-use Rattle.std.proofs.Common.{◌≡◌, ℕ, ◌+◌, ◌^◌, ◌<◌, List, arith, ap, ◌∙◌}
+use Rattle.std.proofs.Common.{◌≡◌, ℕ, ◌+◌, ◌^◌, ◌<◌, List, length, Some, arith, ap, ◌∙◌}
 use Rattle.trace_types.specs.Segments.{SegmentName}
 use Rattle.digest_facts.specs.Tables.{Table}
+use Rattle.digest_merging.specs.declared.digest_limit.DigestLimit.TheVariants.{Names, Tasks}
 use Rattle.digest_merging.proofs.MergeLemmas.{days_from, merged_table, name_rows_from, names_from, no_limit, task_rows_from, tasks_from, too_many_names, too_many_tasks, too_many_traces}
 use Rattle.digest_merging.proofs.merging.merge_digests.Goals as goal
 
@@ -23,6 +24,7 @@ returns-then-len-gt-MOST_NAMES-clause-fault c s t hs ht =
     let v = c.args.second.now in
     let names = names_from u v s t hs ht _ _ (c.deref.ensures.value ∙ names_of c.first.view_is) (c.deref-2.ensures.value ∙ names_of c.second.view_is) c.in_ok-names.names.items c.in_ok-names.ensures in
     too_many_names u v s t hs ht c.in_ok-names.names.items names (omega (arith, c.len.ensures, c.if-len-gt-MOST_NAMES.true))
+    ∙ ap (λ (n : ℕ). Some (Names n)) (let e : length c.in_ok-names.names.items ≡ c.len-count.result = omega (arith, c.len-count.ensures) in e)
 
 pub returns-then-len-gt-MOST_TASKS-clause-fault : goal.returns-then-len-gt-MOST_TASKS-clause-fault
 returns-then-len-gt-MOST_TASKS-clause-fault c s t hs ht =
@@ -31,6 +33,7 @@ returns-then-len-gt-MOST_TASKS-clause-fault c s t hs ht =
     let names = names_from u v s t hs ht _ _ (c.deref.ensures.value ∙ names_of c.first.view_is) (c.deref-2.ensures.value ∙ names_of c.second.view_is) c.in_ok-names.names.items c.in_ok-names.ensures in
     let tasks = tasks_from u v s t hs ht _ _ (c.deref-3.ensures.value ∙ tasks_of c.first.view_is) (c.deref-4.ensures.value ∙ tasks_of c.second.view_is) c.in_ok-tasks.tasks.items c.in_ok-tasks.ensures in
     too_many_tasks u v s t hs ht c.in_ok-names.names.items c.in_ok-tasks.tasks.items names tasks (omega (arith, c.len.ensures, c.if-len-gt-MOST_NAMES.false)) (omega (arith, c.len-2.ensures, c.if-len-gt-MOST_TASKS.true))
+    ∙ ap (λ (n : ℕ). Some (Tasks n)) (let e : length c.in_ok-tasks.tasks.items ≡ c.len-count-then-len-gt-MOST_TASKS.result = omega (arith, c.len-count-then-len-gt-MOST_TASKS.ensures) in e)
 
 pub returns-in_default-clause-fault : goal.returns-in_default-clause-fault
 returns-in_default-clause-fault c s t hs ht =

@@ -1,0 +1,6 @@
+use Rattle.std.proofs.Common.{◌≡◌, ◌++◌, map, take}
+use Rattle.digest_merging.proofs.limits.add_tasks.Given as goal
+
+-- those of the rows so far stand behind what was there
+abbrev pub invariant-rows : goal.invariant-rows
+invariant-rows l = map (λ r. r.now) l.tasks.items ≡ map (λ r. r.now) l.fn.tasks.items ++ map (λ r. r.0) (take l.row-index l.rows)

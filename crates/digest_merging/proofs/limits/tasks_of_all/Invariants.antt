@@ -1,0 +1,7 @@
+use Rattle.std.proofs.Common.{◌≡◌, map, take}
+use Rattle.digest_merging.specs.inner.AllTables.{all_tasks}
+use Rattle.digest_merging.proofs.limits.tasks_of_all.Given as goal
+
+-- those of the tables so far
+abbrev pub invariant-tables : goal.invariant-tables
+invariant-tables l = map (λ r. r.now) l.tasks.items ≡ all_tasks (take l.table-index l.tables)
