@@ -21,10 +21,10 @@ unlike a b apart = by (bytes_eq a b) refl
     by true e = absurd (apart (sym ((bytes_eq-Decides a b).0 e)))
     by false e = e
 
--- a name that is none of the ten
+-- a name that is none of the eleven
 pub no_command : (name : List ℕ) → (name ≡ codes "add" → ⊥) → (name ≡ codes "drop" → ⊥) → (name ≡ codes "keep" → ⊥) → (name ≡ codes "watch" → ⊥) → (name ≡ codes "grace" → ⊥)
-    → (name ≡ codes "model" → ⊥) → (name ≡ codes "paths" → ⊥) → (name ≡ codes "slack" → ⊥) → (name ≡ codes "report" → ⊥) → (name ≡ codes "graph" → ⊥) → command_row name ≡ None
-no_command name a b c d e f g h i j =
+    → (name ≡ codes "model" → ⊥) → (name ≡ codes "paths" → ⊥) → (name ≡ codes "slack" → ⊥) → (name ≡ codes "report" → ⊥) → (name ≡ codes "graph" → ⊥) → (name ≡ codes "summarize" → ⊥) → command_row name ≡ None
+no_command name a b c d e f g h i j k =
     rw (
       unlike (codes "add") name a,
       unlike (codes "drop") name b,
@@ -36,6 +36,7 @@ no_command name a b c d e f g h i j =
       unlike (codes "slack") name h,
       unlike (codes "report") name i,
       unlike (codes "graph") name j,
+      unlike (codes "summarize") name k,
     ) refl
 
 -- ---- the range of a command's number
@@ -48,7 +49,7 @@ AllKeep [] = Unit {0}
 AllKeep (row ∷ rows) = KeepsNumber row × AllKeep rows
 
 rows_keep : AllKeep command_rows
-rows_keep = (λ n. omega arith, (λ n. omega arith, (λ n. omega arith, (λ n. omega arith, (λ n. omega arith, (λ n. omega arith, (λ n. omega arith, (λ n. omega arith, (λ n. omega arith, (λ n. omega arith, tt))))))))))
+rows_keep = (λ n. omega arith, (λ n. omega arith, (λ n. omega arith, (λ n. omega arith, (λ n. omega arith, (λ n. omega arith, (λ n. omega arith, (λ n. omega arith, (λ n. omega arith, (λ n. omega arith, (λ n. omega arith, tt)))))))))))
 
 found_keeps : (test : CommandRow → Bool) (rows : List CommandRow) (row : CommandRow) → AllKeep rows → find test rows ≡ Some row → KeepsNumber row
 found_keeps test [] row all e = absurd (cc e)

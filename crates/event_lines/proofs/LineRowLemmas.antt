@@ -6,7 +6,7 @@ use Rattle.event_lines.specs.declared.why.Why.{Why}
 use Rattle.event_lines.specs.declared.why.Why.TheVariants.{NotJson, Missing, WrongKind, OutOfRange, BadText, UnknownCommand}
 use Rattle.event_lines.specs.declared.line.Line.{Line}
 use Rattle.event_lines.specs.declared.line.Line.TheVariants.{Event, Control}
-use Rattle.event_lines.specs.declared.command.Command.TheVariants.{Add, Drop, Keep, Watch, Grace, Model, Paths, Slack, Report, Graph}
+use Rattle.event_lines.specs.declared.command.Command.TheVariants.{Add, Drop, Keep, Watch, Grace, Model, Paths, Slack, Report, Graph, Summarize}
 use Rattle.event_lines.specs.InputLines.{lines_said}
 use Rattle.event_lines.specs.LineResults.{line_result}
 
@@ -104,8 +104,9 @@ commands : map said (
     ∷ object (codes "\"do\":\"slack\"")
     ∷ object (codes "\"do\":\"report\"")
     ∷ object (codes "\"do\":\"graph\"")
+    ∷ object (codes "\"do\":\"summarize\"")
     ∷ []) ≡ Ok (Control 1 Add) ∷ Ok (Control 1 (Drop 7)) ∷ Ok (Control 1 (Keep 0)) ∷ Ok (Control 1 (Watch 1000000))
-    ∷ Ok (Control 1 (Grace 1000000)) ∷ Ok (Control 1 Model) ∷ Ok (Control 1 Paths) ∷ Ok (Control 1 Slack) ∷ Ok (Control 1 Report) ∷ Ok (Control 1 Graph) ∷ []
+    ∷ Ok (Control 1 (Grace 1000000)) ∷ Ok (Control 1 Model) ∷ Ok (Control 1 Paths) ∷ Ok (Control 1 Slack) ∷ Ok (Control 1 Report) ∷ Ok (Control 1 Graph) ∷ Ok (Control 1 Summarize) ∷ []
 unfolding serde_json_on_literals is_utf8 chars
 commands = refl
 

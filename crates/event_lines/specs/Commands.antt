@@ -8,7 +8,7 @@ use Rattle.serde_json.specs.Data.{Data}
 use Rattle.event_lines.specs.declared.command.Command.{Command}
 use Rattle.event_lines.specs.declared.command.Command.TheVariants.{Add, Drop, Keep, Watch, Grace}
 use Rattle.event_lines.specs.declared.command.Command.TheVariants.{Model, Paths, Slack, Report}
-use Rattle.event_lines.specs.declared.command.Command.TheVariants.{Graph}
+use Rattle.event_lines.specs.declared.command.Command.TheVariants.{Graph, Summarize}
 use Rattle.event_lines.specs.declared.why.Why.{Why}
 use Rattle.event_lines.specs.declared.why.Why.TheVariants.{Missing, WrongKind, OutOfRange}
 use Rattle.event_lines.specs.declared.why.Why.TheVariants.{UnknownCommand}
@@ -21,7 +21,7 @@ pub record CommandRow : Type 0 where
   pub member : Option (List ℕ)
   pub command : ℕ → Command
 
--- the ten commands
+-- the eleven commands
 abbrev pub command_rows : List CommandRow
 command_rows =
     record { name = codes "add"; member = None; command = λ _. Add }
@@ -34,6 +34,7 @@ command_rows =
     ∷ record { name = codes "slack"; member = None; command = λ _. Slack }
     ∷ record { name = codes "report"; member = None; command = λ _. Report }
     ∷ record { name = codes "graph"; member = None; command = λ _. Graph }
+    ∷ record { name = codes "summarize"; member = None; command = λ _. Summarize }
     ∷ []
 
 -- the row with this name

@@ -5,7 +5,7 @@ use Rattle.trace_types.specs.Times.{latest_time}
 use Rattle.event_lines.specs.declared.command.Command.{Command}
 use Rattle.event_lines.specs.declared.command.Command.TheVariants.{Add, Drop, Keep, Watch, Grace}
 use Rattle.event_lines.specs.declared.command.Command.TheVariants.{Model, Paths, Slack, Report}
-use Rattle.event_lines.specs.declared.command.Command.TheVariants.{Graph}
+use Rattle.event_lines.specs.declared.command.Command.TheVariants.{Graph, Summarize}
 use Rattle.event_lines.specs.declared.line.Line.{Line}
 use Rattle.event_lines.specs.declared.line.Line.TheVariants.{Event, Control}
 use Rattle.event_lines.specs.Commands.{most_command_number}
@@ -36,6 +36,7 @@ number_of_command Paths = 0
 number_of_command Slack = 0
 number_of_command Report = 0
 number_of_command Graph = 0
+number_of_command Summarize = 0
 
 -- a command's number is at most the greatest
 abbrev pub IsLimited : Line → Type 0

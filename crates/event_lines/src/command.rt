@@ -33,4 +33,6 @@ pub enum Command {
     Report,
     /// Print the graph of each trace.
     Graph,
+    /// Print the digest of the kept traces.
+    Summarize,
 }

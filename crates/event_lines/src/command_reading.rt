@@ -42,6 +42,7 @@ pub(crate) fn read_command(value: &Value, name: &str) -> Result<Command, Why>
         "slack" => Ok(Command::Slack),
         "report" => Ok(Command::Report),
         "graph" => Ok(Command::Graph),
+        "summarize" => Ok(Command::Summarize),
         _ => Err(Why::UnknownCommand),
     }
 }

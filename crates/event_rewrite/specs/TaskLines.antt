@@ -3,7 +3,7 @@ use Rattle.std.specs.Prelude.{ℕ, ◌+◌, List, [], ◌∷◌, is_some}
 use Rattle.event_lines.specs.declared.command.Command.{Command}
 use Rattle.event_lines.specs.declared.command.Command.TheVariants.{Add, Drop, Keep, Watch, Grace}
 use Rattle.event_lines.specs.declared.command.Command.TheVariants.{Model, Paths, Slack, Report}
-use Rattle.event_lines.specs.declared.command.Command.TheVariants.{Graph}
+use Rattle.event_lines.specs.declared.command.Command.TheVariants.{Graph, Summarize}
 use Rattle.event_lines.specs.declared.line.Line.{Line}
 use Rattle.event_lines.specs.declared.line.Line.TheVariants.{Event, Control}
 use Rattle.task_pieces.specs.TaskEvents.{TaskEvent}
@@ -33,6 +33,7 @@ batch_after batch Paths = batch
 batch_after batch Slack = batch
 batch_after batch Report = batch
 batch_after batch Graph = batch
+batch_after batch Summarize = batch
 
 -- the events of lines that begin in this batch and after so many events
 abbrev pub task_events_from : ℕ → ℕ → List Line → List TaskEvent

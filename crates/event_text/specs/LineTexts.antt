@@ -5,7 +5,7 @@ use Rattle.std.specs.List.{flat_map}
 use Rattle.event_lines.specs.declared.command.Command.{Command}
 use Rattle.event_lines.specs.declared.command.Command.TheVariants.{Add, Drop, Keep, Watch, Grace}
 use Rattle.event_lines.specs.declared.command.Command.TheVariants.{Model, Paths, Slack, Report}
-use Rattle.event_lines.specs.declared.command.Command.TheVariants.{Graph}
+use Rattle.event_lines.specs.declared.command.Command.TheVariants.{Graph, Summarize}
 use Rattle.event_lines.specs.declared.line.Line.{Line}
 use Rattle.event_lines.specs.declared.line.Line.TheVariants.{Event, Control}
 use Rattle.trace_types.specs.declared.event.Event as events
@@ -66,6 +66,7 @@ command_text Paths = plain_command (codes "paths")
 command_text Slack = plain_command (codes "slack")
 command_text Report = plain_command (codes "report")
 command_text Graph = plain_command (codes "graph")
+command_text Summarize = plain_command (codes "summarize")
 
 -- the text of a line, and of several
 abbrev pub line_text : Line → List ℕ

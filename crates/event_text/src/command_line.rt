@@ -49,5 +49,6 @@ pub fn push_command(bytes: &mut Vec<u8>, command: Command) -> Result<(), AllocEr
         Command::Slack => push_plain(bytes, b"slack"),
         Command::Report => push_plain(bytes, b"report"),
         Command::Graph => push_plain(bytes, b"graph"),
+        Command::Summarize => push_plain(bytes, b"summarize"),
     }
 }

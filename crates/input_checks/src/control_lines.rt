@@ -42,7 +42,7 @@ out of range|{"do":"grace","micros":18446744073709551615}
 "#;
 
 /// Good control lines, and their commands.
-pub(crate) const GOOD: [(&str, Command); 20] = [
+pub(crate) const GOOD: [(&str, Command); 21] = [
     (r#"{"do":"add"}"#, Command::Add),
     (r#" { "do" : "add" } "#, Command::Add),
     (r#"{"do":"\u0061dd","day":-1}"#, Command::Add),
@@ -73,6 +73,7 @@ pub(crate) const GOOD: [(&str, Command); 20] = [
     (r#"{"do":"report"}"#, Command::Report),
     (r#"{"do":"report","day":-1,"request":5}"#, Command::Report),
     (r#"{"do":"graph"}"#, Command::Graph),
+    (r#"{"do":"summarize"}"#, Command::Summarize),
     (
         r#"{"request":"r1","machine":"m","task":"a","event":"s","time":0,"do":"graph"}"#,
         Command::Graph,

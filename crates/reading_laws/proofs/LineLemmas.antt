@@ -19,7 +19,7 @@ use Rattle.serde_json.proofs.Numbers.{number_of-decimal}
 use Rattle.event_lines.specs.GoodLines.{number_of_command}
 use Rattle.event_lines.specs.LineResults.{line_result, value_result}
 use Rattle.event_lines.specs.declared.command.Command.{Command}
-use Rattle.event_lines.specs.declared.command.Command.TheVariants.{Add, Drop, Keep, Watch, Grace, Model, Paths, Slack, Report, Graph}
+use Rattle.event_lines.specs.declared.command.Command.TheVariants.{Add, Drop, Keep, Watch, Grace, Model, Paths, Slack, Report, Graph, Summarize}
 use Rattle.event_lines.specs.declared.line.Line.TheVariants.{Control, Event}
 use Rattle.event_lines.specs.declared.why.Why.TheVariants.{NotJson}
 use Rattle.event_text.specs.LineTexts.{command_text, event_text, message_member, name_text, place_text, quoted, rest_text}
@@ -215,6 +215,7 @@ json_of_command Paths = json.object (json.member (codes "do") (json.string (code
 json_of_command Slack = json.object (json.member (codes "do") (json.string (codes "slack")) json.no_members)
 json_of_command Report = json.object (json.member (codes "do") (json.string (codes "report")) json.no_members)
 json_of_command Graph = json.object (json.member (codes "do") (json.string (codes "graph")) json.no_members)
+json_of_command Summarize = json.object (json.member (codes "do") (json.string (codes "summarize")) json.no_members)
 
 -- its bytes without the line feed
 abbrev pub command_body : Command → List ℕ
@@ -228,6 +229,7 @@ command_body Paths = codes "{\"do\":\"paths\"}"
 command_body Slack = codes "{\"do\":\"slack\"}"
 command_body Report = codes "{\"do\":\"report\"}"
 command_body Graph = codes "{\"do\":\"graph\"}"
+command_body Summarize = codes "{\"do\":\"summarize\"}"
 
 number_moved : (a n z f : List ℕ) → (a ++ n) ++ (z ++ f) ≡ (a ++ (n ++ z)) ++ f
 number_moved a n z f = simp append_assoc
@@ -243,6 +245,7 @@ command_is Paths = refl
 command_is Slack = refl
 command_is Report = refl
 command_is Graph = refl
+command_is Summarize = refl
 
 command_printed : (command : Command) → command_body command ≡ print (tree.json_tokens (json_of_command command))
 unfolding print_from escape_byte
@@ -256,6 +259,7 @@ command_printed Paths = refl
 command_printed Slack = refl
 command_printed Report = refl
 command_printed Graph = refl
+command_printed Summarize = refl
 
 number_part : (a : List ℕ) (n : ℕ) → IsPart a → n < 2 ^ 64 → IsPart (a ++ (decimal n ++ codes "}"))
 number_part a n h few = both_parts a (decimal n ++ codes "}") h (both_parts (decimal n) (codes "}") (decimal_part n few) (record { utf8 = IsUtf8-are_ascii (codes "}") refl; one = refl }))
@@ -271,6 +275,7 @@ command_part Paths h = record { utf8 = IsUtf8-are_ascii _ refl; one = refl }
 command_part Slack h = record { utf8 = IsUtf8-are_ascii _ refl; one = refl }
 command_part Report h = record { utf8 = IsUtf8-are_ascii _ refl; one = refl }
 command_part Graph h = record { utf8 = IsUtf8-are_ascii _ refl; one = refl }
+command_part Summarize h = record { utf8 = IsUtf8-are_ascii _ refl; one = refl }
 
 command_numbers : (command : Command) → number_of_command command ≤ 1000000 → tree.HasNumbers (json_of_command command)
 command_numbers Add h = (tt, tt)
@@ -283,6 +288,7 @@ command_numbers Paths h = (tt, tt)
 command_numbers Slack h = (tt, tt)
 command_numbers Report h = (tt, tt)
 command_numbers Graph h = (tt, tt)
+command_numbers Summarize h = (tt, tt)
 
 command_shallow : (command : Command) → tree.depth (json_of_command command) ≤ 127
 command_shallow Add = lit≤ tt
@@ -295,6 +301,7 @@ command_shallow Paths = lit≤ tt
 command_shallow Slack = lit≤ tt
 command_shallow Report = lit≤ tt
 command_shallow Graph = lit≤ tt
+command_shallow Summarize = lit≤ tt
 
 command_data : (n : ℕ) (command : Command) → number_of_command command ≤ 1000000 → option_map_or (value_result n) (of_json (json_of_command command)) (Err NotJson) ≡ Ok (Control n command)
 command_data n Add h = refl
@@ -307,6 +314,7 @@ command_data n Paths h = refl
 command_data n Slack h = refl
 command_data n Report h = refl
 command_data n Graph h = refl
+command_data n Summarize h = refl
 
 pub command_said : (n : ℕ) (command : Command) → number_of_command command ≤ 1000000 → line_result n (command_body command) ≡ Ok (Control n command)
 command_said n command h =

@@ -11,7 +11,7 @@ use Rattle.std.proofs.lemmas.Bool.{or_parts}
 use Rattle.event_lines.specs.Cut.{input_lines, is_line_feed}
 use Rattle.event_lines.specs.InputLines.{all_or_first_error, both_said, lines_said_from}
 use Rattle.event_lines.specs.LineResults.{line_result}
-use Rattle.event_lines.specs.declared.command.Command.TheVariants.{Add, Drop, Keep, Watch, Grace, Model, Paths, Slack, Report, Graph}
+use Rattle.event_lines.specs.declared.command.Command.TheVariants.{Add, Drop, Keep, Watch, Grace, Model, Paths, Slack, Report, Graph, Summarize}
 use Rattle.event_lines.specs.declared.line.Line.{Line}
 use Rattle.event_lines.specs.declared.line.Line.TheVariants.{Control, Event}
 use Rattle.event_lines.specs.declared.why.Why.{Why}
@@ -68,6 +68,7 @@ one_said n (Control line Paths) h = ap (λ said. all_or_first_error (result_map_
 one_said n (Control line Slack) h = ap (λ said. all_or_first_error (result_map_both (λ (good : Line). good) (λ (why : Why). record { line = n; why = why }) said ∷ [])) (command_said n Slack h)
 one_said n (Control line Report) h = ap (λ said. all_or_first_error (result_map_both (λ (good : Line). good) (λ (why : Why). record { line = n; why = why }) said ∷ [])) (command_said n Report h)
 one_said n (Control line Graph) h = ap (λ said. all_or_first_error (result_map_both (λ (good : Line). good) (λ (why : Why). record { line = n; why = why }) said ∷ [])) (command_said n Graph h)
+one_said n (Control line Summarize) h = ap (λ said. all_or_first_error (result_map_both (λ (good : Line). good) (λ (why : Why). record { line = n; why = why }) said ∷ [])) (command_said n Summarize h)
 
 module _ (pieces : (n : ℕ) (front back : List ℕ)
     → lines_said_from n (input_lines (front ++ 10 ∷ back)) ≡ both_said (lines_said_from n (input_lines front)) (lines_said_from (n + length (input_lines front)) (input_lines back))) where
