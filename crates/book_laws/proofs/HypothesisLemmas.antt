@@ -1,5 +1,5 @@
 -- Hypotheses of names and tasks, and those on the numbers that stand for these.
-use Rattle.std.proofs.Common.{◌≡◌, ◌≢◌, ℕ, inl, inr, Some, List, AllPairs, ap₂, subst, sym}
+use Rattle.std.proofs.Common.{◌≡◌, ◌≢◌, ℕ, inl, inr, Some, List, AllPairs, ap₂, subst}
 use Rattle.std.specs.List.{slice_get}
 use Rattle.trace_rules.specs.Hypotheses.{Hypothesis, Before, Exclusive, Apart, Pipe, Unshared, IsSame, exchanged_hypothesis}
 use Rattle.trace_types.proofs.ElementLemmas.{one_item, one_place}

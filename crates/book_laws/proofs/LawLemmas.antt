@@ -4,7 +4,6 @@ use Rattle.std.proofs.lemmas.List.{length-map}
 use Rattle.trace_types.specs.declared.named_trace.NamedTrace.{NamedTrace}
 use Rattle.trace_types.specs.Firsts.{firsts_of}
 use Rattle.day_partitions.specs.Books.{BookState, IsBook, KeptDay, all_traces}
-use Rattle.day_partitions.specs.Books as books
 use Rattle.day_partitions.specs.Batches.{with_all}
 use Rattle.segment_names.specs.Known.{Known}
 use Rattle.session_rules.specs.KeptTraces.{Kept, day_of, days_of, taken_in, traces_on, with_taken}

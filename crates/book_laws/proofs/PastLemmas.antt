@@ -164,6 +164,7 @@ commanded past commands.Paths s parts next h does = plain past (Control commands
 commanded past commands.Slack s parts next h does = plain past (Control commands.Slack) s next h refl (λ k. refl) (ap kept_in does.0)
 commanded past commands.Report s parts next h does = plain past (Control commands.Report) s next h refl (λ k. refl) (ap kept_in does.0)
 commanded past commands.Graph s parts next h does = plain past (Control commands.Graph) s next h refl (λ k. refl) (ap kept_in does.0)
+commanded past commands.Summarize s parts next h does = plain past (Control commands.Summarize) s next h refl (λ k. refl) (ap kept_in does.0)
 
 done : (workers : ℕ) (past : List PastJob) (job : Job) (s : State) (parts : List Part) (next : State) → AreRemaining past s.kept → Does workers job s parts next → Step past job s next
 done workers past (Add events) s parts next h does =
@@ -226,9 +227,9 @@ go_on workers earlier (job ∷ jobs) s parts last h leads =
     }
 
 pub kept_remain : KeptRemain
-kept_remain workers jobs parts last leads =
+kept_remain workers given jobs parts last leads =
     let none : AreRemaining [] [] = record { rising = λ i j d l m. absurd (omega arith); each = λ day. refl } in
-    let on = go_on workers [] jobs first_state parts last none leads in
+    let on = go_on workers [] jobs (first_state given) parts last none leads in
     (on.past, on.jobs_are, on.led, on.after, on.before)
 
 pub one_remains : OneListRemains

@@ -1,5 +1,5 @@
 -- What a named trace refutes by number, and the kept trace that it is by text.
-use Rattle.std.proofs.Common.{◌≡◌, ◌≢◌, ◌↔◌, ℕ, Some, List, Contains, ap}
+use Rattle.std.proofs.Common.{◌≡◌, ◌≢◌, ◌↔◌, ℕ, Some, List, Contains}
 use Rattle.std.specs.List.{enumerate_from, slice_get}
 use Rattle.trace_rules.specs.Hypotheses.{Hypothesis, Before, Exclusive, Apart, Pipe, Unshared, RefutesHypothesis}
 use Rattle.trace_types.specs.declared.named_trace.NamedTrace.{NamedTrace}
@@ -13,7 +13,7 @@ use Rattle.session_rules.specs.KeptTraces.{Kept, by_kept}
 use Rattle.trace_types.proofs.ElementLemmas.{one_item, one_place}
 use Rattle.book_laws.specs.Shown.{IsShown}
 use Rattle.book_laws.proofs.FoundLemmas.{HasName, HasTask, both_named, name_back, name_to, pipe_tasked, task_back, task_to, unshared_tasked}
-use Rattle.book_laws.proofs.HypothesisLemmas.{AreAt, Stands, before, exclusive, apart, pipe, unshared}
+use Rattle.book_laws.proofs.HypothesisLemmas.{Stands, before, exclusive, apart, pipe, unshared}
 
 -- what the laws say of a catalogue's numbers and of traces under them
 pub record HasLaws (known : Known) : Type 0 where

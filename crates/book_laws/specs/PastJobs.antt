@@ -3,10 +3,12 @@
 use Rattle.std.specs.Prelude.{◌≡◌, ℕ, ◌≤◌, Bool, false, not, ◌==◌, nat_le, List, [], ◌∷◌, ◌++◌}
 use Rattle.std.specs.Prelude.{map, filter, AllPairs}
 use Rattle.std.specs.List.{list_any}
+use Rattle.digest_facts.specs.Digests.{Digest}
 use Rattle.event_lines.specs.declared.command.Command.{Command}
 use Rattle.event_lines.specs.declared.command.Command.TheVariants as commands
 use Rattle.trace_types.specs.declared.trace.Trace.{Trace}
 use Rattle.trace_types.specs.Batch.{traces_of}
+use Rattle.trace_types.specs.Segments.{SegmentName}
 use Rattle.session_rules.specs.declared.job.Job.{Job}
 use Rattle.session_rules.specs.declared.job.Job.TheVariants.{Add, Control, Summary, WhatIf, Tail}
 use Rattle.session_rules.specs.declared.job.Job.TheVariants.{Why, Verify, Evidence}
@@ -47,6 +49,7 @@ command_drops commands.Paths kept day = false
 command_drops commands.Slack kept day = false
 command_drops commands.Report kept day = false
 command_drops commands.Graph kept day = false
+command_drops commands.Summarize kept day = false
 
 -- the same of a job: only commands drop days
 abbrev pub job_drops : Job → List Kept → ℕ → Bool
@@ -83,13 +86,14 @@ ArePast workers (p ∷ past) s last = (p.before ≡ s) × Takes p.job s p.took
     × ((parts : List Part) × (next : State) × Does workers p.job s parts next
     × ArePast workers past next last)
 
--- whatever jobs a session carries out from its start, its kept traces are those that remain after
--- them, and just before each job those that remain after the ones before it
+-- whatever digest is given to a session, and whatever jobs it carries out from its start, its kept
+-- traces are those that remain after them, and just before each job those that remain after the
+-- ones before it
 abbrev pub KeptRemain : Type 0
-KeptRemain = (workers : ℕ) (jobs : List Job) (parts : List Part) (last : State)
-    → Leads workers jobs first_state parts last
+KeptRemain = (workers : ℕ) (given : Digest SegmentName (List ℕ)) (jobs : List Job)
+    (parts : List Part) (last : State) → Leads workers jobs (first_state given) parts last
     → (past : List PastJob) × (map (λ (p : PastJob). p.job) past ≡ jobs)
-    × ArePast workers past first_state last
+    × ArePast workers past (first_state given) last
     × AreRemaining past last.kept
     × ((earlier later : List PastJob) (p : PastJob) → past ≡ earlier ++ (p ∷ later)
     → AreRemaining earlier p.before.kept)

@@ -3,6 +3,7 @@ use Rattle.std.proofs.Common.{◌≡◌, ℕ, ◌+◌, ◌*◌, ◌≤◌, not, 
 use Rattle.std.specs.Prelude.{All, filter, nat_lt}
 use Rattle.std.proofs.lemmas.List.{length-map}
 use Rattle.std.proofs.lemmas.List.Elements.{All-append, All-cons, All-filter, All-head, All-nil, All-push, All-tail, All-weaker}
+use Rattle.digest_facts.specs.Digests.{empty_digest}
 use Rattle.event_lines.specs.declared.command.Command.{Command}
 use Rattle.event_lines.specs.declared.command.Command.TheVariants as commands
 use Rattle.event_lines.specs.declared.line.Line.{Line}
@@ -80,6 +81,7 @@ commanded n commands.Paths s next parts h does = stay n (n + 0) s.kept next.kept
 commanded n commands.Slack s next parts h does = stay n (n + 0) s.kept next.kept h (ap (λ (t : State). t.kept) does.0) (omega arith)
 commanded n commands.Report s next parts h does = stay n (n + 0) s.kept next.kept h (ap (λ (t : State). t.kept) does.0) (omega arith)
 commanded n commands.Graph s next parts h does = stay n (n + 0) s.kept next.kept h (ap (λ (t : State). t.kept) does.0) (omega arith)
+commanded n commands.Summarize s next parts h does = stay n (n + 0) s.kept next.kept h (ap (λ (t : State). t.kept) does.0) (omega arith)
 
 done : (n workers : ℕ) (job : Job) (s next : State) (parts : List Part) → AreKept n s.kept → IsGoodJob job → Does workers job s parts next → AreKept (n + length (events_in job)) next.kept
 done n workers (jobs.Add events) s next parts h good does = added n workers events s next parts h good does
@@ -119,6 +121,7 @@ job_good batch commands.Paths h = All-nil IsGoodEvent
 job_good batch commands.Slack h = All-nil IsGoodEvent
 job_good batch commands.Report h = All-nil IsGoodEvent
 job_good batch commands.Graph h = All-nil IsGoodEvent
+job_good batch commands.Summarize h = All-nil IsGoodEvent
 
 left_good : (batch : List Event) (command : Command) → All IsGoodEvent batch → All IsGoodEvent (batch_after batch command)
 left_good batch commands.Add h = All-nil IsGoodEvent
@@ -131,6 +134,7 @@ left_good batch commands.Paths h = h
 left_good batch commands.Slack h = h
 left_good batch commands.Report h = h
 left_good batch commands.Graph h = h
+left_good batch commands.Summarize h = h
 
 -- a job and the events that are left have no more events than there were
 job_few : (batch : List Event) (command : Command) → length (events_in (job_of batch command)) + length (batch_after batch command) ≤ length batch
@@ -144,6 +148,7 @@ job_few batch commands.Paths = omega arith
 job_few batch commands.Slack = omega arith
 job_few batch commands.Report = omega arith
 job_few batch commands.Graph = omega arith
+job_few batch commands.Summarize = omega arith
 
 jobs_good : (batch : List Event) (ls : List Line) → All IsGoodEvent batch → All IsGoodLine ls → All IsGoodJob (jobs_from batch ls)
 jobs_good batch [] h good = All-nil IsGoodJob
@@ -193,7 +198,7 @@ last_kept input ls last h =
     let good = All-append IsGoodLine ls h.more (lines_good input ls h.said) (All-weaker IsControl IsGoodLine control_good h.more h.further) in
     let all : List Job = jobs_of (ls ++ h.more) ++ h.after in
     let jobs_are = All-append IsGoodJob (jobs_of (ls ++ h.more)) h.after (jobs_good [] (ls ++ h.more) (All-nil IsGoodEvent) good) (All-weaker IsNoAdd IsGoodJob no_add_good h.after h.no_adds) in
-    let kept = led_kept 0 h.workers all first_state last h.parts (record { printable = All-nil IsPrintable; few = omega arith }) jobs_are h.led in
+    let kept = led_kept 0 h.workers all (first_state empty_digest) last h.parts (record { printable = All-nil IsPrintable; few = omega arith }) jobs_are h.led in
     stay (0 + count_events all) (length ls) last.kept last.kept kept refl (omega (arith, after_few (jobs_of (ls ++ h.more)) h.after h.no_adds, jobs_few [] ls h.more h.further))
 
 pub kept_printable : (input : List ℕ) (ls : List Line) (last : State) → IsLastState input ls last → All IsPrintable last.kept

@@ -5,6 +5,7 @@ use Rattle.std.specs.Str.{bytes_eq}
 use Rattle.std.proofs.Math.Seq.{take-length}
 use Rattle.std.proofs.lemmas.Bool.{cases_lt}
 use Rattle.std.proofs.lemmas.List.Elements.{All-contains_itself, All-filter, All-map, All-nil, All-weaker, Contains-append_left, Contains-append_right, Contains-get_or}
+use Rattle.digest_facts.specs.Digests.{empty_digest}
 use Rattle.event_lines.specs.declared.command.Command.{Command}
 use Rattle.event_lines.specs.declared.command.Command.TheVariants as commands
 use Rattle.event_lines.specs.declared.line.Line.{Line}
@@ -133,6 +134,7 @@ commanded commands.Paths s next parts h does = stays s next h does.0
 commanded commands.Slack s next parts h does = stays s next h does.0
 commanded commands.Report s next parts h does = stays s next h does.0
 commanded commands.Graph s next parts h does = stays s next h does.0
+commanded commands.Summarize s next parts h does = stays s next h does.0
 
 done : (workers : ℕ) (job : Job) (s next : State) (parts : List Part) → IsKnowing s → Does workers job s parts next → IsKnowing next
 done workers (jobs.Add events) s next parts h does = added workers events s next parts h does
@@ -151,4 +153,4 @@ led_knowing workers (job ∷ all) s last parts h led = led_knowing workers all l
 -- ---- the last state
 
 pub last_knows : (input : List ℕ) (ls : List Line) (last : State) → IsLastState input ls last → IsKnowing last
-last_knows input ls last h = led_knowing h.workers _ first_state last h.parts (record { fits = (omega arith, omega arith); each = All-nil (IsKnownTrace first_state.known) }) h.led
+last_knows input ls last h = led_knowing h.workers _ (first_state empty_digest) last h.parts (record { fits = (omega arith, omega arith); each = All-nil (IsKnownTrace (record { names = []; tasks = [] })) }) h.led

@@ -1,6 +1,7 @@
 -- The traces that a session keeps of an input are printable, and refute few relations: statements
 -- that laws prove.
 use Rattle.std.specs.Prelude.{◌≡◌, ℕ, ◌<◌, ◌≤◌, ◌^◌, List, ◌++◌, All, Ok, length, ⊤}
+use Rattle.digest_facts.specs.Digests.{empty_digest}
 use Rattle.event_lines.specs.InputLines.{lines_said}
 use Rattle.event_lines.specs.declared.line.Line.{Line}
 use Rattle.event_lines.specs.declared.line.Line.TheVariants.{Control, Event}
@@ -16,8 +17,8 @@ abbrev pub IsControl : Line → Type 0
 IsControl (Event event) = ⊥
 IsControl (Control line command) = ⊤
 
--- a session carries out the lines of an input, further control lines and then jobs that add
--- nothing, and this is its last state
+-- a session to which nothing is given carries out the lines of an input, further control lines and
+-- then jobs that add nothing, and this is its last state
 pub record IsLastState (input : List ℕ) (lines : List Line) (last : State) : Type 0 where
   pub said : lines_said input ≡ Ok lines
   pub more : List Line
@@ -26,7 +27,7 @@ pub record IsLastState (input : List ℕ) (lines : List Line) (last : State) : T
   pub no_adds : All IsNoAdd after
   pub workers : ℕ
   pub parts : List Part
-  pub led : Leads workers (jobs_of (lines ++ more) ++ after) first_state parts last
+  pub led : Leads workers (jobs_of (lines ++ more) ++ after) (first_state empty_digest) parts last
 
 -- the traces that are then kept are printable
 abbrev pub KeptTracesArePrintable : Type 0

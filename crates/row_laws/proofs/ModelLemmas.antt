@@ -1,5 +1,5 @@
 -- The rows of the evidence of kept traces name the relations of their model.
-use Rattle.std.proofs.Common.{◌≡◌, ◌≢◌, ◌↔◌, ℕ, ◌<◌, ◌≤◌, Bool, true, false, Some, List, length, slice_get, subst, arith, Ordering}
+use Rattle.std.proofs.Common.{◌≡◌, ◌≢◌, ◌↔◌, ℕ, ◌<◌, ◌≤◌, Bool, true, false, Some, List, [], length, slice_get, subst, arith, Ordering}
 use Rattle.std.specs.Cmp.{IsTotalOrder}
 use Rattle.std.specs.Cmp.Lexicographic.{slice_cmp}
 use Rattle.std.specs.Ordering.{nat_cmp}
@@ -14,13 +14,15 @@ use Rattle.trace_types.specs.Surviving.{IsRefuted}
 use Rattle.trace_types.proofs.ComparingLemmas.{text_total}
 use Rattle.trace_types.proofs.ListingLemmas.{few_different, name_total, pair_total}
 use Rattle.trace_types.proofs.ZipLemmas.{zip_length}
+use Rattle.digest_facts.specs.DigestLaws.{TellsOfAll}
+use Rattle.digest_facts.specs.Digests.{empty_digest}
 use Rattle.evidence_rules.specs.EvidenceRows.{AreBySupport, AreNameRows, AreOrdersLeft, AreTaskRows, Listing, is_exclusion, is_order, is_pipe, rows_where, supported}
 use Rattle.evidence_rules.specs.declared.between.Between.{Between}
 use Rattle.evidence_rules.specs.declared.choice.Choice.{Choice}
 use Rattle.evidence_rules.specs.declared.pair_row.PairRow.{PairRow}
 use Rattle.evidence_rules.specs.declared.sharing.Sharing.{Sharing}
 use Rattle.session_rules.specs.EvidenceTexts.{IsEvidenceText}
-use Rattle.session_rules.specs.KeptTraces.{Kept, by_kept}
+use Rattle.session_rules.specs.KeptTraces.{Kept, by_kept, day_of}
 use Rattle.row_laws.specs.ModelRows.{CountsAreModel, ExclusionRowsAreModel, ExclusionRowsAreSupported, IsModelExclusion, IsModelOrder, IsModelPipe, NamesMeet, OrderRowsAreModel, OrderRowsAreSupported, PipeRowsAreModel, PipeRowsAreSupported, TasksMeet, TwoNames, TwoTasks}
 use Rattle.row_laws.specs.NamedRows.{NameExactly, NamesTwo}
 use Rattle.row_laws.proofs.CountLemmas.{at_least_tells, some_many}
@@ -202,12 +204,16 @@ as_many cmp total P xs rows listed h k =
     let least = few_different listed h.pairs (rising_differ cmp total listed k.rising) (λ p c. (h.exactly p).1 ((k.exactly p).0 c)) in
     omega (arith, size, most, least)
 
+-- what is told where nothing is given
+abbrev pub NothingGiven : Type 0
+NothingGiven = (kept : List Kept) → TellsOfAll by_kept day_of name_cmp (slice_cmp nat_cmp) [] kept empty_digest
+
 -- ---- the laws
-pub counts_are_model : Told → CountsAreModel
-counts_are_model told choice kept bytes others text model whole one = (
-  as_many (pair_cmp name_cmp) (pair_total name_cmp name_total) (IsModelOrder kept) text.names text.rows.orders model.figures.hb (all_orders told choice kept bytes text one whole) model.told.hb,
-  as_many (pair_cmp name_cmp) (pair_total name_cmp name_total) (IsModelExclusion kept) text.names text.rows.exclusions model.figures.mx (all_exclusions told choice kept bytes text one) model.told.mx,
-  as_many (pair_cmp (slice_cmp nat_cmp)) (pair_total (slice_cmp nat_cmp) text_total) (IsModelPipe kept) text.tasks text.rows.pipes model.figures.pipe (all_pipes told choice kept bytes text one) model.told.pipe,
+pub counts_are_model : Told → NothingGiven → CountsAreModel
+counts_are_model told given choice kept bytes others text model whole one = (
+  as_many (pair_cmp name_cmp) (pair_total name_cmp name_total) (IsModelOrder kept) text.names text.rows.orders model.figures.hb (all_orders told choice kept bytes text one whole) (((given kept).ordered_rows model.figures.hb).0 model.told.hb),
+  as_many (pair_cmp name_cmp) (pair_total name_cmp name_total) (IsModelExclusion kept) text.names text.rows.exclusions model.figures.mx (all_exclusions told choice kept bytes text one) (((given kept).unordered_rows model.figures.mx).0 model.told.mx),
+  as_many (pair_cmp (slice_cmp nat_cmp)) (pair_total (slice_cmp nat_cmp) text_total) (IsModelPipe kept) text.tasks text.rows.pipes model.figures.pipe (all_pipes told choice kept bytes text one) (((given kept).piped_rows model.figures.pipe).0 model.told.pipe),
 )
 
 pub orders_are_model : Told → OrderRowsAreModel

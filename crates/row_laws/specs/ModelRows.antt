@@ -1,6 +1,7 @@
 -- The rows of the evidence of kept traces name the relations of their model: statements that laws
 -- prove.
 use Rattle.std.specs.Prelude.{◌≡◌, ℕ, ◌≤◌, false, List, length}
+use Rattle.digest_facts.specs.Digests.{empty_digest}
 use Rattle.evidence_rules.specs.declared.choice.Choice.{Choice}
 use Rattle.session_rules.specs.EvidenceTexts.{IsEvidenceText}
 use Rattle.session_rules.specs.KeptTraces.{Kept, by_kept}
@@ -59,10 +60,11 @@ PipeRowsAreModel = (choice : Choice) (kept : List Kept) (bytes : List ℕ)
     (text : IsEvidenceText choice kept bytes) → choice.least ≤ 1
     → NameExactly text.tasks (IsModelPipe kept) text.rows.pipes
 
--- so the header tells as many relations of each kind as the first row of the model
+-- so where nothing is given the header tells as many relations of each kind as the first row of the
+-- model
 abbrev pub CountsAreModel : Type 0
 CountsAreModel = (choice : Choice) (kept : List Kept) (bytes others : List ℕ)
-    (text : IsEvidenceText choice kept bytes) (model : IsModelText kept others)
+    (text : IsEvidenceText choice kept bytes) (model : IsModelText empty_digest kept others)
     → choice.reduced ≡ false → choice.least ≤ 1
     → (length text.rows.orders ≡ length model.figures.hb)
     × (length text.rows.exclusions ≡ length model.figures.mx)

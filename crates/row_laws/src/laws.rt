@@ -15,6 +15,7 @@ ghost use Rattle.row_laws.specs.WitnessRows.{NearlyExclusionsNameWitness, Nearly
 ghost use Rattle.row_laws.specs.WitnessRows.{NearlyPipesNameWitness};
 ghost use Rattle.trace_types.specs.Parts.{Parts};
 
+use digest_facts::laws::{a_digest_tells_of_all, a_merge_is_of_both, names_tell_apart};
 use evidence_laws::laws::{relations_are_those_of_the_model, the_first_trace_refutes};
 use implied_pairs::laws::the_same_reach;
 use session_rules::KeptTrace;
@@ -37,13 +38,17 @@ pub fn row_figures_count_traces()
 }
 
 /// The rows of the evidence name exactly the relations of the model, each once, where one trace is
-/// enough and no order is left out; so each kind has as many rows as the model.
+/// enough and no order is left out; so each kind has as many rows as the model where nothing is
+/// given.
 pub fn rows_tell_the_model()
     ensures orders { OrderRowsAreModel }
     ensures exclusions { ExclusionRowsAreModel }
     ensures pipes { PipeRowsAreModel }
     ensures counts { CountsAreModel }
 {
+    a_digest_tells_of_all::<KeptTrace, Segment, NameText, Text, Text>();
+    a_merge_is_of_both::<KeptTrace, Segment, NameText, Text, Text>();
+    names_tell_apart();
     relations_are_those_of_the_model::<KeptTrace, Segment, NameText, Text, Text>();
     figures_count_traces::<KeptTrace, Segment, NameText, Text, Text>();
 }

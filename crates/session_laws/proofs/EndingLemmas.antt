@@ -1,10 +1,12 @@
 -- Jobs end in one way.
 use Rattle.std.proofs.Common.{◌≡◌, ℕ, List, [], ◌∷◌, ◌++◌, sym, ◌∙◌, ap, subst}
+use Rattle.digest_facts.specs.Digests.{Digest}
 use Rattle.session_rules.specs.Parts.{Part, IsPart}
 use Rattle.session_rules.specs.Sessions.{Does, Leads, Passes, State, first_state}
 use Rattle.session_rules.specs.declared.job.Job.{Job}
 use Rattle.session_rules.specs.declared.limit.Limit.{Limit}
 use Rattle.text_rows.specs.TextsOfParts.{AreTexts}
+use Rattle.trace_types.specs.Segments.{SegmentName}
 use Rattle.session_laws.specs.EndingLaws.{AreAlike, JobDoesOneThing, JobPassesNoLimit, JobPassesOneLimit}
 use Rattle.session_rules.specs.JobTexts.{IsText, IsTextToLimit}
 
@@ -22,8 +24,8 @@ module _ (one : JobDoesOneThing) (none : JobPassesNoLimit) (limit : JobPassesOne
       let same = one w x a h.1 k.1 h.0 k.0 h.3 k.3 in
       no_pass w l done rest j h.1 b d h.2 k.2 h.4 (subst (λ (e : State). Leads w done e k.2 d) (sym same.1) k.4) p
 
-  pub whole_no_limit : (w : ℕ) (jobs : List Job) (last : State) (l : Limit) (t u : List ℕ) → IsText w jobs last t → IsTextToLimit w jobs l u → ⊥
-  whole_no_limit w jobs last l t u h k = no_pass w l k.done k.rest k.job first_state last k.last h.parts k.told.parts (subst (λ (js : List Job). Leads w js first_state h.parts last) k.split h.led) k.told.led k.passes
+  pub whole_no_limit : (w : ℕ) (given : Digest SegmentName (List ℕ)) (jobs : List Job) (last : State) (l : Limit) (t u : List ℕ) → IsText w given jobs last t → IsTextToLimit w given jobs l u → ⊥
+  whole_no_limit w given jobs last l t u h k = no_pass w l k.done k.rest k.job (first_state given) last k.last h.parts k.told.parts (subst (λ (js : List Job). Leads w js (first_state given) h.parts last) k.split h.led) k.told.led k.passes
 
   -- jobs stop at a limit in one place
   stops_one : (w : ℕ) (l m : Limit) (done also rest more : List Job) (i j : Job) (a b d : State) (ps qs : List Part) → done ++ (i ∷ rest) ≡ also ++ (j ∷ more)
@@ -45,16 +47,16 @@ module _ (one : JobDoesOneThing) (none : JobPassesNoLimit) (limit : JobPassesOne
       let others = stops_one w l m done also rest more i j h.1 b d h.2 k.2 tail h.4 p (subst (λ (z : State). Leads w also z k.2 d) (sym same.1) k.4) q in
       (h.5 ∙ ap (λ (t : List Part). t ++ h.2) same.0 ∙ ap (λ (t : List Part). k.0 ++ t) others.0 ∙ sym k.5, others.1)
 
-  limit_stops : (w : ℕ) (jobs : List Job) (l m : Limit) (t u : List ℕ) → (h : IsTextToLimit w jobs l t) → (k : IsTextToLimit w jobs m u) → (h.told.parts ≡ k.told.parts) × (l ≡ m)
-  limit_stops w jobs l m t u h k = stops_one w l m h.done k.done h.rest k.rest h.job k.job first_state h.last k.last h.told.parts k.told.parts (sym h.split ∙ k.split) h.told.led h.passes k.told.led k.passes
+  limit_stops : (w : ℕ) (given : Digest SegmentName (List ℕ)) (jobs : List Job) (l m : Limit) (t u : List ℕ) → (h : IsTextToLimit w given jobs l t) → (k : IsTextToLimit w given jobs m u) → (h.told.parts ≡ k.told.parts) × (l ≡ m)
+  limit_stops w given jobs l m t u h k = stops_one w l m h.done k.done h.rest k.rest h.job k.job (first_state given) h.last k.last h.told.parts k.told.parts (sym h.split ∙ k.split) h.told.led h.passes k.told.led k.passes
 
-  pub limits_one : (w : ℕ) (jobs : List Job) (l m : Limit) (t u : List ℕ) → IsTextToLimit w jobs l t → IsTextToLimit w jobs m u → l ≡ m
-  limits_one w jobs l m t u h k = (limit_stops w jobs l m t u h k).1
+  pub limits_one : (w : ℕ) (given : Digest SegmentName (List ℕ)) (jobs : List Job) (l m : Limit) (t u : List ℕ) → IsTextToLimit w given jobs l t → IsTextToLimit w given jobs m u → l ≡ m
+  limits_one w given jobs l m t u h k = (limit_stops w given jobs l m t u h k).1
 
-  pub texts_alike : (w : ℕ) (jobs : List Job) (last end : State) (t u : List ℕ) → IsText w jobs last t → IsText w jobs end u → (last ≡ end) × AreAlike t u
-  texts_alike w jobs last end t u h k =
-      let same = leads_one w jobs first_state last end h.parts k.parts h.led k.led in
+  pub texts_alike : (w : ℕ) (given : Digest SegmentName (List ℕ)) (jobs : List Job) (last end : State) (t u : List ℕ) → IsText w given jobs last t → IsText w given jobs end u → (last ≡ end) × AreAlike t u
+  texts_alike w given jobs last end t u h k =
+      let same = leads_one w jobs (first_state given) last end h.parts k.parts h.led k.led in
       (same.1, (h.parts, h.told, subst (λ (ps : List Part). AreTexts IsPart ps u) (sym same.0) k.told))
 
-  pub limits_alike : (w : ℕ) (jobs : List Job) (l : Limit) (t u : List ℕ) → IsTextToLimit w jobs l t → IsTextToLimit w jobs l u → AreAlike t u
-  limits_alike w jobs l t u h k = (h.told.parts, h.told.told, subst (λ (ps : List Part). AreTexts IsPart ps u) (sym ((limit_stops w jobs l l t u h k).0)) k.told.told)
+  pub limits_alike : (w : ℕ) (given : Digest SegmentName (List ℕ)) (jobs : List Job) (l : Limit) (t u : List ℕ) → IsTextToLimit w given jobs l t → IsTextToLimit w given jobs l u → AreAlike t u
+  limits_alike w given jobs l t u h k = (h.told.parts, h.told.told, subst (λ (ps : List Part). AreTexts IsPart ps u) (sym ((limit_stops w given jobs l l t u h k).0)) k.told.told)

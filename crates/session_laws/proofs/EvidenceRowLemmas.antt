@@ -1,13 +1,12 @@
 -- Figures, and the rows of a choice, are one.
-use Rattle.std.proofs.Common.{◌≡◌, ◌↔◌, ℕ, zero, suc, ◌+◌, ◌<◌, ◌≤◌, ℤ, ◌≤ℤ◌, Bool, true, false, cond, List, [], ◌∷◌, ◌++◌, map, filter, length, flat_map, Option, Some, slice_get, count_by, All, Contains, refl, sym, ◌∙◌, ap, subst, arith}
+use Rattle.std.proofs.Common.{◌≡◌, ◌↔◌, ℕ, zero, suc, ◌+◌, ◌<◌, ℤ, ◌≤ℤ◌, Bool, true, false, cond, List, [], ◌∷◌, ◌++◌, map, filter, flat_map, Some, slice_get, count_by, refl, sym, ◌∙◌, ap, subst, arith}
 use Rattle.std.specs.Prelude.{not, sum}
-use Rattle.std.specs.List.{AllZip, range_with_len, zip}
+use Rattle.std.specs.List.{range_with_len, zip}
 use Rattle.std.specs.Cmp.{IsTotalOrder}
-use Rattle.std.specs.Ordering.{nat_cmp}
 use Rattle.std.proofs.lemmas.Cmp.{back_total, nat_cmp_total, on_total, then_total}
 use Rattle.std.proofs.lemmas.Int.{ints}
 use Rattle.std.proofs.lemmas.List.Elements.{All-contains}
-use Rattle.trace_types.specs.Listing.{AreExactly, CountsDistinct, ListsExactly}
+use Rattle.trace_types.specs.Listing.{AreExactly, CountsDistinct}
 use Rattle.trace_types.specs.Parts.{Parts}
 use Rattle.trace_types.specs.Pipelines.{RefutesPipe, RefutesUnshared}
 use Rattle.evidence_rules.specs.EvidenceRows.{AreBySupport, AreNameRows, AreOrderRows, AreOrdersLeft, AreReduced, AreRows, AreTaskRows, Listing, Rows, by_support, is_exclusion, is_nearly_exclusion, is_nearly_order, is_nearly_pipe, is_order, is_pipe, places_of, rows_where, supported}

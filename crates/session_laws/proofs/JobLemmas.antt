@@ -25,7 +25,7 @@ use Rattle.session_rules.specs.Sessions.{Adds, Does, Passes, PassesLimitOf, Stat
 use Rattle.session_rules.specs.declared.job.Job.{Job}
 use Rattle.session_rules.specs.declared.job.Job.TheVariants.{Add, Control, Summary, WhatIf, Tail, Why, Verify, Evidence}
 use Rattle.session_rules.specs.declared.limit.Limit.{Limit}
-use Rattle.session_rules.specs.declared.limit.Limit.TheVariants.{Names, Tasks, Days}
+use Rattle.session_rules.specs.declared.limit.Limit.TheVariants.{Names, Tasks, Days, Traces}
 use Rattle.session_rules.specs.declared.refused.Refused.{Refused}
 use Rattle.trace_types.specs.Batch.{PlainTrace, traces_of}
 use Rattle.trace_types.specs.Listing.{ListsExactly}
@@ -83,6 +83,13 @@ limits_one s valid (Tasks a) (Days b) p q = absurd (q.0 (limits.Tasks a) p)
 limits_one s valid (Days a) (Names b) p q = absurd (p.0 (limits.Names b) q)
 limits_one s valid (Days a) (Tasks b) p q = absurd (p.0 (limits.Tasks b) q)
 limits_one s valid (Days a) (Days b) p q = ap Days (p.2 ∙ sym q.2)
+limits_one s valid (Names a) Traces p q = absurd (q.0 (limits.Names a) p)
+limits_one s valid (Tasks a) Traces p q = absurd (q.0 (limits.Tasks a) p)
+limits_one s valid (Days a) Traces p q = absurd (omega (arith, p.1, q.1))
+limits_one s valid Traces (Names b) p q = absurd (p.0 (limits.Names b) q)
+limits_one s valid Traces (Tasks b) p q = absurd (p.0 (limits.Tasks b) q)
+limits_one s valid Traces (Days b) p q = absurd (omega (arith, p.1, q.1))
+limits_one s valid Traces Traces p q = refl
 
 -- ---- what is cited of the crates below
 
@@ -215,11 +222,12 @@ module _ (verdict : OneVerdict) where
     does_one w (Control commands.Model) s next other parts others h k = (h.1 ∙ sym k.1, h.0 ∙ sym k.0)
     does_one w (Control commands.Paths) s next other parts others h k = (h.1 ∙ sym k.1, h.0 ∙ sym k.0)
     does_one w (Control commands.Slack) s next other parts others h k = (h.1 ∙ sym k.1, h.0 ∙ sym k.0)
-    does_one w (Control commands.Report) s next other parts others h k = (h.1.2 ∙ ap (report_parts s.kept) (names_one s.kept h.1.0 k.1.0 h.1.1 k.1.1) ∙ sym k.1.2, h.0 ∙ sym k.0)
+    does_one w (Control commands.Report) s next other parts others h k = (h.1.2 ∙ ap (report_parts s.given s.kept) (names_one s.kept h.1.0 k.1.0 h.1.1 k.1.1) ∙ sym k.1.2, h.0 ∙ sym k.0)
     does_one w (Control commands.Graph) s next other parts others h k = (h.1 ∙ sym k.1, h.0 ∙ sym k.0)
+    does_one w (Control commands.Summarize) s next other parts others h k = (h.1 ∙ sym k.1, h.0 ∙ sym k.0)
     does_one w Summary s next other parts others h k = (h.1 ∙ sym k.1, h.0 ∙ sym k.0)
     does_one w (WhatIf change) s next other parts others h k = (h.1 ∙ sym k.1, h.0 ∙ sym k.0)
-    does_one w Tail s next other parts others h k = (h.1.2 ∙ ap (tail_parts s.kept) (names_one s.kept h.1.0 k.1.0 h.1.1 k.1.1) ∙ sym k.1.2, h.0 ∙ sym k.0)
+    does_one w Tail s next other parts others h k = (h.1.2 ∙ ap (tail_parts s.given s.kept) (names_one s.kept h.1.0 k.1.0 h.1.1 k.1.1) ∙ sym k.1.2, h.0 ∙ sym k.0)
     does_one w Why s next other parts others h k = (h.1.2 ∙ ap (why_parts s.kept) (refutations_one told s.kept h.1.0 k.1.0 h.1.1 k.1.1) ∙ sym k.1.2, h.0 ∙ sym k.0)
     does_one w (Verify claims) s next other parts others h k = (h.1.2 ∙ ap (verify_parts claims) (verdicts_one s.kept claims h.1.0 k.1.0 h.1.1 k.1.1) ∙ sym k.1.2, h.0 ∙ sym k.0)
     does_one w (Evidence choice) s next other parts others h k = (h.1 ∙ sym k.1, h.0 ∙ sym k.0)

@@ -1,19 +1,23 @@
 -- Each part has one text, but for the numbers of watch rows.
-use Rattle.std.proofs.Common.{◌≡◌, ℕ, List, [], ◌∷◌, length, map, sym, ◌∙◌, ap}
+use Rattle.std.proofs.Common.{◌≡◌, ℕ, List, [], ◌∷◌, ◌++◌, map, refl, sym, ◌∙◌, ap}
 use Rattle.std.specs.Cmp.{IsTotalOrder}
 use Rattle.std.specs.Cmp.Lexicographic.{slice_cmp}
 use Rattle.std.specs.Ordering.{nat_cmp}
-use Rattle.trace_rules.specs.Pipes.{IsPipeline}
-use Rattle.session_rules.specs.KeptTraces.{Kept, SurvivesIn, by_kept, day_of}
-use Rattle.session_rules.specs.ModelTexts.{AreModelFigures, Figures, IsModelHead, IsModelText, header_row, model_text}
-use Rattle.session_rules.specs.Parts.{AreWatchRows, Part, IsPart, Refusals, Watched, Dropped, KeptNewest, ModelOf, Header, PathOf, SlacksOf, GraphOf, ModelHead, ReportHead, LatenciesOf, SegmentOf, TailHead, TailOf, ForecastHead, ForecastOf, WhyHead, RefutedOf, Verdict, Verified, EvidenceOf}
+use Rattle.digest_facts.specs.Digests.{Digest, merged}
+use Rattle.digest_facts.specs.Facts.{IsOrdered, IsPiped, IsUnordered}
+use Rattle.digest_facts.specs.MergeLaws.{HasOneDigest}
+use Rattle.digest_facts.specs.Texts.{digest_text}
+use Rattle.session_rules.specs.KeptTraces.{Kept, by_kept, day_of}
+use Rattle.session_rules.specs.DigestTexts.{IsDigestText}
+use Rattle.session_rules.specs.GivenDigests.{SurvivesUnder, known_under}
+use Rattle.session_rules.specs.ModelTexts.{AreModelFigures, Figures, IsModelHead, IsModelText, header_row, model_text, traces_under}
+use Rattle.session_rules.specs.Parts.{AreWatchRows, Part, IsPart, Refusals, Watched, Dropped, KeptNewest, ModelOf, DigestOf, Header, PathOf, SlacksOf, GraphOf, ModelHead, ReportHead, LatenciesOf, SegmentOf, TailHead, TailOf, ForecastHead, ForecastOf, WhyHead, RefutedOf, Verdict, Verified, EvidenceOf}
 use Rattle.trace_paths.specs.PathLaws.{PathsAreOne}
 use Rattle.text_rows.specs.TextsOfParts.{AreTexts}
 use Rattle.trace_graph.specs.GraphLaws.{HasOneGraph}
 use Rattle.trace_types.specs.Listing.{CountsDistinct}
 use Rattle.trace_types.specs.NameOrder.{name_cmp, pair_cmp}
 use Rattle.trace_types.specs.Parts.{segments_of}
-use Rattle.trace_types.specs.Relations.{HappensBefore, ExcludesUnordered}
 use Rattle.trace_types.specs.Segments.{SegmentName, name_of, task_of}
 use Rattle.session_laws.specs.WatchLaws.{AreAlikeByPart, AreSameRows, IsAlike}
 use Rattle.session_laws.proofs.JobLemmas.{OneRisingList, one_listed}
@@ -37,16 +41,17 @@ pub record OneTelling : Type 0 where
   pub task_count : OneCount (List ℕ)
   pub name_order : IsTotalOrder (pair_cmp name_cmp)
   pub task_order : IsTotalOrder (pair_cmp (slice_cmp nat_cmp))
-  pub graphs : (kept : List Kept) → HasOneGraph by_kept (SurvivesIn kept)
-  pub paths : (kept : List Kept) → PathsAreOne by_kept (SurvivesIn kept)
+  pub graphs : (given : Digest SegmentName (List ℕ)) (kept : List Kept) → HasOneGraph by_kept (SurvivesUnder given kept)
+  pub paths : (given : Digest SegmentName (List ℕ)) (kept : List Kept) → PathsAreOne by_kept (SurvivesUnder given kept)
+  pub digests : HasOneDigest by_kept day_of name_cmp (slice_cmp nat_cmp)
   pub evidence : OneEvidence
 
 watch_one : (every workers day : ℕ) (traces : List Kept) (t u : List ℕ) → AreWatchRows every workers day traces t → AreWatchRows every workers day traces u → AreSameRows day t u
 watch_one every workers day traces t u h k = record { lines = h.lines; others = k.lines; text_is = h.text; other_is = k.text; marks = h.are.marks ∙ sym k.are.marks }
 
 module _ (told : OneTelling) where
-  figures_one : (kept : List Kept) (f g : Figures) → AreModelFigures kept f → AreModelFigures kept g → f ≡ g
-  figures_one kept f g h k =
+  figures_one : (given : Digest SegmentName (List ℕ)) (kept : List Kept) (f g : Figures) → AreModelFigures given kept f → AreModelFigures given kept g → f ≡ g
+  figures_one given kept f g h k =
       ap (λ (x : ℕ). record { days = x; names = f.names; tasks = f.tasks; hb = f.hb; mx = f.mx; pipe = f.pipe }) days
       ∙ ap (λ (x : ℕ). record { days = g.days; names = x; tasks = f.tasks; hb = f.hb; mx = f.mx; pipe = f.pipe }) names
       ∙ ap (λ (x : ℕ). record { days = g.days; names = g.names; tasks = x; hb = f.hb; mx = f.mx; pipe = f.pipe }) tasks
@@ -55,47 +60,51 @@ module _ (told : OneTelling) where
       ∙ ap (λ (x : List (List ℕ × List ℕ)). record { days = g.days; names = g.names; tasks = g.tasks; hb = g.hb; mx = g.mx; pipe = x }) pipe
     where
       days : f.days ≡ g.days
-      days = told.days f.days g.days (map day_of kept) h.days k.days
+      days = told.days f.days g.days (given.days ++ map day_of kept) h.days k.days
 
       names : f.names ≡ g.names
-      names = told.name_count f.names g.names (map name_of (segments_of by_kept kept)) h.names k.names
+      names = told.name_count f.names g.names (given.names ++ map name_of (segments_of by_kept kept)) h.names k.names
 
       tasks : f.tasks ≡ g.tasks
-      tasks = told.task_count f.tasks g.tasks (map task_of (segments_of by_kept kept)) h.tasks k.tasks
+      tasks = told.task_count f.tasks g.tasks (given.tasks ++ map task_of (segments_of by_kept kept)) h.tasks k.tasks
 
       hb : f.hb ≡ g.hb
-      hb = one_listed told.names (pair_cmp name_cmp) (λ (pair : SegmentName × SegmentName). HappensBefore by_kept kept pair.0 pair.1) f.hb g.hb told.name_order h.hb k.hb
+      hb = one_listed told.names (pair_cmp name_cmp) (λ (pair : SegmentName × SegmentName). IsOrdered (known_under given kept) pair.0 pair.1) f.hb g.hb told.name_order h.hb k.hb
 
       mx : f.mx ≡ g.mx
-      mx = one_listed told.names (pair_cmp name_cmp) (λ (pair : SegmentName × SegmentName). ExcludesUnordered by_kept name_cmp kept pair.0 pair.1) f.mx g.mx told.name_order h.mx k.mx
+      mx = one_listed told.names (pair_cmp name_cmp) (λ (pair : SegmentName × SegmentName). IsUnordered (known_under given kept) name_cmp pair.0 pair.1) f.mx g.mx told.name_order h.mx k.mx
 
       pipe : f.pipe ≡ g.pipe
-      pipe = one_listed told.tasks (pair_cmp (slice_cmp nat_cmp)) (λ (pair : List ℕ × List ℕ). IsPipeline by_kept kept pair.0 pair.1) f.pipe g.pipe told.task_order h.pipe k.pipe
+      pipe = one_listed told.tasks (pair_cmp (slice_cmp nat_cmp)) (λ (pair : List ℕ × List ℕ). IsPiped (known_under given kept) pair.0 pair.1) f.pipe g.pipe told.task_order h.pipe k.pipe
 
-  model_one : (kept : List Kept) (t u : List ℕ) → IsModelText kept t → IsModelText kept u → t ≡ u
-  model_one kept t u h k = h.text ∙ ap (model_text (length kept)) (figures_one kept h.figures k.figures h.told k.told) ∙ sym k.text
+  model_one : (given : Digest SegmentName (List ℕ)) (kept : List Kept) (t u : List ℕ) → IsModelText given kept t → IsModelText given kept u → t ≡ u
+  model_one given kept t u h k = h.text ∙ ap (model_text (traces_under given kept)) (figures_one given kept h.figures k.figures h.told k.told) ∙ sym k.text
 
-  model_head_one : (kept : List Kept) (t u : List ℕ) → IsModelHead kept t → IsModelHead kept u → t ≡ u
-  model_head_one kept t u h k = h.text ∙ ap (header_row (length kept)) (figures_one kept h.figures k.figures h.told k.told) ∙ sym k.text
+  model_head_one : (given : Digest SegmentName (List ℕ)) (kept : List Kept) (t u : List ℕ) → IsModelHead given kept t → IsModelHead given kept u → t ≡ u
+  model_head_one given kept t u h k = h.text ∙ ap (header_row (traces_under given kept)) (figures_one given kept h.figures k.figures h.told k.told) ∙ sym k.text
+
+  digest_one : (given : Digest SegmentName (List ℕ)) (kept : List Kept) (t u : List ℕ) → IsDigestText given kept t → IsDigestText given kept u → t ≡ u
+  digest_one given kept t u h k = h.text ∙ ap (λ (d : Digest SegmentName (List ℕ)). digest_text (merged name_cmp (slice_cmp nat_cmp) given d)) (told.digests kept kept h.digest k.digest refl (λ x. ((λ c. c), (λ c. c))) h.of_kept k.of_kept) ∙ sym k.text
 
   pub part_one : (part : Part) (t u : List ℕ) → IsPart part t → IsPart part u → IsAlike part t u
   part_one (Refusals refused) t u h k = h ∙ sym k
   part_one (Watched every workers day traces) t u h k = watch_one every workers day traces t u h k
   part_one (Dropped day count) t u h k = h ∙ sym k
   part_one (KeptNewest days count) t u h k = h ∙ sym k
-  part_one (ModelOf kept) t u h k = model_one kept t u h k
+  part_one (ModelOf given kept) t u h k = model_one given kept t u h k
+  part_one (DigestOf given kept) t u h k = digest_one given kept t u h k
   part_one (Header word count) t u h k = h ∙ sym k
-  part_one (PathOf kept trace) t u h k = path_one (SurvivesIn kept) (told.graphs kept) trace t u h k
-  part_one (SlacksOf kept trace) t u h k = slacks_one (SurvivesIn kept) (told.graphs kept) trace t u h k
-  part_one (GraphOf kept trace) t u h k = graph_one (SurvivesIn kept) (told.graphs kept) told.numbers trace t u h k
-  part_one (ModelHead kept) t u h k = model_head_one kept t u h k
-  part_one (ReportHead kept) t u h k = report_head_one (SurvivesIn kept) (told.paths kept) kept t u h k
+  part_one (PathOf given kept trace) t u h k = path_one (SurvivesUnder given kept) (told.graphs given kept) trace t u h k
+  part_one (SlacksOf given kept trace) t u h k = slacks_one (SurvivesUnder given kept) (told.graphs given kept) trace t u h k
+  part_one (GraphOf given kept trace) t u h k = graph_one (SurvivesUnder given kept) (told.graphs given kept) told.numbers trace t u h k
+  part_one (ModelHead given kept) t u h k = model_head_one given kept t u h k
+  part_one (ReportHead given kept) t u h k = report_head_one (SurvivesUnder given kept) (told.paths given kept) kept t u h k
   part_one (LatenciesOf kept) t u h k = latencies_one kept t u h k
-  part_one (SegmentOf kept name) t u h k = segment_one (SurvivesIn kept) (told.paths kept) kept name t u h k
+  part_one (SegmentOf given kept name) t u h k = segment_one (SurvivesUnder given kept) (told.paths given kept) kept name t u h k
   part_one (TailHead kept) t u h k = tail_head_one kept t u h k
-  part_one (TailOf kept name) t u h k = tail_one (SurvivesIn kept) (told.paths kept) kept name t u h k
-  part_one (ForecastHead change kept) t u h k = forecast_head_one (SurvivesIn kept) (told.graphs kept) change kept t u h k
-  part_one (ForecastOf change kept trace) t u h k = forecast_row_one (SurvivesIn kept) (told.graphs kept) change kept trace t u h k
+  part_one (TailOf given kept name) t u h k = tail_one (SurvivesUnder given kept) (told.paths given kept) kept name t u h k
+  part_one (ForecastHead change given kept) t u h k = forecast_head_one (SurvivesUnder given kept) (told.graphs given kept) change kept t u h k
+  part_one (ForecastOf change given kept trace) t u h k = forecast_row_one (SurvivesUnder given kept) (told.graphs given kept) change kept trace t u h k
   part_one (WhyHead traces refuted) t u h k = h ∙ sym k
   part_one (RefutedOf kept matter) t u h k = refuted_one kept matter t u h k
   part_one (Verdict verdict line) t u h k = h ∙ sym k

@@ -33,6 +33,7 @@ job_few batch commands.Paths = omega arith
 job_few batch commands.Slack = omega arith
 job_few batch commands.Report = omega arith
 job_few batch commands.Graph = omega arith
+job_few batch commands.Summarize = omega arith
 
 sum_few : (batch : List Event) (ls : List Line) → sum_by requests_in (jobs_from batch ls) ≤ length batch + length ls
 sum_few batch [] = omega arith
@@ -75,6 +76,7 @@ job_ready batch ls line commands.Paths b h = tt
 job_ready batch ls line commands.Slack b h = tt
 job_ready batch ls line commands.Report b h = tt
 job_ready batch ls line commands.Graph b h = tt
+job_ready batch ls line commands.Summarize b h = tt
 
 -- a command within its limit is an add or one that a session carries out
 command_ready : (line : ℕ) (command : Command) → IsLimited (lines.Control line command) → (command ≡ commands.Add) ⊎ IsReadyCommand command
@@ -88,6 +90,7 @@ command_ready line commands.Paths limited = inr tt
 command_ready line commands.Slack limited = inr tt
 command_ready line commands.Report limited = inr tt
 command_ready line commands.Graph limited = inr tt
+command_ready line commands.Summarize limited = inr tt
 
 -- the events that a command leaves are a batch before the lines after it
 batch_left : (batch : List Event) (line : ℕ) (command : Command) (ls : List Line) → IsBatch batch (lines.Control line command ∷ ls) → IsBatch (batch_after batch command) ls
@@ -110,6 +113,7 @@ batch_left batch line command ls b = by command
     by commands.Slack = all
     by commands.Report = all
     by commands.Graph = all
+    by commands.Summarize = all
 
 batch_more : (batch : List Event) (event : Event) (ls : List Line) → IsTimely (lines.Event event) → IsBatch batch (lines.Event event ∷ ls) → IsBatch (batch ++ event ∷ []) ls
 batch_more batch event ls timely b = record {
@@ -137,6 +141,7 @@ further_ready batch (lines.Control line command ∷ more) b h =
     by commands.Slack = b
     by commands.Report = b
     by commands.Graph = b
+    by commands.Summarize = b
 
 all_ready : (batch : List Event) (ls more : List Line) → IsBatch batch ls → All IsTimely ls → All IsLimited ls → All IsFurther more → All IsReady (jobs_from batch (ls ++ more))
 all_ready batch [] more b timely limited h = further_ready batch more b h

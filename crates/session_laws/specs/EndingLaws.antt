@@ -1,11 +1,13 @@
--- Jobs end in one way: statements that laws prove.
+-- Jobs end in one way, whatever digest is given: statements that laws prove.
 use Rattle.std.specs.Prelude.{◌≡◌, ℕ, List}
+use Rattle.digest_facts.specs.Digests.{Digest}
 use Rattle.session_rules.specs.Parts.{Part, IsPart}
 use Rattle.session_rules.specs.Sessions.{Does, Passes, State}
 use Rattle.session_rules.specs.declared.job.Job.{Job}
 use Rattle.session_rules.specs.declared.limit.Limit.{Limit}
 use Rattle.session_rules.specs.JobTexts.{IsText, IsTextToLimit}
 use Rattle.text_rows.specs.TextsOfParts.{AreTexts}
+use Rattle.trace_types.specs.Segments.{SegmentName}
 
 -- a job that is carried out prints one list of parts and leaves one state
 abbrev pub JobDoesOneThing : Type 0
@@ -30,24 +32,24 @@ AreAlike text other =
 
 -- jobs that have a whole text do not stop at a limit
 abbrev pub WholeStopsAtNoLimit : Type 0
-WholeStopsAtNoLimit = (workers : ℕ) (jobs : List Job) (last : State) (limit : Limit)
-    (text other : List ℕ) → IsText workers jobs last text → IsTextToLimit workers jobs limit other
-    → ⊥
+WholeStopsAtNoLimit = (workers : ℕ) (given : Digest SegmentName (List ℕ)) (jobs : List Job)
+    (last : State) (limit : Limit) (text other : List ℕ) → IsText workers given jobs last text
+    → IsTextToLimit workers given jobs limit other → ⊥
 
 -- jobs stop at one limit
 abbrev pub JobsStopAtOneLimit : Type 0
-JobsStopAtOneLimit = (workers : ℕ) (jobs : List Job) (limit other : Limit) (text also : List ℕ)
-    → IsTextToLimit workers jobs limit text → IsTextToLimit workers jobs other also
-    → limit ≡ other
+JobsStopAtOneLimit = (workers : ℕ) (given : Digest SegmentName (List ℕ)) (jobs : List Job)
+    (limit other : Limit) (text also : List ℕ) → IsTextToLimit workers given jobs limit text
+    → IsTextToLimit workers given jobs other also → limit ≡ other
 
 -- jobs leave one state, and their whole texts are alike
 abbrev pub WholeTextsAreAlike : Type 0
-WholeTextsAreAlike = (workers : ℕ) (jobs : List Job) (last end : State) (text other : List ℕ)
-    → IsText workers jobs last text → IsText workers jobs end other
-    → (last ≡ end) × AreAlike text other
+WholeTextsAreAlike = (workers : ℕ) (given : Digest SegmentName (List ℕ)) (jobs : List Job)
+    (last end : State) (text other : List ℕ) → IsText workers given jobs last text
+    → IsText workers given jobs end other → (last ≡ end) × AreAlike text other
 
 -- their texts up to a limit are alike
 abbrev pub TextsToLimitAreAlike : Type 0
-TextsToLimitAreAlike = (workers : ℕ) (jobs : List Job) (limit : Limit) (text other : List ℕ)
-    → IsTextToLimit workers jobs limit text → IsTextToLimit workers jobs limit other
-    → AreAlike text other
+TextsToLimitAreAlike = (workers : ℕ) (given : Digest SegmentName (List ℕ)) (jobs : List Job)
+    (limit : Limit) (text other : List ℕ) → IsTextToLimit workers given jobs limit text
+    → IsTextToLimit workers given jobs limit other → AreAlike text other

@@ -2,8 +2,8 @@
 use Rattle.std.specs.Prelude.{◌≡◌, ℕ, List, [], ◌∷◌, ◌++◌, map}
 use Rattle.std.specs.List.{flat_map}
 use Rattle.session_rules.specs.Parts.{Part, IsPart, watch_row}
-use Rattle.session_rules.specs.Parts.{Refusals, Watched, Dropped, KeptNewest, ModelOf, Header}
-use Rattle.session_rules.specs.Parts.{PathOf, SlacksOf, GraphOf, ModelHead, ReportHead}
+use Rattle.session_rules.specs.Parts.{Refusals, Watched, Dropped, KeptNewest, ModelOf, DigestOf}
+use Rattle.session_rules.specs.Parts.{Header, PathOf, SlacksOf, GraphOf, ModelHead, ReportHead}
 use Rattle.session_rules.specs.Parts.{LatenciesOf, SegmentOf, TailHead, TailOf, ForecastHead}
 use Rattle.session_rules.specs.Parts.{ForecastOf, WhyHead, RefutedOf, Verdict, Verified, EvidenceOf}
 use Rattle.text_rows.specs.TextsOfParts.{AreTexts}
@@ -29,19 +29,20 @@ IsAlike (Refusals refused) text other = text ≡ other
 IsAlike (Watched every workers day traces) text other = AreSameRows day text other
 IsAlike (Dropped day count) text other = text ≡ other
 IsAlike (KeptNewest days count) text other = text ≡ other
-IsAlike (ModelOf kept) text other = text ≡ other
+IsAlike (ModelOf given kept) text other = text ≡ other
+IsAlike (DigestOf given kept) text other = text ≡ other
 IsAlike (Header word count) text other = text ≡ other
-IsAlike (PathOf kept k) text other = text ≡ other
-IsAlike (SlacksOf kept k) text other = text ≡ other
-IsAlike (GraphOf kept k) text other = text ≡ other
-IsAlike (ModelHead kept) text other = text ≡ other
-IsAlike (ReportHead kept) text other = text ≡ other
+IsAlike (PathOf given kept k) text other = text ≡ other
+IsAlike (SlacksOf given kept k) text other = text ≡ other
+IsAlike (GraphOf given kept k) text other = text ≡ other
+IsAlike (ModelHead given kept) text other = text ≡ other
+IsAlike (ReportHead given kept) text other = text ≡ other
 IsAlike (LatenciesOf kept) text other = text ≡ other
-IsAlike (SegmentOf kept name) text other = text ≡ other
+IsAlike (SegmentOf given kept name) text other = text ≡ other
 IsAlike (TailHead kept) text other = text ≡ other
-IsAlike (TailOf kept name) text other = text ≡ other
-IsAlike (ForecastHead change kept) text other = text ≡ other
-IsAlike (ForecastOf change kept k) text other = text ≡ other
+IsAlike (TailOf given kept name) text other = text ≡ other
+IsAlike (ForecastHead change given kept) text other = text ≡ other
+IsAlike (ForecastOf change given kept k) text other = text ≡ other
 IsAlike (WhyHead traces refuted) text other = text ≡ other
 IsAlike (RefutedOf kept matter) text other = text ≡ other
 IsAlike (Verdict verdict line) text other = text ≡ other

@@ -8,10 +8,9 @@ ghost use Rattle.session_laws.specs.ReadyLaws.{JobsHaveFewRequests};
 ghost use Rattle.session_laws.specs.WatchLaws.{AlikeTextsDifferInNumbers, OnlyWatchNumbersDiffer};
 ghost use Rattle.session_laws.specs.WatchLaws.{PartHasOneText};
 
+use digest_facts::laws::a_digest_is_one;
 use segment_cut::laws::a_trace_has_one_verdict;
 use session_rules::KeptTrace;
-use trace_graph::laws::a_trace_has_one_graph;
-use trace_paths::laws::paths_are_one;
 use trace_types::laws::{a_list_is_told_in_one_way, names_are_totally_ordered};
 use trace_types::{NameText, Segment, Text};
 
@@ -68,6 +67,5 @@ pub fn only_watch_numbers_differ()
     a_list_is_told_in_one_way::<(u32, u32)>();
     names_are_totally_ordered::<NameText>();
     names_are_totally_ordered::<Text>();
-    a_trace_has_one_graph::<KeptTrace, Segment, NameText, Text, Text>();
-    paths_are_one::<KeptTrace, Segment, NameText, Text, Text>();
+    a_digest_is_one::<KeptTrace, Segment, NameText, Text, Text>();
 }

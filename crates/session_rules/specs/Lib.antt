@@ -1,7 +1,9 @@
 pub mod Batches
 pub mod CertificateTexts
+pub mod DigestTexts
 pub mod EvidenceTexts
 pub mod ForecastTexts
+pub mod GivenDigests
 pub mod JobTexts
 pub mod Jobs
 pub mod KeptTraces

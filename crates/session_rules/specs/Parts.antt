@@ -3,6 +3,7 @@ use Rattle.std.specs.Prelude.{◌≡◌, ℕ, Bool, List, [], ◌∷◌, codes, 
 use Rattle.certificates.specs.declared.matter.Matter.{Matter}
 use Rattle.std.specs.List.{flat_map}
 use Rattle.segment_cut.specs.Faults.{fault_reason, fault_number}
+use Rattle.digest_facts.specs.Digests.{Digest}
 use Rattle.text_rows.specs.Rows.{figure, row_of}
 use Rattle.trace_rules.specs.declared.watch_line.WatchLine.{WatchLine}
 use Rattle.trace_types.specs.Segments.{SegmentName}
@@ -10,16 +11,19 @@ use Rattle.session_rules.specs.declared.named_change.NamedChange.{NamedChange}
 use Rattle.session_rules.specs.declared.refused.Refused.{Refused}
 use Rattle.evidence_rules.specs.declared.choice.Choice.{Choice}
 use Rattle.session_rules.specs.CertificateTexts.{IsRefutedText, verdict_row, why_row}
+use Rattle.session_rules.specs.DigestTexts.{IsDigestText}
 use Rattle.session_rules.specs.EvidenceTexts.{IsEvidenceText}
 use Rattle.session_rules.specs.ForecastTexts.{IsForecastHead, IsForecastText}
-use Rattle.session_rules.specs.KeptTraces.{Kept, SurvivesIn, by_kept}
+use Rattle.session_rules.specs.GivenDigests.{SurvivesUnder}
+use Rattle.session_rules.specs.KeptTraces.{Kept, by_kept}
 use Rattle.session_rules.specs.ModelTexts.{IsModelHead, IsModelText}
 use Rattle.session_rules.specs.ReportTexts.{IsLatencyText, IsReportHead, IsSegmentText}
 use Rattle.session_rules.specs.TailTexts.{IsTailHead, IsTailText}
 use Rattle.session_rules.specs.TraceTexts.{IsGraphText, IsPathText, IsSlackText}
 use Rattle.trace_rules.specs.WatchLines.{AreWatchLines}
 
--- a part of a text
+-- a part of a text. What is judged by traces that are not at hand too, those that a given digest
+-- stands for, has this digest before the kept traces
 pub data Part : Type 0 where
   -- the refused traces of a batch
   Refusals : List Refused → Part
@@ -28,26 +32,28 @@ pub data Part : Type 0 where
   -- a day was dropped, or all but the newest so many days: how many traces
   Dropped : ℕ → ℕ → Part
   KeptNewest : ℕ → ℕ → Part
-  -- the model of the kept traces
-  ModelOf : List Kept → Part
+  -- the model
+  ModelOf : Digest SegmentName (List ℕ) → List Kept → Part
+  -- the digest
+  DigestOf : Digest SegmentName (List ℕ) → List Kept → Part
   -- a word and the number of the kept traces
   Header : List ℕ → ℕ → Part
   -- of one of the kept traces: its critical path, its slacks, its graph
-  PathOf : List Kept → Kept → Part
-  SlacksOf : List Kept → Kept → Part
-  GraphOf : List Kept → Kept → Part
-  -- of the kept traces: the first row of their model; of their report the header, the row of their
+  PathOf : Digest SegmentName (List ℕ) → List Kept → Kept → Part
+  SlacksOf : Digest SegmentName (List ℕ) → List Kept → Kept → Part
+  GraphOf : Digest SegmentName (List ℕ) → List Kept → Kept → Part
+  -- the first row of the model; of the report on the kept traces the header, the row of their
   -- latencies, and the row of a name
-  ModelHead : List Kept → Part
-  ReportHead : List Kept → Part
+  ModelHead : Digest SegmentName (List ℕ) → List Kept → Part
+  ReportHead : Digest SegmentName (List ℕ) → List Kept → Part
   LatenciesOf : List Kept → Part
-  SegmentOf : List Kept → SegmentName → Part
+  SegmentOf : Digest SegmentName (List ℕ) → List Kept → SegmentName → Part
   -- of the report on the slowest of them: the header, and the row of a name
   TailHead : List Kept → Part
-  TailOf : List Kept → SegmentName → Part
+  TailOf : Digest SegmentName (List ℕ) → List Kept → SegmentName → Part
   -- of a forecast: the header, and the row of one of the kept traces
-  ForecastHead : NamedChange → List Kept → Part
-  ForecastOf : NamedChange → List Kept → Kept → Part
+  ForecastHead : NamedChange → Digest SegmentName (List ℕ) → List Kept → Part
+  ForecastOf : NamedChange → Digest SegmentName (List ℕ) → List Kept → Kept → Part
   -- of a certificate: the header with the numbers of the kept traces and of the relations that they
   -- refute, and the row of such a relation
   WhyHead : ℕ → ℕ → Part
@@ -85,25 +91,29 @@ pub record AreWatchRows (every workers day : ℕ) (traces : List Kept) (bytes : 
   pub text : bytes ≡ flat_map (watch_row day) lines
 
 -- the bytes are a text of the part: paths, slacks, graphs, reports and forecasts are by the mutual
--- exclusions that survive in the kept traces
+-- exclusions that neither the given digest nor a kept trace refutes
 abbrev pub IsPart : Part → List ℕ → Type 0
 IsPart (Refusals refused) bytes = bytes ≡ flat_map refused_row refused
 IsPart (Watched every workers day traces) bytes = AreWatchRows every workers day traces bytes
 IsPart (Dropped day count) bytes = bytes ≡ count_row (codes "drop") day count
 IsPart (KeptNewest days count) bytes = bytes ≡ count_row (codes "keep") days count
-IsPart (ModelOf kept) bytes = IsModelText kept bytes
+IsPart (ModelOf given kept) bytes = IsModelText given kept bytes
+IsPart (DigestOf given kept) bytes = IsDigestText given kept bytes
 IsPart (Header word count) bytes = bytes ≡ traces_row word count
-IsPart (PathOf kept k) bytes = IsPathText (SurvivesIn kept) k bytes
-IsPart (SlacksOf kept k) bytes = IsSlackText (SurvivesIn kept) k bytes
-IsPart (GraphOf kept k) bytes = IsGraphText (SurvivesIn kept) k bytes
-IsPart (ModelHead kept) bytes = IsModelHead kept bytes
-IsPart (ReportHead kept) bytes = IsReportHead (SurvivesIn kept) kept bytes
+IsPart (PathOf given kept k) bytes = IsPathText (SurvivesUnder given kept) k bytes
+IsPart (SlacksOf given kept k) bytes = IsSlackText (SurvivesUnder given kept) k bytes
+IsPart (GraphOf given kept k) bytes = IsGraphText (SurvivesUnder given kept) k bytes
+IsPart (ModelHead given kept) bytes = IsModelHead given kept bytes
+IsPart (ReportHead given kept) bytes = IsReportHead (SurvivesUnder given kept) kept bytes
 IsPart (LatenciesOf kept) bytes = IsLatencyText kept bytes
-IsPart (SegmentOf kept name) bytes = IsSegmentText (SurvivesIn kept) kept name bytes
+IsPart (SegmentOf given kept name) bytes =
+    IsSegmentText (SurvivesUnder given kept) kept name bytes
 IsPart (TailHead kept) bytes = IsTailHead kept bytes
-IsPart (TailOf kept name) bytes = IsTailText (SurvivesIn kept) kept name bytes
-IsPart (ForecastHead change kept) bytes = IsForecastHead change (SurvivesIn kept) kept bytes
-IsPart (ForecastOf change kept k) bytes = IsForecastText change (SurvivesIn kept) k bytes
+IsPart (TailOf given kept name) bytes = IsTailText (SurvivesUnder given kept) kept name bytes
+IsPart (ForecastHead change given kept) bytes =
+    IsForecastHead change (SurvivesUnder given kept) kept bytes
+IsPart (ForecastOf change given kept k) bytes =
+    IsForecastText change (SurvivesUnder given kept) k bytes
 IsPart (WhyHead traces refuted) bytes = bytes ≡ why_row traces refuted
 IsPart (RefutedOf kept matter) bytes = IsRefutedText kept matter bytes
 IsPart (Verdict verdict line) bytes = bytes ≡ verdict_row verdict line

@@ -35,6 +35,7 @@ IsReadyCommand commands.Paths = ⊤
 IsReadyCommand commands.Slack = ⊤
 IsReadyCommand commands.Report = ⊤
 IsReadyCommand commands.Graph = ⊤
+IsReadyCommand commands.Summarize = ⊤
 
 -- a session carries out the job: it adds fewer than 4,294,967,296 events, whose times are within
 -- the limit; a change that it forecasts takes no time or some, at most as much as now; the claims

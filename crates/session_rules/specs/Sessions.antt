@@ -1,9 +1,10 @@
 -- What each job does to the state of a session, and which parts it prints.
-use Rattle.std.specs.Prelude.{◌≡◌, ℕ, ◌+◌, ◌*◌, ◌<◌, List, [], ◌∷◌, ◌++◌, length, map, codes}
-use Rattle.std.specs.Prelude.{Bool, Contains, filter}
+use Rattle.std.specs.Prelude.{◌≡◌, ℕ, ◌+◌, ◌*◌, ◌^◌, ◌<◌, ◌≤◌, List, [], ◌∷◌, ◌++◌, length, map}
+use Rattle.std.specs.Prelude.{Bool, Contains, filter, codes}
 use Rattle.std.specs.List.{AllZip, zip}
 use Rattle.std.specs.Ordering.{nat_cmp}
 use Rattle.certificates.specs.declared.claim.Claim.{Claim}
+use Rattle.digest_facts.specs.Digests.{Digest}
 use Rattle.event_lines.specs.declared.command.Command.{Command}
 use Rattle.event_lines.specs.declared.command.Command.TheVariants as commands
 use Rattle.segment_names.specs.Known.{Known, with_traces}
@@ -19,33 +20,40 @@ use Rattle.session_rules.specs.declared.job.Job.{Job}
 use Rattle.session_rules.specs.declared.job.Job.TheVariants.{Add, Control, Summary, WhatIf, Tail}
 use Rattle.session_rules.specs.declared.job.Job.TheVariants.{Why, Verify, Evidence}
 use Rattle.session_rules.specs.declared.limit.Limit.{Limit}
-use Rattle.session_rules.specs.declared.limit.Limit.TheVariants.{Names, Tasks, Days}
+use Rattle.session_rules.specs.declared.limit.Limit.TheVariants.{Names, Tasks, Days, Traces}
 use Rattle.session_rules.specs.declared.named_change.NamedChange.{NamedChange}
 use Rattle.session_rules.specs.declared.refused.Refused.{Refused}
 use Rattle.session_rules.specs.Batches.{AreJudged}
 use Rattle.session_rules.specs.KeptTraces.{Kept, day_of, days_of, kept_with, newest, traces_on}
 use Rattle.session_rules.specs.KeptTraces.{with_taken, without_day}
+use Rattle.session_rules.specs.ModelTexts.{traces_under}
 use Rattle.session_rules.specs.Parts.{Part, Refusals, Watched, Dropped, KeptNewest, ModelOf, Header}
-use Rattle.session_rules.specs.Parts.{PathOf, SlacksOf, GraphOf, ModelHead, ReportHead}
+use Rattle.session_rules.specs.Parts.{PathOf, SlacksOf, GraphOf, ModelHead, ReportHead, DigestOf}
 use Rattle.session_rules.specs.Parts.{LatenciesOf, SegmentOf, TailHead, TailOf, ForecastHead}
 use Rattle.session_rules.specs.Parts.{ForecastOf, WhyHead, RefutedOf, Verdict, Verified, EvidenceOf}
 use Rattle.session_rules.specs.Refutations.{Refutations, AreRefutations, IsVerdict, matters_of}
 use Rattle.session_rules.specs.ReportTexts.{AreKeptNames}
 
 -- the state of a session: the kept traces, by day and within a day in the order in which they were
--- taken; the names and tasks of all traces that were ever valid, by first sight; after how many of
--- a worker's traces a watch line is printed, 0 for none; and the grace of later adds, in
--- microseconds
+-- taken; the given digest, of traces that are not at hand; its names and tasks, and then those of
+-- all traces that were ever valid, by first sight; after how many of a worker's traces a watch line
+-- is printed, 0 for none; and the grace of later adds, in microseconds
 pub record State : Type 0 where
   pub kept : List Kept
+  pub given : Digest SegmentName (List ℕ)
   pub known : Known
   pub watch : ℕ
   pub grace : ℕ
 
--- where a session starts
-abbrev pub first_state : State
-first_state =
-    record { kept = []; known = record { names = []; tasks = [] }; watch = 0; grace = 0 }
+-- where a session starts to which this digest is given
+abbrev pub first_state : Digest SegmentName (List ℕ) → State
+first_state given = record {
+  kept = [];
+  given = given;
+  known = record { names = given.names; tasks = given.tasks };
+  watch = 0;
+  grace = 0;
+}
 
 -- valid traces with the grace that holds
 abbrev pub graced : State → List Trace → List Kept
@@ -67,13 +75,17 @@ abbrev pub most_days : ℕ
 most_days = 64
 
 -- an add of these valid traces passes this limit: that of names or of tasks at the first trace
--- after which there are too many, or else that of days
+-- after which there are too many, or else that of days, or else that of traces, which are counted
+-- in 64 bits, those that the given digest stands for too
 abbrev pub PassesLimitOf : State → List Trace → Limit → Type 0
 PassesLimitOf s valid (Names count) = PassesLimit s.known valid (catalogue.Names count)
 PassesLimitOf s valid (Tasks count) = PassesLimit s.known valid (catalogue.Tasks count)
 PassesLimitOf s valid (Days count) = ((limit : NameLimit) → PassesLimit s.known valid limit → ⊥)
     × (most_days < length (days_of (kept_after s valid)))
     × (count ≡ length (days_of (kept_after s valid)))
+PassesLimitOf s valid Traces = ((limit : NameLimit) → PassesLimit s.known valid limit → ⊥)
+    × (length (days_of (kept_after s valid)) ≤ most_days)
+    × (2 ^ 64 ≤ traces_under s.given (kept_after s valid))
 
 -- the watch lines of each of these days of a batch
 abbrev pub watch_parts : ℕ → ℕ → List Kept → List ℕ → List Part
@@ -95,20 +107,22 @@ pub record Adds (workers : ℕ) (events : List Event) (s : State) (parts : List 
 
 -- the parts of a report on kept traces with these names: the header, the row of latencies, and a
 -- row for each name
-abbrev pub report_parts : List Kept → List SegmentName → List Part
-report_parts kept names = ReportHead kept ∷ LatenciesOf kept ∷ map (SegmentOf kept) names
+abbrev pub report_parts : Digest SegmentName (List ℕ) → List Kept → List SegmentName → List Part
+report_parts given kept names =
+    ReportHead given kept ∷ LatenciesOf kept ∷ map (SegmentOf given kept) names
 
 -- the parts of a report on the slowest of them: the header, and a row for each name
-abbrev pub tail_parts : List Kept → List SegmentName → List Part
-tail_parts kept names = TailHead kept ∷ map (TailOf kept) names
+abbrev pub tail_parts : Digest SegmentName (List ℕ) → List Kept → List SegmentName → List Part
+tail_parts given kept names = TailHead kept ∷ map (TailOf given kept) names
 
 -- the parts of a forecast: the header, and a row for each trace
-abbrev pub forecast_parts : NamedChange → List Kept → List Part
-forecast_parts change kept = ForecastHead change kept ∷ map (ForecastOf change kept) kept
+abbrev pub forecast_parts : NamedChange → Digest SegmentName (List ℕ) → List Kept → List Part
+forecast_parts change given kept =
+    ForecastHead change given kept ∷ map (ForecastOf change given kept) kept
 
--- the first row of the model of kept traces, and the first two of their report
-abbrev pub summary_parts : List Kept → List Part
-summary_parts kept = ModelHead kept ∷ ReportHead kept ∷ LatenciesOf kept ∷ []
+-- the first row of the model, and the first two of the report on kept traces
+abbrev pub summary_parts : Digest SegmentName (List ℕ) → List Kept → List Part
+summary_parts given kept = ModelHead given kept ∷ ReportHead given kept ∷ LatenciesOf kept ∷ []
 
 -- the parts of a certificate of kept traces that refute these relations: the header, and a row for
 -- each relation
@@ -138,24 +152,26 @@ Commands (commands.Keep days) s parts next = (next ≡ record s { kept = newest 
     × (parts ≡ KeptNewest days count ∷ []))
 Commands (commands.Watch every) s parts next = (next ≡ record s { watch = every }) × (parts ≡ [])
 Commands (commands.Grace micros) s parts next = (next ≡ record s { grace = micros }) × (parts ≡ [])
-Commands commands.Model s parts next = (next ≡ s) × (parts ≡ ModelOf s.kept ∷ [])
+Commands commands.Model s parts next = (next ≡ s) × (parts ≡ ModelOf s.given s.kept ∷ [])
 Commands commands.Paths s parts next = (next ≡ s)
-    × (parts ≡ Header (codes "paths") (length s.kept) ∷ map (PathOf s.kept) s.kept)
+    × (parts ≡ Header (codes "paths") (length s.kept) ∷ map (PathOf s.given s.kept) s.kept)
 Commands commands.Slack s parts next = (next ≡ s)
-    × (parts ≡ Header (codes "slack") (length s.kept) ∷ map (SlacksOf s.kept) s.kept)
+    × (parts ≡ Header (codes "slack") (length s.kept) ∷ map (SlacksOf s.given s.kept) s.kept)
 Commands commands.Report s parts next = (next ≡ s) × ((names : List SegmentName)
-    × AreKeptNames s.kept names × (parts ≡ report_parts s.kept names))
+    × AreKeptNames s.kept names × (parts ≡ report_parts s.given s.kept names))
 Commands commands.Graph s parts next = (next ≡ s)
-    × (parts ≡ Header (codes "graph") (length s.kept) ∷ map (GraphOf s.kept) s.kept)
+    × (parts ≡ Header (codes "graph") (length s.kept) ∷ map (GraphOf s.given s.kept) s.kept)
+Commands commands.Summarize s parts next = (next ≡ s) × (parts ≡ DigestOf s.given s.kept ∷ [])
 
 -- a job over the state prints these parts and leaves this state
 abbrev pub Does : ℕ → Job → State → List Part → State → Type 0
 Does workers (Add events) s parts next = Adds workers events s parts next
 Does workers (Control command) s parts next = Commands command s parts next
-Does workers Summary s parts next = (next ≡ s) × (parts ≡ summary_parts s.kept)
-Does workers (WhatIf change) s parts next = (next ≡ s) × (parts ≡ forecast_parts change s.kept)
+Does workers Summary s parts next = (next ≡ s) × (parts ≡ summary_parts s.given s.kept)
+Does workers (WhatIf change) s parts next = (next ≡ s)
+    × (parts ≡ forecast_parts change s.given s.kept)
 Does workers Tail s parts next = (next ≡ s) × ((names : List SegmentName)
-    × AreKeptNames s.kept names × (parts ≡ tail_parts s.kept names))
+    × AreKeptNames s.kept names × (parts ≡ tail_parts s.given s.kept names))
 Does workers Why s parts next = (next ≡ s) × ((refuted : Refutations)
     × AreRefutations s.kept refuted × (parts ≡ why_parts s.kept refuted))
 Does workers (Verify claims) s parts next = (next ≡ s) × ((verdicts : List Bool)

@@ -16,4 +16,6 @@ pub enum Limit {
         /// How many days there would be.
         count: u32,
     },
+    /// 2^64 traces or more, those of the given digest and the kept ones together.
+    Traces,
 }

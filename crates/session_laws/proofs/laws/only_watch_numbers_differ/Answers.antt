@@ -1,7 +1,11 @@
 use Rattle.std.specs.Cmp.Lexicographic.{slice_cmp}
 use Rattle.std.specs.Ordering.{nat_cmp}
 use Rattle.std.proofs.lemmas.Cmp.{nat_list_cmp_total}
-use Rattle.session_rules.specs.KeptTraces.{by_kept}
+use Rattle.digest_facts.proofs.MergeLemmas.{name_apart, text_apart}
+use Rattle.trace_graph.proofs.UniqueLemmas.{one_graph}
+use Rattle.trace_paths.proofs.OnePathLemmas.{paths_one}
+use Rattle.session_rules.specs.GivenDigests.{SurvivesUnder}
+use Rattle.session_rules.specs.KeptTraces.{by_kept, day_of}
 use Rattle.trace_types.specs.NameOrder.{name_cmp}
 use Rattle.session_laws.proofs.PartLemmas.{OneTelling, part_one, parts_one}
 use Rattle.session_laws.proofs.laws.only_watch_numbers_differ.Goals as goal
@@ -17,8 +21,9 @@ returns c =
       task_count = c.a_list_is_told_in_one_way-3.ensures.counted;
       name_order = c.names_are_totally_ordered.ensures.pairs name_cmp c.names_are_totally_ordered.ensures.names;
       task_order = c.names_are_totally_ordered-2.ensures.pairs (slice_cmp nat_cmp) nat_list_cmp_total;
-      graphs = λ kept. c.a_trace_has_one_graph.ensures by_kept kept;
-      paths = λ kept. c.paths_are_one.ensures by_kept kept;
+      graphs = λ given kept. one_graph by_kept c.a_list_is_told_in_one_way.ensures.listed (SurvivesUnder given kept);
+      paths = λ given kept. paths_one by_kept (SurvivesUnder given kept) (one_graph by_kept c.a_list_is_told_in_one_way.ensures.listed (SurvivesUnder given kept));
+      digests = c.a_digest_is_one.ensures.one by_kept day_of name_cmp (slice_cmp nat_cmp) name_apart text_apart;
       evidence = record {
         names = c.a_list_is_told_in_one_way-2.ensures.listed;
         tasks = c.a_list_is_told_in_one_way-3.ensures.listed;

@@ -1,0 +1,10 @@
+pub mod DigestLemmas
+pub mod FigureLemmas
+pub mod GivenLemmas
+pub mod JudgeLemmas
+pub mod MergeOrderLemmas
+pub mod PartLemmas
+pub mod PrintedLemmas
+pub mod StandingLemmas
+pub mod TakenLemmas
+pub mod ToldLemmas
