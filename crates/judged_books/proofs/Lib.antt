@@ -1,0 +1,10 @@
+pub mod GivenLemmas
+pub mod GraphLemmas
+pub mod GrownLemmas
+pub mod JudgedLemmas
+pub mod KeptBitLemmas
+pub mod KeptDigestLemmas
+pub mod MarkedLemmas
+pub mod PairLemmas
+pub mod RowLemmas
+pub mod TableLemmas

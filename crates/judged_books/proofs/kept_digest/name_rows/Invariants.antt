@@ -1,0 +1,7 @@
+use Rattle.std.proofs.Common.{◌≡◌, ◌++◌, [], drop, take}
+use Rattle.judged_books.specs.inner.KeptRows.{marked_rows, name_mark}
+use Rattle.judged_books.proofs.kept_digest.name_rows.Given as goal
+
+-- the rows so far, and those that are left
+abbrev pub invariant-rows : goal.invariant-rows
+invariant-rows l = l.rows.items ++ marked_rows (name_mark l.words) (take l.k l.names) (drop l.k l.names) ≡ marked_rows (name_mark l.words) [] l.names
