@@ -1,8 +1,8 @@
-ghost use Rattle.std.specs.Prelude.{IfOk};
+ghost use Rattle.std.specs.Prelude.{◌≡◌, IfOk, length};
+ghost use Rattle.hypothesis_index.specs.Places.{width_of};
 ghost use Rattle.latency_report.specs.Reports.{IsReport};
 ghost use Rattle.kept_books.specs.KeptBooks.{IsKeptBook, traces_in};
-ghost use Rattle.trace_rules.specs.TraceGraphs.{ExcludesIn};
-ghost use Rattle.trace_types.specs.Parts.{by_number};
+ghost use Rattle.model_meet.specs.RelationBits.{KeepsExclusion};
 
 use crate::rows::make_rows;
 use crate::tables::{add_lengths, measure_latencies, tabulate_paths, tabulate_traces};
@@ -11,27 +11,25 @@ use kept_books::KeptBook;
 use model_meet::Model;
 use std::alloc::{AllocError, Global};
 use std::thread::Threads;
-use trace_paths::laws::bits_tell_paths;
 use trace_paths::{critical_paths, kept_traces};
 use worker_limit::WorkerLimit;
 
-/// Reports on the kept traces of a book, where the mutual exclusions survive that none of them
-/// refutes. The critical paths are found by the workers; the rest takes one pass over the traces.
-/// The only error is that memory ran out.
+/// Reports on the kept traces of a book, where the mutual exclusions survive whose bits of these
+/// words are 1; there are as many words as the names of the book need. The critical paths are found
+/// by the workers; the rest takes one pass over the traces. The only error is that memory ran out.
 pub fn report<R: Threads + Sync>(
     workers: &WorkerLimit<'_, R>,
     alloc: Global,
     book: &KeptBook,
+    words: &[u64],
 ) -> Result<FullReport, AllocError>
+    requires { length words.now ≡ width_of (length book.now.known.names) }
     ensures reported { IfOk result (IsReport book.now.known.names
-        (ExcludesIn by_number (traces_in book.now)) (traces_in book.now)) }
+        (KeepsExclusion words.now) (traces_in book.now)) }
     ensures kept { IsKeptBook book.now }
 {
     let names = book.names();
-    let model = Model::new(book.words(), names);
-    // For the proof alone.
-    model.tells_exclusions();
-    bits_tell_paths();
+    let model = Model::new(words, names);
     let traces = kept_traces(alloc, book.day_book())?;
     let paths = critical_paths(workers, alloc, &traces, &model)?;
     let durations = tabulate_traces(alloc, names, &traces)?;

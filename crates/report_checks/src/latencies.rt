@@ -24,7 +24,7 @@ fn figures_of<R: Threads + Sync>(rt: &R, alloc: Global, latencies: &[u32]) -> Op
         runtime: rt,
         most: 2,
     };
-    let found = report(&workers, alloc, &book).ok()?;
+    let found = report(&workers, alloc, &book, book.words()).ok()?;
     Some(found.latency)
 }
 

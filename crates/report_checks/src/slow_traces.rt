@@ -13,7 +13,7 @@ fn tail_by_two<R: Threads + Sync>(rt: &R, alloc: Global, book: &KeptBook) -> Opt
         runtime: rt,
         most: 2,
     };
-    tail(&workers, alloc, book).ok()
+    tail(&workers, alloc, book, book.words()).ok()
 }
 
 /// Latencies, the places of those that are slow, and the least of these latencies.

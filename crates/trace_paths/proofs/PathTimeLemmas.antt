@@ -13,13 +13,9 @@ use Rattle.std.specs.List.{flat_map, AllZip}
 use Rattle.std.proofs.lemmas.List.Sums.{sum_by-cons, sum_by-append, count_by-le-length}
 use Rattle.std.specs.Borrow.{Bor}
 use Rattle.trace_types.specs.declared.named_trace.NamedTrace.{NamedTrace}
-use Rattle.refute_tests.specs.Clearing.{HaveNamesBelow}
-use Rattle.refute_tests.specs.Survivors.{AreSurvivors}
-use Rattle.model_meet.specs.ExclusionTables.{TellsExclusions}
 use Rattle.model_meet.specs.ModelStates.{ModelState}
+use Rattle.model_meet.specs.RelationBits.{KeepsExclusion}
 use Rattle.trace_rules.specs.CriticalPaths.{IsCriticalPath}
-use Rattle.trace_rules.specs.TraceGraphs.{ExcludesIn}
-use Rattle.trace_paths.specs.PathLaws.{BitsTellPaths}
 use Rattle.trace_paths.specs.Tables.{IsTableOf}
 use Rattle.trace_paths.specs.NumberedPaths.{IsPathUnder, IsNamedPath}
 
@@ -94,14 +90,12 @@ pub latencies_shown : (ts : List (Bor NamedTrace)) → map (λ (t : Bor NamedTra
 latencies_shown [] = refl
 latencies_shown (t ∷ ts) = ap (λ l. t.now.latency ∷ l) (latencies_shown ts)
 
--- the paths of a parallel map
-pub paths_are : BitsTellPaths → (model : ModelState) (traces : List NamedTrace) → TellsExclusions model → AreSurvivors traces model.words → (ts : List (Bor NamedTrace)) (paths : List (List Seg)) → All (λ (t : Bor NamedTrace). HaveNamesBelow model.names t.now) ts → AllZip (λ (t : Bor NamedTrace) path. IsPathUnder model t.now path) ts paths → AllZip (IsCriticalPath by_number (ExcludesIn by_number traces)) (traces_at ts) paths
-paths_are law model traces tells left [] [] below all = all
-paths_are law model traces tells left [] (p ∷ ps) below all = all
-paths_are law model traces tells left (t ∷ ts) [] below all = all
-paths_are law model traces tells left (t ∷ ts) (p ∷ ps) below all =
-    let one = All-head (λ (x : Bor NamedTrace). HaveNamesBelow model.names x.now) t ts below in
-    (law model traces t.now p tells left one all.0, paths_are law model traces tells left ts ps (All-tail (λ (x : Bor NamedTrace). HaveNamesBelow model.names x.now) t ts below) all.1)
+-- the paths of a parallel map are the critical paths by the bits of the model's words
+pub paths_are : (model : ModelState) (ts : List (Bor NamedTrace)) (paths : List (List Seg)) → AllZip (λ (t : Bor NamedTrace) path. IsPathUnder model t.now path) ts paths → AllZip (IsCriticalPath by_number (KeepsExclusion model.words)) (traces_at ts) paths
+paths_are model [] [] all = all
+paths_are model [] (p ∷ ps) all = all
+paths_are model (t ∷ ts) [] all = all
+paths_are model (t ∷ ts) (p ∷ ps) all = (all.0.critical, paths_are model ts ps all.1)
 
 pub paths_named : (model : ModelState) (ts : List (Bor NamedTrace)) (paths : List (List Seg)) → AllZip (λ (t : Bor NamedTrace) path. IsPathUnder model t.now path) ts paths → All (IsNamedPath model.names) paths
 paths_named model [] [] all = All-nil (IsNamedPath model.names)

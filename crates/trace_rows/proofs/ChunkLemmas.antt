@@ -10,8 +10,8 @@ use Rattle.session_rules.specs.Parts.{IsPart, Part}
 use Rattle.text_rows.specs.PartsFollow.{PartCallGoesOn, PartCallsFollow}
 use Rattle.text_rows.specs.declared.print_fault.PrintFault.{PrintFault}
 use Rattle.trace_types.specs.declared.named_trace.NamedTrace.{NamedTrace}
-use Rattle.kept_books.specs.KeptBooks.{KeptState}
-use Rattle.trace_rows.specs.inner.ShownTraces.{PrintsShown}
+use Rattle.judged_books.specs.JudgedBooks.{JudgedState}
+use Rattle.trace_rows.specs.inner.ShownTraces.{PrintsShown, TracePart}
 use Rattle.trace_rows.proofs.PrintLemmas.{done, shown_follow, shown_goes_on}
 
 -- the traces that are lent
@@ -36,7 +36,7 @@ chunk_rest ts i n =
     ∙ (sym (map-append (λ (t : Bor NamedTrace). t.now) (take (i + n) ts) (drop (i + n) ts)) ∙ ap lent (take-append-drop (i + n) ts)))
 
 -- one more chunk, all of them, and one that was not printed to its end
-module _ {S : Type 0} (written : S → Option (List ℕ)) (faults : S → ℕ) (b : KeptState) (part : List Kept → Kept → Part) (ts : List (Bor NamedTrace)) where
+module _ {S : Type 0} (written : S → Option (List ℕ)) (faults : S → ℕ) (b : JudgedState) (part : TracePart) (ts : List (Bor NamedTrace)) where
   pub chunks_next : (i n : ℕ) (old mid new : S) (held between holds : List ℕ) → PartCallsFollow written faults IsPart (Unit {0})
       → PrintsShown written faults done old mid b part (lent (take i ts)) held between → PrintsShown written faults done mid new b part (lent (take (i + n - i) (drop i ts))) between holds → PrintsShown written faults done old new b part (lent (take (i + n) ts)) held holds
   chunks_next i n old mid new held between holds follow p q =

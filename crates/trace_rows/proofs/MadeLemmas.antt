@@ -22,8 +22,8 @@ use Rattle.trace_types.specs.declared.named_trace.NamedTrace.{NamedTrace}
 use Rattle.trace_types.proofs.ZipLemmas.{collected}
 use Rattle.trace_rows.specs.declared.chunks.Piece.{Piece}
 use Rattle.trace_rows.specs.inner.Pieces.{traces_of_pieces}
-use Rattle.kept_books.specs.KeptBooks.{KeptState}
-use Rattle.trace_rows.specs.inner.ShownTraces.{IsShownText, PrintsShown}
+use Rattle.judged_books.specs.JudgedBooks.{JudgedState}
+use Rattle.trace_rows.specs.inner.ShownTraces.{IsShownText, PrintsShown, TracePart}
 use Rattle.trace_rows.proofs.ChunkLemmas.{lent}
 use Rattle.trace_rows.proofs.PrintLemmas.{done, zip_split}
 
@@ -47,18 +47,18 @@ pieces_more ps p ts i n so_far next =
     flat_map-append (λ (q : Piece). q.traces.now) ps (p ∷ []) ∙ ap (λ l. traces_of_pieces ps ++ l) (append-nil p.traces.now)
     ∙ (ap (λ l. l ++ p.traces.now) so_far ∙ ap (λ l. take i ts ++ l) (next ∙ ap (λ m. take m (drop i ts)) many)) ∙ sym (take-add i n ts)
 
-module _ (b : KeptState) (part : List Kept → Kept → Part) where
+module _ (b : JudgedState) (part : TracePart) where
   -- a text of some traces and then one of others
   shown_both : (xs ys : List NamedTrace) (s t : List ℕ) → AreTextsOfBoth IsPart → IsShownText b part xs s → IsShownText b part ys t → IsShownText b part (xs ++ ys) (s ++ t)
-  shown_both xs ys s t both p q kept shown some h =
-      let z = zip_split (IsShown b.known) xs ys some h in
-      let parts : map (part kept) z.0 ++ map (part kept) z.1 ≡ map (part kept) some = sym (ap (map (part kept)) z.2 ∙ map-append (part kept) z.0 z.1) in
-      subst (λ (ps : List Part). AreTexts IsPart ps (s ++ t)) parts (both (map (part kept) z.0) (map (part kept) z.1) s t (p kept shown z.0 z.3) (q kept shown z.1 z.4))
+  shown_both xs ys s t both p q given kept shown some h =
+      let z = zip_split (IsShown b.book.known) xs ys some h in
+      let parts : map (part given kept) z.0 ++ map (part given kept) z.1 ≡ map (part given kept) some = sym (ap (map (part given kept)) z.2 ∙ map-append (part given kept) z.0 z.1) in
+      subst (λ (ps : List Part). AreTexts IsPart ps (s ++ t)) parts (both (map (part given kept) z.0) (map (part given kept) z.1) s t (p given kept shown z.0 z.3) (q given kept shown z.1 z.4))
 
   -- no trace has the empty text
   shown_empty : IsShownText b part [] []
-  shown_empty kept shown [] h = refl
-  shown_empty kept shown (k ∷ ks) h = absurd h
+  shown_empty given kept shown [] h = refl
+  shown_empty given kept shown (k ∷ ks) h = absurd h
 
   -- texts of pieces of traces, one after another
   shown_all : {A : Type 0} (pieces : List Piece) (made : List (Vec ℕ A)) → AreTextsOfBoth IsPart → AllZip (λ (p : Piece) (v : Vec ℕ A). IsShownText b part (lent p.traces.now) v.items) pieces made
@@ -79,19 +79,19 @@ module _ (b : KeptState) (part : List Kept → Kept → Part) where
   -- a text of the parts of traces that is printed is these parts
   text_prints : {S : Type 0} (written : S → Option (List ℕ)) (faults : S → ℕ) (result : Result (Unit {0}) PrintFault) (old new : S) (traces : List NamedTrace) (text held holds : List ℕ)
       → IsShownText b part traces text → PrintsText written faults result old new held holds text → PrintsShown written faults result old new b part traces held holds
-  text_prints written faults (Ok x) old new traces text held holds is p kept shown some h = record {
-    all = record { text = text; told = is kept shown some h; prints = p.all };
+  text_prints written faults (Ok x) old new traces text held holds is p given kept shown some h = record {
+    all = record { text = text; told = is given kept shown some h; prints = p.all };
     prefix = tt;
     counted = p.counted;
   }
-  text_prints written faults (Err e) old new traces text held holds is p kept shown some h = record {
+  text_prints written faults (Err e) old new traces text held holds is p given kept shown some h = record {
     all = tt;
     prefix = record {
-      first = map (part kept) some;
+      first = map (part given kept) some;
       rest = [];
-      split = sym (append-nil (map (part kept) some));
+      split = sym (append-nil (map (part given kept) some));
       text = text;
-      told = is kept shown some h;
+      told = is given kept shown some h;
       prefix = p.prefix;
     };
     counted = p.counted;
@@ -100,9 +100,9 @@ module _ (b : KeptState) (part : List Kept → Kept → Part) where
   -- what was printed into an empty sink and flushed is a text of the parts
   pub flushed_text : {S : Type 0} (written : S → Option (List ℕ)) (faults : S → ℕ) (old mid : S) (traces : List NamedTrace) (between bytes : List ℕ) → FlushEndsParts IsPart → written old ≡ Some [] → Some bytes ≡ append_known (written mid) between
       → PrintsShown written faults done old mid b part traces [] between → IsShownText b part traces bytes
-  flushed_text written faults old mid traces between bytes ends empty flushed p kept shown some h =
-      let f = ends (map (part kept) some) (written old) (written mid) (Some bytes) between (p kept shown some h).all flushed in
-      subst (AreTexts IsPart (map (part kept) some)) (ap (λ (o : Option (List ℕ)). unwrap_or o []) (sym (f.2 ∙ ap (λ w. append_known w f.0) empty))) f.1
+  flushed_text written faults old mid traces between bytes ends empty flushed p given kept shown some h =
+      let f = ends (map (part given kept) some) (written old) (written mid) (Some bytes) between (p given kept shown some h).all flushed in
+      subst (AreTexts IsPart (map (part given kept) some)) (ap (λ (o : Option (List ℕ)). unwrap_or o []) (sym (f.2 ∙ ap (λ w. append_known w f.0) empty))) f.1
 
   -- what is printed of the texts that were made of all traces
   pub made_prints : {S A : Type 0} (written : S → Option (List ℕ)) (faults : S → ℕ) (result : Result (Unit {0}) PrintFault) (old new : S) (traces : List (Bor NamedTrace)) (pieces cut : List Piece) (made lent_made : List (Vec ℕ A)) (held holds : List ℕ)
@@ -113,10 +113,10 @@ module _ (b : KeptState) (part : List Kept → Kept → Part) where
       (subst (λ (vs : List (Vec ℕ A)). IsShownText b part (lent (traces_of_pieces cut)) (all_bytes vs)) (sym of_made) is)) p
 
 -- the texts that were made of all pieces, for a book and a kind of texts that a closure holds
-pub made_all : {A Z E K : Type 0} (part_of : K → List Kept → Kept → Part) (b held_b : KeptState) (k held_k : K) (pieces : List Piece) (results : List (Result (Vec ℕ A) E)) (r : Result (Vec (Vec ℕ A) Z) E)
+pub made_all : {A Z E K : Type 0} (part_of : K → TracePart) (b held_b : JudgedState) (k held_k : K) (pieces : List Piece) (results : List (Result (Vec ℕ A) E)) (r : Result (Vec (Vec ℕ A) Z) E)
     → held_b ≡ b → held_k ≡ k → AreTextsOfBoth IsPart → AllZip (λ (p : Piece) y. IfOk y (λ v. IsShownText held_b (part_of held_k) (lent p.traces.now) v.items)) pieces results
     → MatchResult r (λ v. (ys : List (Vec ℕ A)) × (results ≡ map Ok ys) × (v.items ≡ ys)) (λ e. Contains results (Err e)) → IfOk r (λ v. IsShownText b (part_of k) (lent (traces_of_pieces pieces)) (all_bytes v.items))
 made_all {A} {Z} {E} {K} part_of b held_b k held_k pieces results r is_b is_k both all found =
     made_shown b (part_of k) pieces results r both
-    (subst (λ (x : KeptState). AllZip (λ (p : Piece) (y : Result (Vec ℕ A) E). IfOk y (λ v. IsShownText x (part_of k) (lent p.traces.now) v.items)) pieces results) is_b
+    (subst (λ (x : JudgedState). AllZip (λ (p : Piece) (y : Result (Vec ℕ A) E). IfOk y (λ v. IsShownText x (part_of k) (lent p.traces.now) v.items)) pieces results) is_b
     (subst (λ (x : K). AllZip (λ (p : Piece) (y : Result (Vec ℕ A) E). IfOk y (λ v. IsShownText held_b (part_of x) (lent p.traces.now) v.items)) pieces results) is_k all)) found

@@ -15,8 +15,11 @@ use Rattle.text_rows.specs.TextsFollow.{CallGoesOn, CallsFollow, NothingIsPrinte
 use Rattle.text_rows.specs.declared.print_fault.PrintFault.{PrintFault}
 use Rattle.text_rows.specs.declared.print_fault.PrintFault.TheVariants.{Memory}
 use Rattle.trace_types.specs.declared.named_trace.NamedTrace.{NamedTrace}
-use Rattle.kept_books.specs.KeptBooks.{KeptState, traces_in}
-use Rattle.trace_rows.specs.inner.ShownTraces.{PrintsShown, PrintsWhole}
+use Rattle.kept_books.specs.KeptBooks.{traces_in}
+use Rattle.judged_books.specs.JudgedBooks.{IsJudgedOf, JudgedState}
+use Rattle.digest_facts.specs.Digests.{Digest}
+use Rattle.trace_types.specs.Segments.{SegmentName}
+use Rattle.trace_rows.specs.inner.ShownTraces.{PrintsShown, PrintsWhole, TracePart}
 
 -- nothing went wrong
 abbrev pub done : Result (Unit {0}) PrintFault
@@ -57,37 +60,37 @@ zip_split R (x ∷ xs) ys (z ∷ zs) h =
     let s = zip_split R xs ys zs h.1 in
     (z ∷ s.0, s.1, ap (λ l. z ∷ l) s.2, (h.0, s.3), s.4)
 
-module _ {S : Type 0} (written : S → Option (List ℕ)) (faults : S → ℕ) (b : KeptState) (part : List Kept → Kept → Part) where
+module _ {S : Type 0} (written : S → Option (List ℕ)) (faults : S → ℕ) (b : JudgedState) (part : TracePart) where
   pub shown_none : (old : S) (held : List ℕ) → NoPartIsPrinted IsPart → PrintsShown written faults done old old b part [] held held
-  shown_none old held none kept shown [] h = record { all = none (written old) held; prefix = tt; counted = refl }
-  shown_none old held none kept shown (k ∷ ks) h = absurd h
+  shown_none old held none given kept shown [] h = record { all = none (written old) held; prefix = tt; counted = refl }
+  shown_none old held none given kept shown (k ∷ ks) h = absurd h
 
   -- the parts of some traces and then those of others, with any result
   pub shown_follow : (result : Result (Unit {0}) PrintFault) (old mid new : S) (xs ys : List NamedTrace) (held between holds : List ℕ) → PartCallsFollow written faults IsPart (Unit {0})
       → PrintsShown written faults done old mid b part xs held between → PrintsShown written faults result mid new b part ys between holds → PrintsShown written faults result old new b part (xs ++ ys) held holds
-  shown_follow result old mid new xs ys held between holds follow p q kept shown some h =
-      let s = zip_split (IsShown b.known) xs ys some h in
-      let both : map (part kept) s.0 ++ map (part kept) s.1 ≡ map (part kept) some = sym (ap (map (part kept)) s.2 ∙ map-append (part kept) s.0 s.1) in
-      rw (← both) (follow tt result old mid new (map (part kept) s.0) (map (part kept) s.1) held between holds (p kept shown s.0 s.3) (q kept shown s.1 s.4))
+  shown_follow result old mid new xs ys held between holds follow p q given kept shown some h =
+      let s = zip_split (IsShown b.book.known) xs ys some h in
+      let both : map (part given kept) s.0 ++ map (part given kept) s.1 ≡ map (part given kept) some = sym (ap (map (part given kept)) s.2 ∙ map-append (part given kept) s.0 s.1) in
+      rw (← both) (follow tt result old mid new (map (part given kept) s.0) (map (part given kept) s.1) held between holds (p given kept shown s.0 s.3) (q given kept shown s.1 s.4))
 
   -- parts that were not printed to their end are not with others
   pub shown_goes_on : (e : PrintFault) (old new : S) (xs ys : List NamedTrace) (held between holds : List ℕ) → PartCallGoesOn written faults IsPart (Unit {0})
       → PrintsShown {T = Unit {0}} written faults (Err e) old new b part xs held between → PrintsShown {T = Unit {0}} written faults (Err e) old new b part (xs ++ ys) held holds
-  shown_goes_on e old new xs ys held between holds goes_on p kept shown some h =
-      let s = zip_split (IsShown b.known) xs ys some h in
-      let both : map (part kept) s.0 ++ map (part kept) s.1 ≡ map (part kept) some = sym (ap (map (part kept)) s.2 ∙ map-append (part kept) s.0 s.1) in
-      rw (← both) (goes_on e old new (map (part kept) s.0) (map (part kept) s.1) held between holds (p kept shown s.0 s.3))
+  shown_goes_on e old new xs ys held between holds goes_on p given kept shown some h =
+      let s = zip_split (IsShown b.book.known) xs ys some h in
+      let both : map (part given kept) s.0 ++ map (part given kept) s.1 ≡ map (part given kept) some = sym (ap (map (part given kept)) s.2 ∙ map-append (part given kept) s.0 s.1) in
+      rw (← both) (goes_on e old new (map (part given kept) s.0) (map (part given kept) s.1) held between holds (p given kept shown s.0 s.3))
 
   -- a call that ran out of memory before it printed
   pub shown_unbegun : (old : S) (xs : List NamedTrace) (held holds : List ℕ) → NoPartIsBegun IsPart → PrintsShown {T = Unit {0}} written faults (Err Memory) old old b part xs held holds
-  shown_unbegun old xs held holds unbegun kept shown some h = record { all = tt; prefix = unbegun (map (part kept) some) (written old) held; counted = refl }
+  shown_unbegun old xs held holds unbegun given kept shown some h = record { all = tt; prefix = unbegun (map (part given kept) some) (written old) held; counted = refl }
 
   -- a call that printed a text of the part of one trace
   pub shown_text : (result : Result (Unit {0}) PrintFault) (old new : S) (t : NamedTrace) (text held holds : List ℕ) → CallPrintsOnePart written faults IsPart (Unit {0})
-      → ((kept : List Kept) (k : Kept) → AreShown b.known (traces_in b) kept → IsShown b.known t k → IsPart (part kept k) text) → PrintsText written faults result old new held holds text → PrintsShown written faults result old new b part (t ∷ []) held holds
-  shown_text result old new t text held holds one is p kept shown [] h = absurd h
-  shown_text result old new t text held holds one is p kept shown (k ∷ []) h = one (part kept k) text result old new held holds (is kept k shown h.0) p
-  shown_text result old new t text held holds one is p kept shown (k ∷ (l ∷ ks)) h = absurd h.1
+      → ((given : Digest SegmentName (List ℕ)) (kept : List Kept) (k : Kept) → IsJudgedOf b given kept → IsShown b.book.known t k → IsPart (part given kept k) text) → PrintsText written faults result old new held holds text → PrintsShown written faults result old new b part (t ∷ []) held holds
+  shown_text result old new t text held holds one is p given kept shown [] h = absurd h
+  shown_text result old new t text held holds one is p given kept shown (k ∷ []) h = one (part given kept k) text result old new held holds (is given kept k shown h.0) p
+  shown_text result old new t text held holds one is p given kept shown (k ∷ (l ∷ ks)) h = absurd h.1
 
   -- in a loop over lists of traces: one more, all, and one that was not printed to its end
   pub lists_next : {X : Type 0} (list : X → List NamedTrace) (xs : List X) (i : ℕ) (x : X) (old mid new : S) (held between holds : List ℕ) → PartCallsFollow written faults IsPart (Unit {0}) → i < length xs → x ≡ get_or xs i x
@@ -111,13 +114,13 @@ module _ {S : Type 0} (written : S → Option (List ℕ)) (faults : S → ℕ) (
 
   -- a header and then the parts of all traces, or a header that was not printed to its end
   pub whole_follow : (word : List ℕ) (result : Result (Unit {0}) PrintFault) (old mid new : S) (held between holds : List ℕ) → PartCallsFollow written faults IsPart (Unit {0}) → CallPrintsOnePart written faults IsPart (Unit {0})
-      → PrintsText written faults done old mid held between (traces_row word (length (traces_in b))) → PrintsShown written faults result mid new b part (traces_in b) between holds → PrintsWhole written faults result old new b word part held holds
-  whole_follow word result old mid new held between holds follow one p q kept shown =
-      follow tt result old mid new (Header word (length kept) ∷ []) (map (part kept) kept) held between holds
-      (one (Header word (length kept)) (traces_row word (length (traces_in b))) done old mid held between (ap (traces_row word) (sym (AllZip-long (IsShown b.known) (traces_in b) kept shown))) p) (q kept shown kept shown)
+      → PrintsText written faults done old mid held between (traces_row word (length (traces_in b.book))) → PrintsShown written faults result mid new b part (traces_in b.book) between holds → PrintsWhole written faults result old new b word part held holds
+  whole_follow word result old mid new held between holds follow one p q given kept shown =
+      follow tt result old mid new (Header word (length kept) ∷ []) (map (part given kept) kept) held between holds
+      (one (Header word (length kept)) (traces_row word (length (traces_in b.book))) done old mid held between (ap (traces_row word) (sym (AllZip-long (IsShown b.book.known) (traces_in b.book) kept shown.shown))) p) (q given kept shown kept shown.shown)
 
   pub whole_cut : (word : List ℕ) (e : PrintFault) (old new : S) (held between holds : List ℕ) → PartCallGoesOn written faults IsPart (Unit {0}) → CallPrintsOnePart written faults IsPart (Unit {0})
-      → PrintsText {T = Unit {0}} written faults (Err e) old new held between (traces_row word (length (traces_in b))) → PrintsWhole {T = Unit {0}} written faults (Err e) old new b word part held holds
-  whole_cut word e old new held between holds goes_on one p kept shown =
-      goes_on e old new (Header word (length kept) ∷ []) (map (part kept) kept) held between holds
-      (one (Header word (length kept)) (traces_row word (length (traces_in b))) (Err e) old new held between (ap (traces_row word) (sym (AllZip-long (IsShown b.known) (traces_in b) kept shown))) p)
+      → PrintsText {T = Unit {0}} written faults (Err e) old new held between (traces_row word (length (traces_in b.book))) → PrintsWhole {T = Unit {0}} written faults (Err e) old new b word part held holds
+  whole_cut word e old new held between holds goes_on one p given kept shown =
+      goes_on e old new (Header word (length kept) ∷ []) (map (part given kept) kept) held between holds
+      (one (Header word (length kept)) (traces_row word (length (traces_in b.book))) (Err e) old new held between (ap (traces_row word) (sym (AllZip-long (IsShown b.book.known) (traces_in b.book) kept shown.shown))) p)

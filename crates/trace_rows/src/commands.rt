@@ -1,5 +1,6 @@
-ghost use Rattle.std.specs.Prelude.{◌≡◌, ◌∷◌, List, length, map, codes};
-ghost use Rattle.book_laws.specs.Shown.{AreShown};
+ghost use Rattle.std.specs.Prelude.{◌≡◌, ◌∷◌, ℕ, List, length, map, codes};
+ghost use Rattle.digest_facts.specs.Digests.{Digest};
+ghost use Rattle.judged_books.specs.JudgedBooks.{IsJudgedOf};
 ghost use Rattle.kept_books.specs.KeptBooks.{traces_in};
 ghost use Rattle.session_rules.specs.KeptTraces.{Kept};
 ghost use Rattle.session_rules.specs.Parts.{GraphOf, Header, IsPart, PathOf, SlacksOf};
@@ -7,11 +8,13 @@ ghost use Rattle.session_rules.specs.Parts.{traces_row};
 ghost use Rattle.text_rows.specs.Printing.{PrintsText, print_faults};
 ghost use Rattle.text_rows.specs.TextsOfParts.{PrintsTexts};
 ghost use Rattle.trace_rows.specs.inner.ShownTraces.{PrintsWhole};
+ghost use Rattle.trace_types.specs.Segments.{SegmentName};
 
 use crate::graph_texts::GraphTexts;
 use crate::path_texts::PathTexts;
 use crate::slack_texts::SlackTexts;
 use crate::trace_texts::{TraceTexts, print_days};
+use judged_books::JudgedBook;
 use kept_books::KeptBook;
 use mystery_io::Sink;
 use session_rules::SessionPart;
@@ -37,12 +40,12 @@ fn print_header<S: Sink>(
     sink: &mut S,
     buffer: &mut RowBuffer,
     word: &str,
-    book: &KeptBook,
+    book: &JudgedBook<'_>,
 ) -> Result<(), PrintFault>
     ensures { PrintsText S.written S.faults result sink.old sink.new buffer.old buffer.new
-        (traces_row word.now (length (traces_in book.now))) }
+        (traces_row word.now (length (traces_in book.now.book))) }
 {
-    let count = u128::from(count_traces(book));
+    let count = u128::from(count_traces(book.book()));
     print_row(
         sink,
         buffer,
@@ -54,7 +57,7 @@ fn print_header<S: Sink>(
 fn print_whole<R: Threads + Sync, S: Sink, K: TraceTexts>(
     workers: &WorkerLimit<'_, R>,
     alloc: Global,
-    book: &KeptBook,
+    book: &JudgedBook<'_>,
     word: &str,
     texts: &K,
     sink: &mut S,
@@ -80,13 +83,14 @@ fn print_whole<R: Threads + Sync, S: Sink, K: TraceTexts>(
 pub fn print_paths<R: Threads + Sync, S: Sink>(
     workers: &WorkerLimit<'_, R>,
     alloc: Global,
-    book: &KeptBook,
+    book: &JudgedBook<'_>,
     sink: &mut S,
     buffer: &mut RowBuffer,
 ) -> Result<(), PrintFault>
-    ensures printed { (kept : List Kept) → AreShown book.now.known (traces_in book.now) kept
-        → PrintsTexts S.written S.faults result sink.old sink.new IsPart
-        (Header (codes "paths") (length kept) ∷ map (PathOf kept) kept) buffer.old buffer.new }
+    ensures printed { (given : Digest SegmentName (List ℕ)) (kept : List Kept)
+        → IsJudgedOf book.now given kept → PrintsTexts S.written S.faults result sink.old sink.new IsPart
+        (Header (codes "paths") (length kept) ∷ map (PathOf given kept) kept)
+        buffer.old buffer.new }
     ensures counted { S.faults sink.new ≡ print_faults result (S.faults sink.old) }
 {
     print_whole(workers, alloc, book, "paths", &PathTexts, sink, buffer)
@@ -97,13 +101,14 @@ pub fn print_paths<R: Threads + Sync, S: Sink>(
 pub fn print_slacks<R: Threads + Sync, S: Sink>(
     workers: &WorkerLimit<'_, R>,
     alloc: Global,
-    book: &KeptBook,
+    book: &JudgedBook<'_>,
     sink: &mut S,
     buffer: &mut RowBuffer,
 ) -> Result<(), PrintFault>
-    ensures printed { (kept : List Kept) → AreShown book.now.known (traces_in book.now) kept
-        → PrintsTexts S.written S.faults result sink.old sink.new IsPart
-        (Header (codes "slack") (length kept) ∷ map (SlacksOf kept) kept) buffer.old buffer.new }
+    ensures printed { (given : Digest SegmentName (List ℕ)) (kept : List Kept)
+        → IsJudgedOf book.now given kept → PrintsTexts S.written S.faults result sink.old sink.new IsPart
+        (Header (codes "slack") (length kept) ∷ map (SlacksOf given kept) kept)
+        buffer.old buffer.new }
     ensures counted { S.faults sink.new ≡ print_faults result (S.faults sink.old) }
 {
     print_whole(workers, alloc, book, "slack", &SlackTexts, sink, buffer)
@@ -114,13 +119,14 @@ pub fn print_slacks<R: Threads + Sync, S: Sink>(
 pub fn print_graphs<R: Threads + Sync, S: Sink>(
     workers: &WorkerLimit<'_, R>,
     alloc: Global,
-    book: &KeptBook,
+    book: &JudgedBook<'_>,
     sink: &mut S,
     buffer: &mut RowBuffer,
 ) -> Result<(), PrintFault>
-    ensures printed { (kept : List Kept) → AreShown book.now.known (traces_in book.now) kept
-        → PrintsTexts S.written S.faults result sink.old sink.new IsPart
-        (Header (codes "graph") (length kept) ∷ map (GraphOf kept) kept) buffer.old buffer.new }
+    ensures printed { (given : Digest SegmentName (List ℕ)) (kept : List Kept)
+        → IsJudgedOf book.now given kept → PrintsTexts S.written S.faults result sink.old sink.new IsPart
+        (Header (codes "graph") (length kept) ∷ map (GraphOf given kept) kept)
+        buffer.old buffer.new }
     ensures counted { S.faults sink.new ≡ print_faults result (S.faults sink.old) }
 {
     print_whole(workers, alloc, book, "graph", &GraphTexts, sink, buffer)

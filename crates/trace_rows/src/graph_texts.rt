@@ -13,7 +13,7 @@ use crate::numbered_trace::NumberedTrace;
 use crate::prepared_book::PreparedBook;
 use crate::trace_texts::TraceTexts;
 use crate::vertex_rows::{VertexRows, print_first};
-use book_laws::laws::graph_is_shown;
+use judged_books::laws::{judged_graph_is_shown, judged_words_tell};
 use mystery_io::Sink;
 use session_rules::SessionPart;
 use std::alloc::{AllocError, Global};
@@ -187,7 +187,7 @@ fn print_graph<S: Sink>(
 impl TraceTexts for GraphTexts {
     type Computed = OrderedGraph;
 
-    ghost part = { λ _ kept k. GraphOf kept k };
+    ghost part = { λ _ given kept k. GraphOf given kept k };
 
     ghost computes = { λ _ b t reduced. IsReducedUnderBook b t reduced.order reduced.dag };
 
@@ -214,7 +214,8 @@ impl TraceTexts for GraphTexts {
         buffer: &mut RowBuffer,
     ) -> Result<(), PrintFault> {
         // For the proof alone.
-        graph_is_shown();
+        judged_graph_is_shown();
+        judged_words_tell();
         names_are_shown();
         part_calls_follow::<S, SessionPart>();
         let numbered = NumberedTrace::new(

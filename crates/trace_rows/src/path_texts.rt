@@ -10,8 +10,8 @@ use crate::numbered_trace::NumberedTrace;
 use crate::prepared_book::PreparedBook;
 use crate::trace_texts::TraceTexts;
 use crate::vertex_rows::{VertexRows, print_chain};
-use book_laws::laws::graph_is_shown;
 use critical_path::{Chain, critical};
+use judged_books::laws::{judged_graph_is_shown, judged_words_tell};
 use mystery_io::Sink;
 use session_rules::SessionPart;
 use std::alloc::{AllocError, Global};
@@ -114,7 +114,7 @@ fn print_path<S: Sink>(
 impl TraceTexts for PathTexts {
     type Computed = TracePath;
 
-    ghost part = { λ _ kept k. PathOf kept k };
+    ghost part = { λ _ given kept k. PathOf given kept k };
 
     ghost computes = { λ _ b t path.
         IsPathUnderBook b t path.graph.order path.graph.dag path.chain.length path.chain.vertices };
@@ -139,7 +139,8 @@ impl TraceTexts for PathTexts {
         buffer: &mut RowBuffer,
     ) -> Result<(), PrintFault> {
         // For the proof alone.
-        graph_is_shown();
+        judged_graph_is_shown();
+        judged_words_tell();
         names_are_shown();
         part_calls_follow::<S, SessionPart>();
         let numbered = NumberedTrace::new(

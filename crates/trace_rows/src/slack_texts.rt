@@ -9,7 +9,7 @@ use crate::numbered_trace::NumberedTrace;
 use crate::prepared_book::PreparedBook;
 use crate::trace_texts::TraceTexts;
 use crate::vertex_rows::{VertexRows, print_first};
-use book_laws::laws::graph_is_shown;
+use judged_books::laws::{judged_graph_is_shown, judged_words_tell};
 use mystery_io::Sink;
 use session_rules::SessionPart;
 use slack::{SlackTable, longest_and_slacks};
@@ -113,7 +113,7 @@ fn print_table<S: Sink>(
 impl TraceTexts for SlackTexts {
     type Computed = TraceSlacks;
 
-    ghost part = { λ _ kept k. SlacksOf kept k };
+    ghost part = { λ _ given kept k. SlacksOf given kept k };
 
     ghost computes = { λ _ b t slacks. AreSlacksUnderBook b t slacks.graph.order slacks.graph.dag
         slacks.table.longest slacks.table.slacks.items };
@@ -138,7 +138,8 @@ impl TraceTexts for SlackTexts {
         buffer: &mut RowBuffer,
     ) -> Result<(), PrintFault> {
         // For the proof alone.
-        graph_is_shown();
+        judged_graph_is_shown();
+        judged_words_tell();
         names_are_shown();
         part_calls_follow::<S, SessionPart>();
         let numbered = NumberedTrace::new(

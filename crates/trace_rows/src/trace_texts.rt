@@ -1,7 +1,9 @@
-ghost use Rattle.std.specs.Prelude.{◌≡◌, ◌∷◌, [], List, IfOk, length, map};
+ghost use Rattle.std.specs.Prelude.{◌≡◌, ◌∷◌, [], ℕ, List, IfOk, length, map};
 ghost use Rattle.std.specs.Borrow.{Bor};
 ghost use Rattle.std.specs.List.{All};
-ghost use Rattle.kept_books.specs.KeptBooks.{KeptState, traces_in};
+ghost use Rattle.digest_facts.specs.Digests.{Digest};
+ghost use Rattle.judged_books.specs.JudgedBooks.{JudgedState};
+ghost use Rattle.kept_books.specs.KeptBooks.{traces_in};
 ghost use Rattle.refute_tests.specs.Clearing.{HaveNamesBelow};
 ghost use Rattle.session_rules.specs.KeptTraces.{Kept};
 ghost use Rattle.session_rules.specs.Parts.{Part};
@@ -9,12 +11,13 @@ ghost use Rattle.text_rows.specs.Printing.{print_faults};
 ghost use Rattle.text_rows.specs.TextSinks.{all_bytes};
 ghost use Rattle.trace_rows.specs.inner.Pieces.{traces_of_pieces};
 ghost use Rattle.trace_rows.specs.inner.ShownTraces.{IsShownText, PrintsShown};
+ghost use Rattle.trace_types.specs.Segments.{SegmentName};
 ghost use Rattle.trace_types.specs.declared.named_trace.NamedTrace.{NamedTrace};
 
 use crate::book_lists::list_traces;
 use crate::chunks::{Piece, chunk_length, cut_pieces};
 use crate::prepared_book::PreparedBook;
-use kept_books::KeptBook;
+use judged_books::JudgedBook;
 use mystery_io::Sink;
 use rayon::prelude::*;
 use session_rules::SessionPart;
@@ -31,11 +34,11 @@ pub(crate) trait TraceTexts: Sync {
     /// the associated types of what it borrows; no value is sent.
     type Computed: Send + Drop;
 
-    /// The part of a kept trace.
-    ghost part: { Self → List Kept → Kept → Part };
+    /// The part of a kept trace, under a given digest.
+    ghost part: { Self → Digest SegmentName (List ℕ) → List Kept → Kept → Part };
 
     /// What is computed of this trace of the book.
-    ghost computes: { Self → KeptState → NamedTrace → Self.Computed → Type 0 };
+    ghost computes: { Self → JudgedState → NamedTrace → Self.Computed → Type 0 };
 
     /// Computes what the part of a trace tells. The only error is that memory ran out.
     fn compute(
@@ -44,7 +47,7 @@ pub(crate) trait TraceTexts: Sync {
         book: &PreparedBook<'_>,
         trace: &NamedTrace,
     ) -> Result<Self::Computed, AllocError>
-        requires { HaveNamesBelow (length book.now.known.names) trace.now }
+        requires { HaveNamesBelow (length book.now.book.known.names) trace.now }
         ensures { IfOk result (computes self.now book.now trace.now) };
 
     /// Prints the part of a trace from what was computed of it. An error leaves a prefix of its
@@ -72,7 +75,7 @@ fn print_in_turn<S: Sink, K: TraceTexts>(
     sink: &mut S,
     buffer: &mut RowBuffer,
 ) -> Result<(), PrintFault>
-    requires { All (λ (t : Bor NamedTrace). HaveNamesBelow (length book.now.known.names) t.now)
+    requires { All (λ (t : Bor NamedTrace). HaveNamesBelow (length book.now.book.known.names) t.now)
         traces.now }
     ensures printed { PrintsShown S.written S.faults result sink.old sink.new book.now
         (K.part texts.now) (map (λ (t : Bor NamedTrace). t.now) traces.now)
@@ -98,7 +101,7 @@ fn make_text<K: TraceTexts>(
     texts: &K,
     traces: &[&NamedTrace],
 ) -> Result<Vec<u8>, AllocError>
-    requires { All (λ (t : Bor NamedTrace). HaveNamesBelow (length book.now.known.names) t.now)
+    requires { All (λ (t : Bor NamedTrace). HaveNamesBelow (length book.now.book.known.names) t.now)
         traces.now }
     ensures { IfOk result (λ text. IsShownText book.now (K.part texts.now)
         (map (λ (t : Bor NamedTrace). t.now) traces.now) text.items) }
@@ -125,7 +128,7 @@ fn make_texts<R: Threads + Sync, K: TraceTexts>(
     texts: &K,
     pieces: &[Piece<'_>],
 ) -> Result<Vec<Vec<u8>>, AllocError>
-    requires { All (λ (t : Bor NamedTrace). HaveNamesBelow (length book.now.known.names) t.now)
+    requires { All (λ (t : Bor NamedTrace). HaveNamesBelow (length book.now.book.known.names) t.now)
         (traces_of_pieces pieces.now) }
     ensures { IfOk result (λ made. IsShownText book.now (K.part texts.now)
         (map (λ (t : Bor NamedTrace). t.now) (traces_of_pieces pieces.now))
@@ -139,7 +142,7 @@ fn make_texts<R: Threads + Sync, K: TraceTexts>(
         .map(
             |piece: &Piece<'_>| -> Result<Vec<u8>, AllocError>
                 requires { All (λ (t : Bor NamedTrace).
-                    HaveNamesBelow (length book.now.known.names) t.now) piece.now.traces.now }
+                    HaveNamesBelow (length book.now.book.known.names) t.now) piece.now.traces.now }
                 ensures { IfOk result (λ text. IsShownText book.entry.now
                     (K.part texts.entry.now)
                     (map (λ (t : Bor NamedTrace). t.now) piece.now.traces.now)
@@ -161,7 +164,7 @@ fn print_chunk<R: Threads + Sync, S: Sink, K: TraceTexts>(
     sink: &mut S,
     buffer: &mut RowBuffer,
 ) -> Result<(), PrintFault>
-    requires { All (λ (t : Bor NamedTrace). HaveNamesBelow (length book.now.known.names) t.now)
+    requires { All (λ (t : Bor NamedTrace). HaveNamesBelow (length book.now.book.known.names) t.now)
         traces.now }
     ensures printed { PrintsShown S.written S.faults result sink.old sink.new book.now
         (K.part texts.now) (map (λ (t : Bor NamedTrace). t.now) traces.now)
@@ -189,7 +192,7 @@ pub(crate) fn print_each<R: Threads + Sync, S: Sink, K: TraceTexts>(
     sink: &mut S,
     buffer: &mut RowBuffer,
 ) -> Result<(), PrintFault>
-    requires { All (λ (t : Bor NamedTrace). HaveNamesBelow (length book.now.known.names) t.now)
+    requires { All (λ (t : Bor NamedTrace). HaveNamesBelow (length book.now.book.known.names) t.now)
         traces.now }
     ensures printed { PrintsShown S.written S.faults result sink.old sink.new book.now
         (K.part texts.now) (map (λ (t : Bor NamedTrace). t.now) traces.now)
@@ -212,13 +215,13 @@ pub(crate) fn print_each<R: Threads + Sync, S: Sink, K: TraceTexts>(
 pub(crate) fn print_days<R: Threads + Sync, S: Sink, K: TraceTexts>(
     workers: &WorkerLimit<'_, R>,
     alloc: Global,
-    book: &KeptBook,
+    book: &JudgedBook<'_>,
     texts: &K,
     sink: &mut S,
     buffer: &mut RowBuffer,
 ) -> Result<(), PrintFault>
     ensures printed { PrintsShown S.written S.faults result sink.old sink.new book.now
-        (K.part texts.now) (traces_in book.now) buffer.old buffer.new }
+        (K.part texts.now) (traces_in book.now.book) buffer.old buffer.new }
     ensures counted { S.faults sink.new ≡ print_faults result (S.faults sink.old) }
 {
     // For the proof alone.

@@ -4,15 +4,18 @@ use Rattle.std.specs.Prelude.{if◌then◌else◌}
 use Rattle.std.specs.List.{enumerate_from}
 use Rattle.std.specs.Option.{option_map_or}
 use Rattle.std.proofs.lemmas.Option.{get_or_from_slice_get, slice_get-get_or}
-use Rattle.book_laws.specs.GraphLaws.{GraphIsShown}
-use Rattle.book_laws.specs.Shown.{AreShown, IsShown}
+use Rattle.book_laws.specs.Shown.{IsShown}
+use Rattle.digest_facts.specs.Digests.{Digest}
+use Rattle.judged_books.specs.JudgedLaws.{AreJudgedWords, JudgedGraphIsShown}
+use Rattle.model_meet.specs.RelationBits.{KeepsExclusion}
 use Rattle.segment_names.specs.Known.{Known, name_number}
 use Rattle.segment_names.specs.Limits.{IsKept}
 use Rattle.session_rules.specs.ForecastTexts.{IsForecastOf, time_under}
-use Rattle.session_rules.specs.KeptTraces.{Kept, SurvivesIn, by_kept}
+use Rattle.session_rules.specs.GivenDigests.{SurvivesUnder}
+use Rattle.session_rules.specs.KeptTraces.{Kept, by_kept}
 use Rattle.session_rules.specs.TraceTexts.{name_of_vertex}
 use Rattle.session_rules.specs.declared.named_change.NamedChange.{NamedChange}
-use Rattle.trace_rules.specs.TraceGraphs.{ExcludesIn, IsTraceGraph}
+use Rattle.trace_rules.specs.TraceGraphs.{IsTraceGraph}
 use Rattle.trace_types.specs.Parts.{by_number}
 use Rattle.trace_types.specs.Renaming.{IsSegmentRenamed}
 use Rattle.trace_types.specs.Segments.{SegmentName, name_of}
@@ -49,15 +52,15 @@ vertex_time known change Excludes t k order g weights fits numbered shown graph 
     ∙ (time_by known change at.0.name (name_of at.1) (weight_of g v) (name_number known change.name) fits refl name
     ∙ ap (λ n. time_under change n (weight_of g v)) (sym called))
 
-pub shown_forecast : (known : Known) (traces : List NamedTrace) (kept : List Kept) (t : NamedTrace) (k : Kept) (change : NamedChange) (f : Forecast) → GraphIsShown → AreNumbered known → IsKept known → AreShown known traces kept
-    → IsShown known t k → IsForecastIn (ExcludesIn by_number traces) (changes_of known change) t f → IsForecastOf change (SurvivesIn kept) k f
-shown_forecast known traces kept t k change f graphs numbered fits all shown h = record {
+pub shown_forecast : (known : Known) (given : Digest SegmentName (List ℕ)) (words : List ℕ) (kept : List Kept) (t : NamedTrace) (k : Kept) (change : NamedChange) (f : Forecast) → JudgedGraphIsShown → AreNumbered known → IsKept known → AreJudgedWords known given kept words
+    → IsShown known t k → IsForecastIn (KeepsExclusion words) (changes_of known change) t f → IsForecastOf change (SurvivesUnder given kept) k f
+shown_forecast known given words kept t k change f graphs numbered fits judge shown h = record {
   order = h.order;
   graph = h.graph;
   weights = h.told.weights;
-  is = graphs known traces kept t k h.order h.graph fits all shown h.form h.of_trace;
+  is = graphs known given kept words t k h.order h.graph fits judge shown h.form h.of_trace;
   count = h.told.changed.count;
-  changed = vertex_time known change (ExcludesIn by_number traces) t k h.order h.graph h.told.weights fits numbered shown h.of_trace h.told.changed;
+  changed = vertex_time known change (KeepsExclusion words) t k h.order h.graph h.told.weights fits numbered shown h.of_trace h.told.changed;
   before = h.told.before;
   after = h.told.after;
 }

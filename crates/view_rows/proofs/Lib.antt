@@ -6,10 +6,8 @@ pub mod ForecastPrintLemmas
 pub mod ForecastShownLemmas
 pub mod ForecastTextLemmas
 pub mod ForecastZipLemmas
+pub mod GatheredLemmas
 pub mod ListLemmas
-pub mod ListingLemmas
-pub mod MarkLemmas
-pub mod ModelOrderLemmas
 pub mod ModelPrintLemmas
 pub mod ModelRowLemmas
 pub mod ModelShownLemmas

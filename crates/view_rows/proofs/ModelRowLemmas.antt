@@ -8,7 +8,7 @@ use Rattle.trace_types.proofs.ElementLemmas.{at_index}
 use Rattle.view_rows.specs.inner.Growing.{AppendsExactly}
 use Rattle.trace_types.specs.Listing.{ListsExactly}
 use Rattle.trace_types.specs.NameOrder.{pair_cmp}
-use Rattle.view_rows.proofs.ListingLemmas.{get_item, is_item, text_at, texts_long, texts_of, texts_rise}
+use Rattle.kept_names.proofs.ListingLemmas.{get_item, is_item, text_at, texts_long, texts_of, texts_rise}
 use Rattle.view_rows.proofs.PairLemmas.{IsInRow, IsInRows, row_begun, row_done, row_more, rows_done, rows_more}
 
 module _ {X : Type 0} (cmp : X → X → Ordering) (total : IsTotalOrder cmp) (items : List (X × ℕ)) (rising : AllPairs (λ (i j : X × ℕ). cmp i.0 j.0 ≡ Less) items) (Q : X → X → Type 0) where

@@ -1,13 +1,15 @@
 -- The critical paths of kept traces, by those of traces by number.
 use Rattle.std.proofs.Common.{◌≡◌, ◌↔◌, ℕ, Some, List, [], ◌∷◌}
 use Rattle.std.specs.List.{AllZip, Contains, enumerate_from, slice_get}
-use Rattle.book_laws.specs.GraphLaws.{GraphIsShown}
+use Rattle.digest_facts.specs.Digests.{Digest}
+use Rattle.judged_books.specs.JudgedLaws.{AreJudgedWords, JudgedGraphIsShown}
+use Rattle.model_meet.specs.RelationBits.{KeepsExclusion}
 use Rattle.book_laws.specs.Shown.{AreShown, IsShown}
 use Rattle.segment_names.specs.Known.{Known}
 use Rattle.segment_names.specs.Limits.{IsKept}
-use Rattle.session_rules.specs.KeptTraces.{Kept, SurvivesIn, by_kept}
+use Rattle.session_rules.specs.GivenDigests.{SurvivesUnder}
+use Rattle.session_rules.specs.KeptTraces.{Kept, by_kept}
 use Rattle.trace_rules.specs.CriticalPaths.{AreCriticalPaths, IsCriticalPath, StandsFor}
-use Rattle.trace_rules.specs.TraceGraphs.{ExcludesIn}
 use Rattle.trace_types.specs.declared.named_segment.NamedSegment.{NamedSegment}
 use Rattle.trace_types.specs.declared.named_trace.NamedTrace.{NamedTrace}
 use Rattle.trace_types.specs.declared.segment.Segment.{Segment}
@@ -44,11 +46,11 @@ module _ (known : Known) (matched : IsMatched known.names) where
   pub all_segments_shown : (traces : List NamedTrace) (kept : List Kept) → AreShown known traces kept → AreSegmentsShown known (segments_of by_number traces) (segments_of by_kept kept)
   all_segments_shown traces kept shown = zip_join (IsSegmentShown known) (IsShown known) (λ (t : NamedTrace). t.segments) (λ (k : Kept). k.trace.segments) segments_shown traces kept shown
 
-  module _ (graphs : GraphIsShown) (fits : IsKept known) (traces : List NamedTrace) (kept : List Kept) (shown : AreShown known traces kept) where
+  module _ (graphs : JudgedGraphIsShown) (fits : IsKept known) (given : Digest SegmentName (List ℕ)) (words : List ℕ) (traces : List NamedTrace) (kept : List Kept) (shown : AreShown known traces kept) (judge : AreJudgedWords known given kept words) where
     -- the critical path of one trace
-    path_shown : (t : NamedTrace) (k : Kept) (path : List NamedSegment) → IsShown known t k → IsCriticalPath by_number (ExcludesIn by_number traces) t path → (text : List Segment) × IsCriticalPath by_kept (SurvivesIn kept) k text × AreSegmentsShown known path text
+    path_shown : (t : NamedTrace) (k : Kept) (path : List NamedSegment) → IsShown known t k → IsCriticalPath by_number (KeepsExclusion words) t path → (text : List Segment) × IsCriticalPath by_kept (SurvivesUnder given kept) k text × AreSegmentsShown known path text
     path_shown t k path one is =
-        let g = graphs known traces kept t k is.order is.graph fits shown one is.form is.dependencies in
+        let g = graphs known given kept words t k is.order is.graph fits judge one is.form is.dependencies in
         let stands = stand_for (IsSegmentShown known) t.segments k.trace.segments (segments_shown t k one) is.order is.chain path is.segments in (
           stands.0,
           record {
@@ -65,8 +67,8 @@ module _ (known : Known) (matched : IsMatched known.names) where
         )
 
     -- those of some of the traces
-    some_shown : (some : List NamedTrace) (others : List Kept) (paths : List (List NamedSegment)) → AreShown known some others → AllZip (IsCriticalPath by_number (ExcludesIn by_number traces)) some paths
-        → (texts : List (List Segment)) × AllZip (IsCriticalPath by_kept (SurvivesIn kept)) others texts × ArePathsShown known paths texts
+    some_shown : (some : List NamedTrace) (others : List Kept) (paths : List (List NamedSegment)) → AreShown known some others → AllZip (IsCriticalPath by_number (KeepsExclusion words)) some paths
+        → (texts : List (List Segment)) × AllZip (IsCriticalPath by_kept (SurvivesUnder given kept)) others texts × ArePathsShown known paths texts
     some_shown [] [] [] alike are = ([], tt, tt)
     some_shown [] [] (path ∷ paths) alike are = absurd are
     some_shown [] (k ∷ others) paths alike are = absurd alike
@@ -77,5 +79,5 @@ module _ (known : Known) (matched : IsMatched known.names) where
         let rest = some_shown some others paths alike.1 are.1 in
         (one.0 ∷ rest.0, (one.1, rest.1), (one.2, rest.2))
 
-    pub paths_shown : (paths : List (List NamedSegment)) → AreCriticalPaths by_number (ExcludesIn by_number traces) traces paths → (texts : List (List Segment)) × AreCriticalPaths by_kept (SurvivesIn kept) kept texts × ArePathsShown known paths texts
+    pub paths_shown : (paths : List (List NamedSegment)) → AreCriticalPaths by_number (KeepsExclusion words) traces paths → (texts : List (List Segment)) × AreCriticalPaths by_kept (SurvivesUnder given kept) kept texts × ArePathsShown known paths texts
     paths_shown paths are = some_shown traces kept paths shown are

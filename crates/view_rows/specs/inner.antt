@@ -1,9 +1,9 @@
 -- What private contracts alone cite.
 pub mod ForecastRows
 pub mod Found
+pub mod Gathered
 pub mod Growing
 pub mod Listings
-pub mod Marking
 pub mod NumberedForecasts
 pub mod NumberedTexts
 pub mod Shown

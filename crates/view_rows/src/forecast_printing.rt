@@ -1,14 +1,15 @@
-ghost use Rattle.std.specs.Prelude.{◌≡◌, ◌^◌, ◌<◌, ◌≤◌, List, length, map, sum_by};
+ghost use Rattle.std.specs.Prelude.{◌≡◌, ◌^◌, ◌<◌, ◌≤◌, ℕ, List, length, map, sum_by};
 ghost use Rattle.std.specs.Borrow.{Bor};
 ghost use Rattle.std.specs.List.{All};
-ghost use Rattle.book_laws.specs.Shown.{AreShown};
-ghost use Rattle.kept_books.specs.KeptBooks.{traces_in};
+ghost use Rattle.digest_facts.specs.Digests.{Digest};
+ghost use Rattle.judged_books.specs.JudgedBooks.{IsJudgedOf};
 ghost use Rattle.session_rules.specs.KeptTraces.{Kept};
 ghost use Rattle.session_rules.specs.Parts.{IsPart};
 ghost use Rattle.session_rules.specs.Sessions.{forecast_parts};
 ghost use Rattle.text_rows.specs.Printing.{PrintsText, print_faults};
 ghost use Rattle.text_rows.specs.TextsOfParts.{PrintsTexts};
 ghost use Rattle.trace_rules.specs.declared.forecast.Forecast.{Forecast};
+ghost use Rattle.trace_types.specs.Segments.{SegmentName};
 ghost use Rattle.trace_types.specs.declared.named_trace.NamedTrace.{NamedTrace};
 ghost use Rattle.view_rows.specs.inner.ForecastRows.{forecast_row, forecast_rows};
 ghost use Rattle.view_rows.specs.inner.ForecastRows.{forecast_text, head_row};
@@ -16,7 +17,8 @@ ghost use Rattle.view_rows.specs.inner.NumberedForecasts.{IsShort};
 
 use crate::forecasting::forecast_change;
 use crate::shown::forecast_is_shown;
-use kept_books::KeptBook;
+use judged_books::JudgedBook;
+use judged_books::laws::judged_words_tell;
 use model_meet::Model;
 use mystery_io::Sink;
 use session_rules::{NamedChange, SessionPart};
@@ -24,7 +26,6 @@ use std::alloc::Global;
 use std::thread::Threads;
 use text_rows::laws::{calls_follow, parts_follow, texts_follow};
 use text_rows::{Field, PrintFault, RowBuffer, print_row};
-use trace_graph::laws::bits_tell_graphs;
 use trace_paths::kept_traces;
 use trace_rules::Forecast;
 use trace_types::NamedTrace;
@@ -142,27 +143,27 @@ fn print_all<S: Sink>(
 pub fn print_forecasts<R: Threads + Sync, S: Sink>(
     workers: &WorkerLimit<'_, R>,
     alloc: Global,
-    book: &KeptBook,
+    book: &JudgedBook<'_>,
     change: &NamedChange,
     sink: &mut S,
     buffer: &mut RowBuffer,
 ) -> Result<(), PrintFault>
     requires some { 0 < change.now.den }
     requires less { change.now.num ≤ change.now.den }
-    ensures printed { (kept : List Kept) → AreShown book.now.known (traces_in book.now) kept
+    ensures printed { (given : Digest SegmentName (List ℕ)) (kept : List Kept)
+        → IsJudgedOf book.now given kept
         → PrintsTexts S.written S.faults result sink.old sink.new IsPart
-        (forecast_parts change.now kept) buffer.old buffer.new }
+        (forecast_parts change.now given kept) buffer.old buffer.new }
     ensures counted { S.faults sink.new ≡ print_faults result (S.faults sink.old) }
 {
     // For the proof alone.
-    bits_tell_graphs();
+    judged_words_tell();
     forecast_is_shown();
     parts_follow::<SessionPart>();
-    let catalogue = book.catalogue();
-    let model = Model::new(book.words(), book.names());
-    // For the proof alone.
-    model.tells_exclusions();
-    let traces = kept_traces(alloc, book.day_book())?;
+    let kept_book = book.book();
+    let catalogue = kept_book.catalogue();
+    let model = Model::new(book.words(), kept_book.names());
+    let traces = kept_traces(alloc, kept_book.day_book())?;
     let forecasts = forecast_change(workers, alloc, &traces, &model, catalogue, change)?;
     print_all(sink, buffer, &traces, &forecasts)
 }

@@ -1,19 +1,20 @@
-ghost use Rattle.std.specs.Prelude.{◌≡◌, ◌∷◌, List, codes};
+ghost use Rattle.std.specs.Prelude.{◌≡◌, ◌∷◌, ℕ, List, codes};
 ghost use Rattle.std.specs.List.{flat_map};
-ghost use Rattle.book_laws.specs.Shown.{AreShown};
+ghost use Rattle.digest_facts.specs.Digests.{Digest};
+ghost use Rattle.judged_books.specs.JudgedBooks.{IsJudgedOf};
 ghost use Rattle.view_rows.specs.inner.Found.{figures_in};
-ghost use Rattle.kept_books.specs.KeptBooks.{traces_in};
 ghost use Rattle.session_rules.specs.KeptTraces.{Kept};
 ghost use Rattle.session_rules.specs.ModelTexts.{IsModelHead, IsModelText, header_row, model_text};
 ghost use Rattle.session_rules.specs.ModelTexts.{pair_row, pipe_row};
 ghost use Rattle.text_rows.specs.Printing.{print_faults, PrintsText};
 ghost use Rattle.text_rows.specs.TextsOfParts.{PrintsPart};
+ghost use Rattle.trace_types.specs.Segments.{SegmentName};
 
 use crate::found_model::{FoundModel, find_model};
 use crate::name_pair::NamePair;
 use crate::shown::found_is_shown;
 use crate::task_pair::TaskPair;
-use kept_books::KeptBook;
+use judged_books::JudgedBook;
 use mystery_io::Sink;
 use std::alloc::Global;
 use text_rows::laws::calls_follow;
@@ -113,8 +114,8 @@ fn print_header<S: Sink>(
         buffer,
         &[
             Field::Word("model"),
-            Field::Figure("traces", u128::from(model.traces)),
-            Field::Figure("days", u128::from(model.days)),
+            Field::Figure("traces", model.traces),
+            Field::Figure("days", model.days),
             Field::Figure("segments", u128::from(model.names)),
             Field::Figure("tasks", u128::from(model.tasks)),
             Field::Figure("hb", model.hb.len() as u128),
@@ -177,19 +178,19 @@ fn print_found<S: Sink>(
     print_pipes(sink, buffer, model)
 }
 
-/// Prints the model of the kept traces of a book: a header with the figures, the ordered pairs of
+/// Prints the model of the given digest and the kept traces of a book: a header with the figures, the ordered pairs of
 /// names, the mutually exclusive pairs and the pipelines, each kind in rising order. All pairs are
 /// found before the header is printed. After an error a prefix of the text was printed, or nothing
 /// of it.
 pub fn print_model<S: Sink>(
     alloc: Global,
-    book: &KeptBook,
+    book: &JudgedBook<'_>,
     sink: &mut S,
     buffer: &mut RowBuffer,
 ) -> Result<(), PrintFault>
-    ensures printed { (kept : List Kept)
-        → AreShown book.now.known (traces_in book.now) kept
-        → PrintsPart S.written S.faults result sink.old sink.new (IsModelText kept)
+    ensures printed { (given : Digest SegmentName (List ℕ)) (kept : List Kept)
+        → IsJudgedOf book.now given kept
+        → PrintsPart S.written S.faults result sink.old sink.new (IsModelText given kept)
         buffer.old buffer.new }
     ensures counted { S.faults sink.new ≡ print_faults result (S.faults sink.old) }
 {
@@ -201,13 +202,13 @@ pub fn print_model<S: Sink>(
 /// Prints the header alone of what `print_model` prints.
 pub(crate) fn print_model_head<S: Sink>(
     alloc: Global,
-    book: &KeptBook,
+    book: &JudgedBook<'_>,
     sink: &mut S,
     buffer: &mut RowBuffer,
 ) -> Result<(), PrintFault>
-    ensures printed { (kept : List Kept)
-        → AreShown book.now.known (traces_in book.now) kept
-        → PrintsPart S.written S.faults result sink.old sink.new (IsModelHead kept)
+    ensures printed { (given : Digest SegmentName (List ℕ)) (kept : List Kept)
+        → IsJudgedOf book.now given kept
+        → PrintsPart S.written S.faults result sink.old sink.new (IsModelHead given kept)
         buffer.old buffer.new }
     ensures counted { S.faults sink.new ≡ print_faults result (S.faults sink.old) }
 {

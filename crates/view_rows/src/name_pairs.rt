@@ -1,17 +1,15 @@
-ghost use Rattle.std.specs.Prelude.{◌≡◌, ◌≢◌, ◌↔◌, ◌<◌, ◌++◌, ◌∷◌, [], ℕ, List, length, IsTrue, IfOk};
+ghost use Rattle.std.specs.Prelude.{◌≡◌, ◌≢◌, ◌↔◌, ◌<◌, ◌++◌, ◌∷◌, [], ℕ, length, IsTrue, IfOk};
 ghost use Rattle.std.specs.Prelude.{OnOk, Some, slice_get, if◌then◌else◌};
 ghost use Rattle.view_rows.specs.inner.Growing.{AppendsExactly};
-ghost use Rattle.view_rows.specs.inner.Listings.{AreItemsBelow, IsExclusion, IsOrder, less_always};
-ghost use Rattle.refute_tests.specs.Survivors.{AreSurvivors};
-ghost use Rattle.trace_types.specs.declared.named_trace.NamedTrace.{NamedTrace};
+ghost use Rattle.kept_names.specs.Listings.{AreItemsBelow};
+ghost use Rattle.view_rows.specs.inner.Listings.{IsExclusion, IsOrder};
+ghost use Rattle.model_meet.specs.RelationBits.{HasExclusion, HasOrder};
 ghost use Rattle.trace_types.specs.Listing.{ListsExactly};
 ghost use Rattle.trace_types.specs.NameOrder.{name_cmp, pair_cmp};
-ghost use Rattle.trace_types.specs.Parts.{by_number};
-ghost use Rattle.trace_types.specs.Relations.{ExcludesUnordered, HappensBefore};
 ghost use Rattle.trace_types.specs.Segments.{SegmentName};
 
-use crate::listed::Listed;
 use crate::name_pair::NamePair;
+use kept_names::Listed;
 use model_meet::Model;
 use std::alloc::{AllocError, Global};
 use trace_types::NameText;
@@ -29,8 +27,7 @@ pub(crate) struct NamePairs<'a> {
 fn is_before(model: &Model<'_>, first: u32, second: u32) -> bool
     requires first { first < model.now.names }
     requires second { second < model.now.names }
-    ensures { (traces : List NamedTrace) → AreSurvivors traces model.now.words
-        → IsTrue result ↔ HappensBefore by_number traces first second }
+    ensures { IsTrue result ↔ HasOrder model.now.words first second }
 {
     first != second && model.lists_order(first, second)
 }
@@ -40,9 +37,8 @@ fn is_before(model: &Model<'_>, first: u32, second: u32) -> bool
 fn is_exclusive(model: &Model<'_>, rises: bool, first: u32, second: u32) -> bool
     requires first { first < model.now.names }
     requires second { second < model.now.names }
-    ensures { (traces : List NamedTrace) → AreSurvivors traces model.now.words
-        → IsTrue result ↔ (IsTrue rises × (first ≢ second)
-        × ExcludesUnordered by_number less_always traces first second) }
+    ensures { IsTrue result ↔ (IsTrue rises × (first ≢ second)
+        × HasExclusion model.now.words first second) }
 {
     if !rises {
         return false;
@@ -81,15 +77,13 @@ fn add_row<'a>(
 ) -> Result<(), AllocError>
     requires listed { AreItemsBelow name_cmp model.now.names names.now }
     requires within { at < length names.now }
-    ensures before { OnOk result ((traces : List NamedTrace) (first : SegmentName × ℕ)
-        → AreSurvivors traces model.now.words → slice_get names.now at ≡ Some first
+    ensures before { OnOk result ((first : SegmentName × ℕ) → slice_get names.now at ≡ Some first
         → AppendsExactly (pair_cmp name_cmp)
-        (λ pair. (pair.0 ≡ first.0) × IsOrder names.now traces pair.0 pair.1)
+        (λ pair. (pair.0 ≡ first.0) × IsOrder names.now model.now.words pair.0 pair.1)
         pairs.old.before.items pairs.new.before.items) }
-    ensures exclusive { OnOk result ((traces : List NamedTrace) (first : SegmentName × ℕ)
-        → AreSurvivors traces model.now.words → slice_get names.now at ≡ Some first
+    ensures exclusive { OnOk result ((first : SegmentName × ℕ) → slice_get names.now at ≡ Some first
         → AppendsExactly (pair_cmp name_cmp)
-        (λ pair. (pair.0 ≡ first.0) × IsExclusion names.now traces pair.0 pair.1)
+        (λ pair. (pair.0 ≡ first.0) × IsExclusion names.now model.now.words pair.0 pair.1)
         pairs.old.exclusive.items pairs.new.exclusive.items) }
 {
     let first = &names[at];
@@ -113,12 +107,10 @@ pub(crate) fn name_pairs<'a>(
     names: &[Listed<'a, NameText>],
 ) -> Result<NamePairs<'a>, AllocError>
     requires { AreItemsBelow name_cmp model.now.names names.now }
-    ensures before { IfOk result (λ pairs. (traces : List NamedTrace)
-        → AreSurvivors traces model.now.words → ListsExactly (pair_cmp name_cmp)
-        (λ pair. IsOrder names.now traces pair.0 pair.1) pairs.before.items) }
-    ensures exclusive { IfOk result (λ pairs. (traces : List NamedTrace)
-        → AreSurvivors traces model.now.words → ListsExactly (pair_cmp name_cmp)
-        (λ pair. IsExclusion names.now traces pair.0 pair.1) pairs.exclusive.items) }
+    ensures before { IfOk result (λ pairs. ListsExactly (pair_cmp name_cmp)
+        (λ pair. IsOrder names.now model.now.words pair.0 pair.1) pairs.before.items) }
+    ensures exclusive { IfOk result (λ pairs. ListsExactly (pair_cmp name_cmp)
+        (λ pair. IsExclusion names.now model.now.words pair.0 pair.1) pairs.exclusive.items) }
 {
     let mut pairs = NamePairs {
         before: Vec::new(alloc),

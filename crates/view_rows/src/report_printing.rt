@@ -1,8 +1,9 @@
-ghost use Rattle.std.specs.Prelude.{◌≡◌, [], ◌∷◌, List};
-ghost use Rattle.book_laws.specs.Shown.{AreShown};
-ghost use Rattle.kept_books.specs.KeptBooks.{traces_in};
+ghost use Rattle.std.specs.Prelude.{◌≡◌, [], ◌∷◌, ℕ, List};
+ghost use Rattle.digest_facts.specs.Digests.{Digest};
+ghost use Rattle.judged_books.specs.JudgedBooks.{IsJudgedOf};
 ghost use Rattle.view_rows.specs.inner.NumberedTexts.{latency_row, report_head};
-ghost use Rattle.session_rules.specs.KeptTraces.{Kept, SurvivesIn};
+ghost use Rattle.session_rules.specs.GivenDigests.{SurvivesUnder};
+ghost use Rattle.session_rules.specs.KeptTraces.{Kept};
 ghost use Rattle.session_rules.specs.Parts.{IsPart, LatenciesOf, ReportHead};
 ghost use Rattle.session_rules.specs.ReportTexts.{AreKeptNames, IsLatencyText, IsReportHead};
 ghost use Rattle.session_rules.specs.Sessions.{report_parts};
@@ -13,7 +14,8 @@ ghost use Rattle.trace_types.specs.Segments.{SegmentName};
 use crate::named_rows::print_each;
 use crate::report_texts::{SegmentRows, print_latency, print_report_head};
 use crate::shown::{names_are_below, report_is_shown};
-use kept_books::KeptBook;
+use judged_books::JudgedBook;
+use judged_books::laws::judged_words_tell;
 use latency_report::{FullReport, report};
 use mystery_io::Sink;
 use session_rules::SessionPart;
@@ -29,11 +31,11 @@ pub(crate) fn print_first_rows<S: Sink>(
     buffer: &mut RowBuffer,
     report: &FullReport,
 ) -> Result<(), PrintFault>
-    ensures printed { (kept : List Kept) → IsReportHead (SurvivesIn kept) kept
-        (report_head report.now)
+    ensures printed { (given : Digest SegmentName (List ℕ)) (kept : List Kept)
+        → IsReportHead (SurvivesUnder given kept) kept (report_head report.now)
         → IsLatencyText kept (latency_row report.now.latency)
         → PrintsTexts S.written S.faults result sink.old sink.new IsPart
-        (ReportHead kept ∷ LatenciesOf kept ∷ []) buffer.old buffer.new }
+        (ReportHead given kept ∷ LatenciesOf kept ∷ []) buffer.old buffer.new }
     ensures counted { S.faults sink.new ≡ print_faults result (S.faults sink.old) }
 {
     // For the proof alone.
@@ -51,14 +53,15 @@ pub(crate) fn print_first_rows<S: Sink>(
 pub fn print_report<R: Threads + Sync, S: Sink>(
     workers: &WorkerLimit<'_, R>,
     alloc: Global,
-    book: &KeptBook,
+    book: &JudgedBook<'_>,
     sink: &mut S,
     buffer: &mut RowBuffer,
 ) -> Result<(), PrintFault>
-    ensures printed { (kept : List Kept) → AreShown book.now.known (traces_in book.now) kept
+    ensures printed { (given : Digest SegmentName (List ℕ)) (kept : List Kept)
+        → IsJudgedOf book.now given kept
         → (names : List SegmentName) → AreKeptNames kept names
         → PrintsTexts S.written S.faults result sink.old sink.new IsPart
-        (report_parts kept names) buffer.old buffer.new }
+        (report_parts given kept names) buffer.old buffer.new }
     ensures counted { S.faults sink.new ≡ print_faults result (S.faults sink.old) }
 {
     // For the proof alone.
@@ -66,8 +69,11 @@ pub fn print_report<R: Threads + Sync, S: Sink>(
     part_calls_follow::<S, SessionPart>();
     names_are_below();
     report_is_shown();
-    let catalogue = book.catalogue();
-    let found = report(workers, alloc, book)?;
+    judged_words_tell();
+    let kept_book = book.book();
+    let words = book.words();
+    let catalogue = kept_book.catalogue();
+    let found = report(workers, alloc, kept_book, words)?;
     print_first_rows(sink, buffer, &found)?;
     print_each(sink, buffer, &SegmentRows { catalogue }, found.rows.items())
 }

@@ -4,33 +4,21 @@ ghost use Rattle.view_rows.specs.inner.ShownForecasts.{ForecastIsShown};
 ghost use Rattle.view_rows.specs.inner.ShownPaths.{PathsAreShown};
 ghost use Rattle.view_rows.specs.inner.ShownReports.{NamesAreBelow, ReportIsShown, TailIsShown};
 
-use book_laws::laws::graph_is_shown;
-use session_rules::KeptTrace;
+use judged_books::laws::{judged_graph_is_shown, judged_words_tell};
 use trace_types::laws::{
     a_list_is_told_in_one_way, names_are_totally_ordered, numbering_is_one_to_one,
-    renamed_traces_leave_alike,
 };
-use trace_types::{NameText, NamedSegment, NamedTrace, Segment, Text};
+use trace_types::{NameText, Text};
 
-/// What is found of a book by number are the figures of the kept traces that it shows.
+/// What is found of a judged book by number are the figures of its given digest and of the kept
+/// traces that it shows.
 pub(crate) fn found_is_shown()
     ensures { FoundIsShown }
 {
     // For the proof alone.
+    judged_words_tell();
     numbering_is_one_to_one::<NameText>();
     numbering_is_one_to_one::<Text>();
-    renamed_traces_leave_alike::<
-        NamedTrace,
-        NamedSegment,
-        u32,
-        u32,
-        u32,
-        KeptTrace,
-        Segment,
-        NameText,
-        Text,
-        Text,
-    >();
 }
 
 /// The critical paths of a book's traces show those of the kept traces.
@@ -38,7 +26,7 @@ pub(crate) fn paths_are_shown()
     ensures { PathsAreShown }
 {
     // For the proof alone.
-    graph_is_shown();
+    judged_graph_is_shown();
     numbering_is_one_to_one::<NameText>();
 }
 
@@ -74,6 +62,6 @@ pub(crate) fn forecast_is_shown()
     ensures { ForecastIsShown }
 {
     // For the proof alone.
-    graph_is_shown();
+    judged_graph_is_shown();
     numbering_is_one_to_one::<NameText>();
 }

@@ -1,6 +1,6 @@
-ghost use Rattle.std.specs.Prelude.{◌≡◌, List};
-ghost use Rattle.book_laws.specs.Shown.{AreShown};
-ghost use Rattle.kept_books.specs.KeptBooks.{traces_in};
+ghost use Rattle.std.specs.Prelude.{◌≡◌, ℕ, List};
+ghost use Rattle.digest_facts.specs.Digests.{Digest};
+ghost use Rattle.judged_books.specs.JudgedBooks.{IsJudgedOf};
 ghost use Rattle.session_rules.specs.KeptTraces.{Kept};
 ghost use Rattle.session_rules.specs.Parts.{IsPart};
 ghost use Rattle.session_rules.specs.ReportTexts.{AreKeptNames};
@@ -12,7 +12,8 @@ ghost use Rattle.trace_types.specs.Segments.{SegmentName};
 use crate::named_rows::print_each;
 use crate::shown::{names_are_below, tail_is_shown};
 use crate::tail_texts::{TailRows, print_tail_head};
-use kept_books::KeptBook;
+use judged_books::JudgedBook;
+use judged_books::laws::judged_words_tell;
 use mystery_io::Sink;
 use session_rules::SessionPart;
 use slow_tail::tail;
@@ -27,14 +28,15 @@ use worker_limit::WorkerLimit;
 pub fn print_tail<R: Threads + Sync, S: Sink>(
     workers: &WorkerLimit<'_, R>,
     alloc: Global,
-    book: &KeptBook,
+    book: &JudgedBook<'_>,
     sink: &mut S,
     buffer: &mut RowBuffer,
 ) -> Result<(), PrintFault>
-    ensures printed { (kept : List Kept) → AreShown book.now.known (traces_in book.now) kept
+    ensures printed { (given : Digest SegmentName (List ℕ)) (kept : List Kept)
+        → IsJudgedOf book.now given kept
         → (names : List SegmentName) → AreKeptNames kept names
         → PrintsTexts S.written S.faults result sink.old sink.new IsPart
-        (tail_parts kept names) buffer.old buffer.new }
+        (tail_parts given kept names) buffer.old buffer.new }
     ensures counted { S.faults sink.new ≡ print_faults result (S.faults sink.old) }
 {
     // For the proof alone.
@@ -42,8 +44,11 @@ pub fn print_tail<R: Threads + Sync, S: Sink>(
     part_calls_follow::<S, SessionPart>();
     names_are_below();
     tail_is_shown();
-    let catalogue = book.catalogue();
-    let found = tail(workers, alloc, book)?;
+    judged_words_tell();
+    let kept_book = book.book();
+    let words = book.words();
+    let catalogue = kept_book.catalogue();
+    let found = tail(workers, alloc, kept_book, words)?;
     print_tail_head(sink, buffer, &found)?;
     print_each(sink, buffer, &TailRows { catalogue }, found.rows.items())
 }

@@ -2,17 +2,15 @@ ghost use Rattle.std.specs.Prelude.{◌≡◌, ◌↔◌, ◌<◌, ◌++◌, ◌
 ghost use Rattle.std.specs.Prelude.{OnOk, Some, slice_get, if◌then◌else◌};
 ghost use Rattle.std.specs.Cmp.Lexicographic.{slice_cmp};
 ghost use Rattle.std.specs.Ordering.{nat_cmp};
-ghost use Rattle.refute_tests.specs.Survivors.{AreSurvivors};
-ghost use Rattle.trace_rules.specs.Pipes.{IsPipeline};
-ghost use Rattle.trace_types.specs.declared.named_trace.NamedTrace.{NamedTrace};
+ghost use Rattle.model_meet.specs.RelationBits.{HasPipe};
 ghost use Rattle.trace_types.specs.Listing.{ListsExactly};
 ghost use Rattle.trace_types.specs.NameOrder.{pair_cmp};
-ghost use Rattle.trace_types.specs.Parts.{by_number};
 ghost use Rattle.view_rows.specs.inner.Growing.{AppendsExactly};
-ghost use Rattle.view_rows.specs.inner.Listings.{AreItemsBelow, IsPipe};
+ghost use Rattle.kept_names.specs.Listings.{AreItemsBelow};
+ghost use Rattle.view_rows.specs.inner.Listings.{IsPipe};
 
-use crate::listed::Listed;
 use crate::task_pair::TaskPair;
+use kept_names::Listed;
 use model_meet::Model;
 use std::alloc::{AllocError, Global};
 use trace_types::Text;
@@ -21,8 +19,7 @@ use trace_types::Text;
 fn is_pipe(model: &Model<'_>, from: u32, to: u32) -> bool
     requires from { from < 64 }
     requires to { to < 64 }
-    ensures { (traces : List NamedTrace) → AreSurvivors traces model.now.words
-        → IsTrue result ↔ IsPipeline by_number traces from to }
+    ensures { IsTrue result ↔ HasPipe model.now.words from to }
 {
     from != to && model.lists_pipe(from, to)
 }
@@ -55,10 +52,9 @@ fn add_row<'a>(
 ) -> Result<(), AllocError>
     requires listed { AreItemsBelow (slice_cmp nat_cmp) 64 tasks.now }
     requires within { at < length tasks.now }
-    ensures { OnOk result ((traces : List NamedTrace) (first : List ℕ × ℕ)
-        → AreSurvivors traces model.now.words → slice_get tasks.now at ≡ Some first
+    ensures { OnOk result ((first : List ℕ × ℕ) → slice_get tasks.now at ≡ Some first
         → AppendsExactly (pair_cmp (slice_cmp nat_cmp))
-        (λ pair. (pair.0 ≡ first.0) × IsPipe tasks.now traces pair.0 pair.1)
+        (λ pair. (pair.0 ≡ first.0) × IsPipe tasks.now model.now.words pair.0 pair.1)
         pairs.old.items pairs.new.items) }
 {
     let first = &tasks[at];
@@ -80,9 +76,8 @@ pub(crate) fn task_pairs<'a>(
     tasks: &[Listed<'a, Text>],
 ) -> Result<Vec<TaskPair<'a>>, AllocError>
     requires { AreItemsBelow (slice_cmp nat_cmp) 64 tasks.now }
-    ensures { IfOk result (λ pairs. (traces : List NamedTrace)
-        → AreSurvivors traces model.now.words → ListsExactly (pair_cmp (slice_cmp nat_cmp))
-        (λ pair. IsPipe tasks.now traces pair.0 pair.1) pairs.items) }
+    ensures { IfOk result (λ pairs. ListsExactly (pair_cmp (slice_cmp nat_cmp))
+        (λ pair. IsPipe tasks.now model.now.words pair.0 pair.1) pairs.items) }
 {
     let mut pairs = Vec::new(alloc);
     for at in 0..tasks.len() {

@@ -8,7 +8,8 @@ use Rattle.latency_report.specs.declared.segment_row.SegmentRow.{SegmentRow}
 use Rattle.latency_report.specs.Reports.{IsReport}
 use Rattle.segment_names.specs.Known.{Known}
 use Rattle.segment_names.specs.Limits.{IsKept}
-use Rattle.session_rules.specs.KeptTraces.{Kept, SurvivesIn}
+use Rattle.session_rules.specs.GivenDigests.{SurvivesUnder}
+use Rattle.session_rules.specs.KeptTraces.{Kept}
 use Rattle.session_rules.specs.ReportTexts.{AreKeptNames, IsLatencyText, IsReportHead}
 use Rattle.session_rules.specs.ReportTexts.{IsSegmentText}
 use Rattle.session_rules.specs.TailTexts.{IsTailHead, IsTailText}
@@ -17,43 +18,48 @@ use Rattle.slow_tail.specs.declared.tail_row.TailRow.{TailRow}
 use Rattle.slow_tail.specs.SlowReports.{IsSlowReport}
 use Rattle.trace_paths.specs.NameOrders.{name_with_number}
 use Rattle.trace_paths.specs.NameOrders as numbers
-use Rattle.trace_rules.specs.TraceGraphs.{ExcludesIn}
+use Rattle.digest_facts.specs.Digests.{Digest}
+use Rattle.judged_books.specs.JudgedLaws.{AreJudgedWords}
+use Rattle.model_meet.specs.RelationBits.{KeepsExclusion}
 use Rattle.trace_types.specs.declared.named_trace.NamedTrace.{NamedTrace}
-use Rattle.trace_types.specs.Parts.{by_number}
 use Rattle.trace_types.specs.Segments.{SegmentName}
 use Rattle.view_rows.specs.inner.NumberedTexts.{latency_row, report_head, segment_row}
 use Rattle.view_rows.specs.inner.NumberedTexts.{tail_head, tail_row}
 
 -- the rows of a report are texts of the report on the kept traces, in the order of their names
-pub record AreReportTexts (known : Known) (kept : List Kept) (report : FullReport) : Type 0 where
-  pub head : IsReportHead (SurvivesIn kept) kept (report_head report)
+pub record AreReportTexts (known : Known) (given : Digest SegmentName (List ℕ)) (kept : List Kept)
+    (report : FullReport) : Type 0 where
+  pub head : IsReportHead (SurvivesUnder given kept) kept (report_head report)
   pub latency : IsLatencyText kept (latency_row report.latency)
   pub names : (names : List SegmentName) → AreKeptNames kept names
       → map (λ (r : SegmentRow). name_with_number known.names r.name) report.rows ≡ names
-  pub rows : All (λ (r : SegmentRow). IsSegmentText (SurvivesIn kept) kept
+  pub rows : All (λ (r : SegmentRow). IsSegmentText (SurvivesUnder given kept) kept
       (name_with_number known.names r.name) (segment_row known.names r)) report.rows
 
 -- the report on traces by number gives the texts of the report on the kept traces
 abbrev pub ReportIsShown : Type 0
-ReportIsShown = (known : Known) (traces : List NamedTrace) (kept : List Kept)
-    (report : FullReport) → IsKept known → AreShown known traces kept
-    → IsReport known.names (ExcludesIn by_number traces) traces report
-    → AreReportTexts known kept report
+ReportIsShown = (known : Known) (given : Digest SegmentName (List ℕ)) (words : List ℕ)
+    (traces : List NamedTrace) (kept : List Kept) (report : FullReport) → IsKept known
+    → AreShown known traces kept → AreJudgedWords known given kept words
+    → IsReport known.names (KeepsExclusion words) traces report
+    → AreReportTexts known given kept report
 
 -- the rows of a report on the slowest are texts of that report on the kept traces, likewise
-pub record AreTailTexts (known : Known) (kept : List Kept) (report : SlowReport) : Type 0 where
+pub record AreTailTexts (known : Known) (given : Digest SegmentName (List ℕ)) (kept : List Kept)
+    (report : SlowReport) : Type 0 where
   pub head : IsTailHead kept (tail_head report)
   pub names : (names : List SegmentName) → AreKeptNames kept names
       → map (λ (r : TailRow). name_with_number known.names r.name) report.rows ≡ names
-  pub rows : All (λ (r : TailRow). IsTailText (SurvivesIn kept) kept
+  pub rows : All (λ (r : TailRow). IsTailText (SurvivesUnder given kept) kept
       (name_with_number known.names r.name) (tail_row known.names r)) report.rows
 
 -- the report on the slowest of traces by number gives the texts of that on the kept traces
 abbrev pub TailIsShown : Type 0
-TailIsShown = (known : Known) (traces : List NamedTrace) (kept : List Kept)
-    (report : SlowReport) → IsKept known → AreShown known traces kept
-    → IsSlowReport known.names (ExcludesIn by_number traces) traces report
-    → AreTailTexts known kept report
+TailIsShown = (known : Known) (given : Digest SegmentName (List ℕ)) (words : List ℕ)
+    (traces : List NamedTrace) (kept : List Kept) (report : SlowReport) → IsKept known
+    → AreShown known traces kept → AreJudgedWords known given kept words
+    → IsSlowReport known.names (KeepsExclusion words) traces report
+    → AreTailTexts known given kept report
 
 -- the names of a book's traces are below its number of names
 abbrev pub NamesAreBelow : Type 0

@@ -6,8 +6,8 @@ use Rattle.std.proofs.lemmas.List.{length-map}
 use Rattle.std.proofs.lemmas.Slice.Zip.{AllZip-long}
 use Rattle.day_partitions.specs.Books.{BookState, all_traces}
 use Rattle.model_meet.specs.ModelStates.{ModelState}
+use Rattle.model_meet.specs.RelationBits.{KeepsExclusion}
 use Rattle.refute_tests.specs.Clearing.{HaveNamesBelow}
-use Rattle.refute_tests.specs.Survivors.{AreSurvivors}
 use Rattle.segment_names.specs.Known.{Known}
 use Rattle.trace_types.specs.declared.named_segment.NamedSegment.{NamedSegment}
 use Rattle.trace_types.specs.declared.named_trace.NamedTrace.{NamedTrace}
@@ -15,7 +15,6 @@ use Rattle.trace_types.specs.Listing.{ListsExactly}
 use Rattle.trace_types.specs.NamedSegments.{number_of_name}
 use Rattle.trace_types.specs.Parts.{by_number, segments_of}
 use Rattle.trace_rules.specs.CriticalPaths.{IsCriticalPath}
-use Rattle.trace_rules.specs.TraceGraphs.{ExcludesIn}
 use Rattle.trace_paths.specs.NumberedPaths.{IsNamedPath, IsPathUnder}
 use Rattle.trace_paths.specs.NameOrders.{AreNamesOf, number_cmp}
 use Rattle.trace_paths.specs.Tables.{IsTableOf}
@@ -99,12 +98,10 @@ returns g c =
     subst (λ (k : ℕ). All (IsNamedPath k) paths) (ap (λ (m : ModelState). m.names) c.new-model.ensures)
     (paths_named model c.deref.result.now paths c.in_ok-paths.ensures) in
     let are : traces_at ts ≡ traces = c.in_ok-traces.ensures.traces ∙ ap (λ (b : BookState). all_traces b.days) c.day_book.ensures.book in
-    let tells : AreSurvivors traces model.words = subst (AreSurvivors traces) (sym (ap (λ (m : ModelState). m.words) c.new-model.ensures)) c.words.ensures.survivors in
+    let words : model.words ≡ c.args.words.now = ap (λ (m : ModelState). m.words) c.new-model.ensures in
     let zipped : AllZip (λ (t : Bor NamedTrace) (path : List NamedSegment). IsPathUnder model t.now path) ts paths =
     subst (λ (l : List (Bor NamedTrace)). AllZip (λ (t : Bor NamedTrace) (path : List NamedSegment). IsPathUnder model t.now path) l paths) c.deref.ensures.value c.in_ok-paths.ensures in
     let count : names ≡ c.day_book.result.now.names = c.names-names.ensures.count ∙ (sym c.names-names.ensures.kept.names ∙ ap (λ (b : BookState). b.names) (sym c.day_book.ensures.book)) in
-    let model_below : All (λ (t : Bor NamedTrace). HaveNamesBelow model.names t.now) ts =
-    subst (λ (k : ℕ). All (λ (t : Bor NamedTrace). HaveNamesBelow k t.now) ts) (sym (ap (λ (m : ModelState). m.names) c.new-model.ensures ∙ count)) c.in_ok-traces.ensures.below in
     let latencies : List ℕ = trace_latencies traces in
     let told : c.deref-3.result.now ≡ latencies =
     c.deref-3.ensures.value ∙ (c.in_ok-latencies.ensures ∙ (ap (map (λ (t : Bor NamedTrace). t.now.latency)) c.deref-2.ensures.value ∙ (latencies_shown ts ∙ ap (map (λ (t : NamedTrace). t.latency)) are))) in
@@ -125,7 +122,8 @@ returns g c =
     subst (λ (k : Known). ListsExactly (number_cmp k.names) (λ n. slice_get c.deref-7.result.now n ≡ Some true) (map (λ (r : TailRow). r.name) c.in_ok-rows.rows.items)) c.catalogue.ensures.catalogue rows.names in
     record {
       paths = paths;
-      critical_paths = subst (λ (l : List NamedTrace). AllZip (IsCriticalPath by_number (ExcludesIn by_number traces)) l paths) are (paths_are c.bits_tell_paths.ensures model traces c.tells_exclusions.ensures tells ts paths model_below zipped);
+      critical_paths = subst (λ (l : List NamedTrace). AllZip (IsCriticalPath by_number (KeepsExclusion c.args.words.now)) l paths) are
+          (subst (λ (ws : List ℕ). AllZip (IsCriticalPath by_number (KeepsExclusion ws)) (traces_at ts) paths) words (paths_are model ts paths zipped));
       count = omega (arith, c.len.ensures, c.in_ok-traces.traces.ok.0, ap length are, length-map ts (λ (t : Bor NamedTrace). t.now));
       slow = c.in_ok-slow.ensures.count ∙ ap slow_count many;
       exact = ap (λ (l : List ℕ). count_by (λ (m : Bool). m) (slow_marks l)) (sym told) ∙ c.in_ok-slow.ensures.exact;

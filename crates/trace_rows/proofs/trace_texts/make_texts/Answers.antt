@@ -12,7 +12,7 @@ use Rattle.trace_rows.proofs.trace_texts.make_texts.Goals as goal
 
 pub collect-requires-clause-ready : goal.collect-requires-clause-ready
 collect-requires-clause-ready g c κs within =
-    let names = λ (t : Bor NamedTrace). HaveNamesBelow (length c.args.book.now.known.names) t.now in
+    let names = λ (t : Bor NamedTrace). HaveNamesBelow (length c.args.book.now.book.known.names) t.now in
     rw (c.map.ensures.base, c.map.ensures.f, c.with_min_len.ensures.base, c.par_iter.ensures) (λ k d lt x e. ((subst (λ (p : Piece). All names p.traces.now) (sym e) (pieces_All names c.args.pieces.now c.requires k d lt), search rules), λ y p. tt))
 
 pub returns : goal.returns

@@ -4,9 +4,8 @@ use Rattle.std.specs.List.{AllZip}
 use Rattle.day_partitions.specs.Books.{BookState, all_traces}
 use Rattle.book_laws.specs.Shown.{AreShown}
 use Rattle.model_meet.specs.ModelStates.{ModelState}
-use Rattle.kept_books.specs.KeptBooks.{traces_in}
-use Rattle.refute_tests.specs.Clearing.{HaveNamesBelow}
-use Rattle.refute_tests.specs.Survivors.{AreSurvivors}
+use Rattle.judged_books.specs.JudgedLaws.{AreJudgedWords}
+use Rattle.kept_books.specs.KeptBooks.{KeptState, traces_in}
 use Rattle.segment_names.specs.Known.{Known}
 use Rattle.segment_names.specs.Limits.{IsKept}
 use Rattle.session_rules.specs.Sessions.{forecast_parts}
@@ -44,20 +43,21 @@ print_all-requires-clause-short g c =
     subst (All IsShort) (sym c.deref-3.ensures.value) (all_short c.new-model.result.words (changes_of c.catalogue-catalogue.result.now c.args.change.now) c.in_ok-traces.traces.items c.in_ok-forecasts.forecasts.items (each g (goal.at.print_all-requires-clause-short g c).After-deref-3))
 
 pub returns-clause-printed : goal.returns-clause-printed
-returns-clause-printed g c = λ kept given.
+returns-clause-printed g c = λ given kept judged.
+    let j = c.args.book.now in
     let known = c.catalogue-catalogue.result.now in
     let change = c.args.change.now in
     let words = c.new-model.result.words in
     let lent = c.in_ok-traces.traces.items in
     let fs = c.in_ok-forecasts.forecasts.items in
-    let listed : traces_of lent ≡ traces_in c.args.book.now = c.in_ok-traces.ensures.traces ∙ ap (λ (b : BookState). all_traces b.days) c.day_book.ensures.book in
-    let fits : IsKept known = subst IsKept (sym c.catalogue-catalogue.ensures.catalogue) c.catalogue-catalogue.ensures.kept.known in
-    let tells : AreSurvivors (traces_of lent) words = subst (λ (m : ModelState). AreSurvivors (traces_of lent) m.words) (sym c.new-model.ensures) (subst (λ (ts : List NamedTrace). AreSurvivors ts c.words.result.now) (sym listed) c.words.ensures.survivors) in
-    let all : AreShown known (traces_of lent) kept = subst (λ (k : Known). AreShown k (traces_of lent) kept) (sym c.catalogue-catalogue.ensures.catalogue) (subst (λ (ts : List NamedTrace). AreShown c.args.book.now.known ts kept) (sym listed) given) in
-    let count : c.new-model.result.names ≡ c.day_book.result.now.names = ap (λ (m : ModelState). m.names) c.new-model.ensures ∙ (c.names.ensures.count ∙ (sym c.names.ensures.kept.names ∙ ap (λ (b : BookState). b.names) (sym c.day_book.ensures.book))) in
-    let below : All (λ (t : Bor NamedTrace). HaveNamesBelow c.new-model.result.names t.now) lent = subst (λ (n : ℕ). All (λ (t : Bor NamedTrace). HaveNamesBelow n t.now) lent) (sym count) c.in_ok-traces.ensures.below in
-    let by_traces = told_of c.bits_tell_graphs.ensures c.new-model.result (traces_of lent) c.tells_exclusions.ensures tells (changes_of known change) lent fs below (each g (goal.at.returns-clause-printed g c).After-deref-3) in
-    let told = text_told known change (traces_of lent) kept c.forecast_is_shown.ensures fits all fs by_traces in
+    let listed : traces_of lent ≡ traces_in j.book = c.in_ok-traces.ensures.traces ∙ (ap (λ (b : BookState). all_traces b.days) c.day_book.ensures.book ∙ ap traces_in c.book-kept_book.ensures.book) in
+    let cat : j.book.known ≡ known = sym (c.catalogue-catalogue.ensures.catalogue ∙ ap (λ (k : KeptState). k.known) c.book-kept_book.ensures.book) in
+    let fits : IsKept known = subst IsKept cat c.book-kept_book.ensures.judged.book.known in
+    let same_words : j.words ≡ words = sym (ap (λ (m : ModelState). m.words) c.new-model.ensures ∙ c.words.ensures.words) in
+    let judge : AreJudgedWords known given kept words = subst (λ (k : Known). AreJudgedWords k given kept words) cat (subst (AreJudgedWords j.book.known given kept) same_words (c.judged_words_tell.ensures j given kept judged)) in
+    let all : AreShown known (traces_of lent) kept = subst (λ (k : Known). AreShown k (traces_of lent) kept) cat (subst (λ (ts : List NamedTrace). AreShown j.book.known ts kept) (sym listed) judged.shown) in
+    let by_words = told_of words (changes_of known change) lent fs (each g (goal.at.returns-clause-printed g c).After-deref-3) in
+    let told = text_told known change given words (traces_of lent) kept c.forecast_is_shown.ensures fits all judge fs by_words in
     let same : forecast_text (traces_of c.deref-2.result.now) c.deref-3.result.now ≡ forecast_text (traces_of lent) fs = ap (λ ts. forecast_text (traces_of ts) c.deref-3.result.now) c.deref-2.ensures.value ∙ ap (λ l. forecast_text (traces_of lent) l) c.deref-3.ensures.value in
-    parts_printed g.S.Sink.written g.S.Sink.faults c.print_all.result c.args.sink.now c.print_all.new.sink (forecast_parts change kept) (forecast_text (traces_of lent) fs) c.args.buffer.now c.print_all.new.buffer told
+    parts_printed g.S.Sink.written g.S.Sink.faults c.print_all.result c.args.sink.now c.print_all.new.sink (forecast_parts change given kept) (forecast_text (traces_of lent) fs) c.args.buffer.now c.print_all.new.buffer told
     (subst (λ (text : List ℕ). PrintsText g.S.Sink.written g.S.Sink.faults c.print_all.result c.args.sink.now c.print_all.new.sink c.args.buffer.now c.print_all.new.buffer text) same c.print_all.ensures)

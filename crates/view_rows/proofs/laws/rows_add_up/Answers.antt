@@ -8,7 +8,7 @@ use Rattle.trace_types.specs.declared.named_trace.NamedTrace.{NamedTrace}
 use Rattle.trace_types.specs.Parts.{by_number}
 use Rattle.trace_rules.specs.CriticalPaths.{IsCriticalPath}
 use Rattle.trace_rules.specs.Durations.{paths_with, time_on}
-use Rattle.trace_rules.specs.TraceGraphs.{ExcludesIn}
+use Rattle.model_meet.specs.RelationBits.{KeepsExclusion}
 use Rattle.latency_report.specs.declared.segment_row.SegmentRow.{SegmentRow}
 use Rattle.trace_rules.specs.ReportRows.{AreFiguresOf}
 use Rattle.slow_tail.specs.declared.tail_row.TailRow.{TailRow}
@@ -18,12 +18,12 @@ use Rattle.trace_rules.specs.SlowTraces.{rest_of, slow_of}
 use Rattle.view_rows.proofs.laws.rows_add_up.Goals as goal
 
 pub returns : goal.returns
-returns c = λ known kept traces report full row all slow is has_row has_all same.
+returns c = λ known words traces report full row all slow is has_row has_all same.
     let latencies = trace_latencies traces in
     let of_row = All-contains (λ (r : TailRow). AreSlowAndRest by_number nat_eq (slow_of latencies slow.paths) (rest_of latencies slow.paths) r.name r.slow_on r.slow_sum r.rest_on r.rest_sum) report.rows row slow.rows has_row in
     let of_all = All-contains (λ (r : SegmentRow). AreFiguresOf by_number nat_eq traces is.paths r.name r.figures r.on_path r.on_path_sum) full.rows all is.rows has_all in
-    let one : slow.paths ≡ is.paths = c.paths_are_one.ensures by_number kept traces slow.paths is.paths slow.critical_paths is.critical_paths in
-    let many : length slow.paths ≡ length latencies = AllZip-long (IsCriticalPath by_number (ExcludesIn by_number kept)) traces slow.paths slow.critical_paths ∙ sym (length-map traces (λ (t : NamedTrace). t.latency)) in
+    let one : slow.paths ≡ is.paths = c.paths_by_bits_are_one.ensures words traces slow.paths is.paths slow.critical_paths is.critical_paths in
+    let many : length slow.paths ≡ length latencies = AllZip-long (IsCriticalPath by_number (KeepsExclusion words)) traces slow.paths slow.critical_paths ∙ sym (length-map traces (λ (t : NamedTrace). t.latency)) in
     let parts = c.paths_add_up.ensures by_number nat_eq row.name latencies slow.paths many in
     let count : paths_with by_number nat_eq row.name slow.paths ≡ all.on_path =
     ap (λ (n : ℕ). paths_with by_number nat_eq n slow.paths) same ∙ (ap (paths_with by_number nat_eq all.name) one ∙ sym of_all.on_path) in

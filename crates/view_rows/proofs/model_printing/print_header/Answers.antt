@@ -11,12 +11,10 @@ header traces days names tasks hb mx pipe = row_of (codes "model" ∷ figure (co
 pub returns : goal.returns
 returns g c =
     let m = c.args.model.now in
-    let traces : c.from.result ≡ m.traces = search rules in
-    let days : c.from-2.result ≡ m.days = search rules in
-    let names : c.from-3.result ≡ m.names = search rules in
-    let tasks : c.from-4.result ≡ m.tasks = search rules in
+    let names : c.from.result ≡ m.names = search rules in
+    let tasks : c.from-2.result ≡ m.tasks = search rules in
     let hb : c.len.result ≡ length m.hb.items = search rules in
     let mx : c.len-2.result ≡ length m.mx.items = search rules in
     let pipe : c.len-3.result ≡ length m.pipe.items = search rules in
-    let same : header c.from.result c.from-2.result c.from-3.result c.from-4.result c.len.result c.len-2.result c.len-3.result ≡ header m.traces m.days m.names m.tasks (length m.hb.items) (length m.mx.items) (length m.pipe.items) = cc in
+    let same : header m.traces m.days c.from.result c.from-2.result c.len.result c.len-2.result c.len-3.result ≡ header m.traces m.days m.names m.tasks (length m.hb.items) (length m.mx.items) (length m.pipe.items) = cc in
     subst (λ (text : List ℕ). PrintsText g.S.Sink.written g.S.Sink.faults c.print_row.result c.args.sink.now c.print_row.new.sink c.args.buffer.now c.print_row.new.buffer text) same c.print_row.ensures.prints

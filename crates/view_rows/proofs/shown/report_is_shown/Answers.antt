@@ -2,5 +2,5 @@ use Rattle.view_rows.proofs.ReportLemmas.{report_shown}
 use Rattle.view_rows.proofs.shown.report_is_shown.Goals as goal
 
 pub returns : goal.returns
-returns c = λ known traces kept report fits shown is.
-    report_shown known traces kept fits shown (c.numbering_is_one_to_one.ensures.matched known.names) c.paths_are_shown.ensures c.names_are_totally_ordered.ensures.names c.a_list_is_told_in_one_way.ensures.listed report is
+returns c = λ known given words traces kept report fits shown judge is.
+    report_shown known given words traces kept fits shown judge (c.numbering_is_one_to_one.ensures.matched known.names) c.paths_are_shown.ensures c.names_are_totally_ordered.ensures.names c.a_list_is_told_in_one_way.ensures.listed report is

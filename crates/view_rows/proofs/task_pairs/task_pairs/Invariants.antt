@@ -1,14 +1,12 @@
-use Rattle.std.proofs.Common.{List, take}
+use Rattle.std.proofs.Common.{take}
 use Rattle.std.specs.Cmp.Lexicographic.{slice_cmp}
 use Rattle.std.specs.Ordering.{nat_cmp}
 use Rattle.view_rows.specs.inner.Listings.{IsPipe}
-use Rattle.refute_tests.specs.Survivors.{AreSurvivors}
-use Rattle.trace_types.specs.declared.named_trace.NamedTrace.{NamedTrace}
 use Rattle.trace_types.specs.Listing.{ListsExactly}
 use Rattle.trace_types.specs.NameOrder.{pair_cmp}
-use Rattle.view_rows.proofs.ListingLemmas.{texts_of}
+use Rattle.kept_names.proofs.ListingLemmas.{texts_of}
 use Rattle.view_rows.proofs.PairLemmas.{IsInRows}
 use Rattle.view_rows.proofs.task_pairs.task_pairs.Given as goal
 
 abbrev pub invariant-loop-at : goal.invariant-loop-at
-invariant-loop-at l = (traces : List NamedTrace) → AreSurvivors traces l.model.words → ListsExactly (pair_cmp (slice_cmp nat_cmp)) (IsInRows (IsPipe l.tasks traces) (take l.at (texts_of l.tasks))) l.pairs.items
+invariant-loop-at l = ListsExactly (pair_cmp (slice_cmp nat_cmp)) (IsInRows (IsPipe l.tasks l.model.words) (take l.at (texts_of l.tasks))) l.pairs.items
