@@ -1,5 +1,5 @@
 -- The lines of a drill are good, and say the events of its traces.
-use Rattle.std.proofs.Common.{◌≡◌, ℕ, zero, suc, ◌+◌, ◌*◌, ◌≤◌, ◌<◌, List, [], ◌∷◌, ◌++◌, Result, Ok, Err, codes, length, decimal, map, max, refl, sym, ap, ◌∙◌, arith, append_assoc, append-nil}
+use Rattle.std.proofs.Common.{◌≡◌, ℕ, zero, suc, ◌+◌, ◌*◌, ◌≤◌, ◌<◌, List, [], ◌∷◌, ◌++◌, Result, Ok, Err, codes, length, decimal, map, max, refl, sym, ap, ◌∙◌, arith, append_assoc, append-nil, length-append}
 use Rattle.std.specs.Prelude.{All, Contains}
 use Rattle.std.specs.List.{flat_map, range_with_len}
 use Rattle.std.specs.Result.{result_map_both}
@@ -95,11 +95,12 @@ trace_readable b d1 d2 d3 d4 d5 low high h1 h2 h3 h4 h5 =
 
 -- ---- bytes that say events
 
--- the bytes are so many whole lines from number n on, and say these events of a drill
-record Says (n : ℕ) (text : List ℕ) : Type 0 where
+-- the bytes are so many whole lines from number n on, and say these events of a drill, at most so many
+record Says (n : ℕ) (text : List ℕ) (most : ℕ) : Type 0 where
   count : ℕ
   events : List events.Event
   good : All IsDrillEvent events
+  few : length events ≤ most
   said : (more : List ℕ) → lines_said_from n (input_lines (text ++ more)) ≡ both_said (Ok (map Event events)) (lines_said_from (n + count) (input_lines more))
 
 joined : (xs ys : List Line) (r : Result (List Line) LineFault) → both_said (Ok xs) (both_said (Ok ys) r) ≡ both_said (Ok (xs ++ ys)) r
@@ -110,19 +111,21 @@ with_none : (r : Result (List Line) LineFault) → r ≡ both_said (Ok []) r
 with_none (Ok xs) = refl
 with_none (Err e) = refl
 
-says_none : (n : ℕ) → Says n []
+says_none : (n : ℕ) → Says n [] 0
 says_none n = record {
   count = 0;
   events = [];
   good = All-nil IsDrillEvent;
+  few = omega arith;
   said = λ more. let same : n ≡ n + 0 = omega arith in with_none (lines_said_from n (input_lines more)) ∙ ap (λ m. both_said (Ok []) (lines_said_from m (input_lines more))) same;
 }
 
-says_both : (n : ℕ) (a b : List ℕ) (h : Says n a) → Says (n + h.count) b → Says n (a ++ b)
-says_both n a b h k = record {
+says_both : (n : ℕ) (a b : List ℕ) (p q : ℕ) (h : Says n a p) → Says (n + h.count) b q → Says n (a ++ b) (p + q)
+says_both n a b p q h k = record {
   count = h.count + k.count;
   events = h.events ++ k.events;
   good = All-append IsDrillEvent h.events k.events h.good k.good;
+  few = omega (arith, h.few, k.few, length-append h.events k.events);
   said = λ more.
       let same : n + h.count + k.count ≡ n + (h.count + k.count) = omega arith in
       ap (λ t. lines_said_from n (input_lines t)) (append_assoc a b more) ∙ h.said (b ++ more) ∙ ap (both_said (Ok (map Event h.events))) (k.said more)
@@ -131,9 +134,13 @@ says_both n a b h k = record {
       ∙ ap (λ m. both_said (Ok (map Event (h.events ++ k.events))) (lines_said_from m (input_lines more))) same;
 }
 
+-- and so at most more
+says_more : (n : ℕ) (text : List ℕ) (p q : ℕ) → p ≤ q → Says n text p → Says n text q
+says_more n text p q le h = record { count = h.count; events = h.events; good = h.good; few = omega (arith, h.few); said = h.said }
+
 module _ (pieces : (n : ℕ) (front back : List ℕ)
     → lines_said_from n (input_lines (front ++ 10 ∷ back)) ≡ both_said (lines_said_from n (input_lines front)) (lines_said_from (n + length (input_lines front)) (input_lines back))) where
-  says_line : (n k : ℕ) → k < 20000 → (line : input.Line) → IsReadable line → Says n (line_of k line)
+  says_line : (n k : ℕ) → k < 20000 → (line : input.Line) → IsReadable line → Says n (line_of k line) 1
   says_line n k few line h =
       let r : List ℕ = 114 ∷ decimal k in
       let body : List ℕ = body_of r line.machine line.task line.event line.time h.kind in
@@ -150,6 +157,7 @@ module _ (pieces : (n : ℕ) (front back : List ℕ)
         count = 1;
         events = event ∷ [];
         good = All-cons IsDrillEvent event [] (record { pair = h.pair; from = omega (arith, h.from); until = omega (arith, h.until) }) (All-nil IsDrillEvent);
+        few = omega arith;
         said = λ more.
             ap (λ t. lines_said_from n (input_lines (t ++ more))) whole ∙ ap (λ t. lines_said_from n (input_lines t)) (append_assoc body (10 ∷ []) more)
             ∙ pieces n body more
@@ -157,28 +165,36 @@ module _ (pieces : (n : ℕ) (front back : List ℕ)
             ∙ ap (λ said. both_said said (lines_said_from (n + 1) (input_lines more))) one;
       }
 
-  says_lines : (n k : ℕ) → k < 20000 → (lines : List input.Line) → AreReadable lines → Says n (flat_map (line_of k) lines)
+  says_lines : (n k : ℕ) → k < 20000 → (lines : List input.Line) → AreReadable lines → Says n (flat_map (line_of k) lines) (length lines)
   says_lines n k few [] h = says_none n
   says_lines n k few (line ∷ lines) h =
       let first = says_line n k few line h.0 in
-      says_both n (line_of k line) (flat_map (line_of k) lines) first (says_lines (n + first.count) k few lines h.1)
+      says_more n (flat_map (line_of k) (line ∷ lines)) (1 + length lines) (length (line ∷ lines)) (omega arith)
+      (says_both n (line_of k line) (flat_map (line_of k) lines) 1 (length lines) first (says_lines (n + first.count) k few lines h.1))
 
   draw_small : (number index : ℕ) → draw number index < 1000
   draw_small number index = omega arith
 
-  says_trace : (n number k : ℕ) → k < 20000 → Says n (lines_of_trace number k)
-  says_trace n number k few =
-      says_lines n k few (lines_of (trace_start k) (draw number (5 * k)) (draw number (5 * k + 1)) (draw number (5 * k + 2)) (draw number (5 * k + 3)) (draw number (5 * k + 4)))
-      (trace_readable (trace_start k) _ _ _ _ _ (omega arith) (omega arith) (draw_small number _) (draw_small number _) (draw_small number _) (draw_small number _) (draw_small number _))
+  eleven : (b d1 d2 d3 d4 d5 : ℕ) → length (lines_of b d1 d2 d3 d4 d5) ≡ 11
+  unfolding lines_of
+  eleven b d1 d2 d3 d4 d5 = refl
 
-  says_traces : (n number a count : ℕ) → a + count ≤ 20000 → Says n (flat_map (lines_of_trace number) (range_with_len a count))
+  says_trace : (n number k : ℕ) → k < 20000 → Says n (lines_of_trace number k) 11
+  says_trace n number k few =
+      let all : List input.Line = lines_of (trace_start k) (draw number (5 * k)) (draw number (5 * k + 1)) (draw number (5 * k + 2)) (draw number (5 * k + 3)) (draw number (5 * k + 4)) in
+      let size : length all ≡ 11 = eleven (trace_start k) _ _ _ _ _ in
+      says_more n (lines_of_trace number k) (length all) 11 (omega (arith, size)) (says_lines n k few (lines_of (trace_start k) (draw number (5 * k)) (draw number (5 * k + 1)) (draw number (5 * k + 2)) (draw number (5 * k + 3)) (draw number (5 * k + 4)))
+      (trace_readable (trace_start k) _ _ _ _ _ (omega arith) (omega arith) (draw_small number _) (draw_small number _) (draw_small number _) (draw_small number _) (draw_small number _)))
+
+  says_traces : (n number a count : ℕ) → a + count ≤ 20000 → Says n (flat_map (lines_of_trace number) (range_with_len a count)) (11 * count)
   says_traces n number a zero few = says_none n
   says_traces n number a (suc count) few =
       let first = says_trace n number a (omega arith) in
-      says_both n (lines_of_trace number a) (flat_map (lines_of_trace number) (range_with_len (a + 1) count)) first (says_traces (n + first.count) number (a + 1) count (omega arith))
+      says_more n (flat_map (lines_of_trace number) (range_with_len a (suc count))) (11 + 11 * count) (11 * suc count) (omega arith)
+      (says_both n (lines_of_trace number a) (flat_map (lines_of_trace number) (range_with_len (a + 1) count)) 11 (11 * count) first (says_traces (n + first.count) number (a + 1) count (omega arith)))
 
-  -- the lines of a drill are all event lines, and good
-  pub input_said : (number traces : ℕ) → traces ≤ 20000 → (events : List events.Event) × All IsDrillEvent events × (lines_said (drill_input number traces) ≡ Ok (map Event events))
+  -- the lines of a drill are all event lines, good and few
+  pub input_said : (number traces : ℕ) → traces ≤ 20000 → (events : List events.Event) × All IsDrillEvent events × (lines_said (drill_input number traces) ≡ Ok (map Event events)) × (length events ≤ 220000)
   input_said number traces few =
       let h = says_traces 1 number 0 traces (omega arith) in
-      (h.events, h.good, ap (λ t. lines_said_from 1 (input_lines t)) (sym (append-nil (drill_input number traces))) ∙ h.said [] ∙ ap Ok (append-nil (map Event h.events)))
+      (h.events, h.good, ap (λ t. lines_said_from 1 (input_lines t)) (sym (append-nil (drill_input number traces))) ∙ h.said [] ∙ ap Ok (append-nil (map Event h.events)), omega (arith, h.few))

@@ -1,21 +1,25 @@
--- The traces of a drill have few names and tasks, and are of few days.
+-- The traces of a drill are few, have few names and tasks, and are of few days.
 use Rattle.std.proofs.Common.{◌≡◌, ◌≢◌, ℕ, zero, suc, ◌+◌, ◌/◌, ◌<◌, ◌≤◌, ◌&&◌, List, [], ◌∷◌, Bool, true, false, Result, Ok, Err, length, map, take, refl, sym, ap, subst, arith}
-use Rattle.std.specs.Prelude.{All, Contains, ℤ, flat_map, nat_eq, nat_le, if◌then◌else◌}
+use Rattle.std.specs.Prelude.{All, Contains, ℤ, flat_map, nat_eq}
 use Rattle.std.specs.Bool.{Decides}
 use Rattle.std.specs.List.{AllZip, range_with_len}
 use Rattle.std.specs.Str.{bytes_eq}
 use Rattle.std.proofs.lemmas.Bool.{and_parts, eqb-true, eq-eqb}
 use Rattle.std.proofs.lemmas.List.Elements.{All-append, All-cons, All-filter, All-head, All-nil, All-tail}
 use Rattle.std.proofs.lemmas.Slice.Eq.{bytes_eq-Decides}
+use Rattle.std.proofs.lemmas.List.{length-map}
+use Rattle.certificate_laws.proofs.TakenLemmas.{all_taken, length-with_taken}
+use Rattle.certificate_laws.proofs.TraceLemmas.{valid_few}
+use Rattle.digest_facts.specs.Digests.{empty_digest}
 use Rattle.segment_cut.specs.Cutting.{IsCut, IsSegment}
 use Rattle.segment_cut.specs.declared.trace_fault.TraceFault.{TraceFault}
 use Rattle.segment_names.specs.Known.{same_name, with_traces}
 use Rattle.session_rules.specs.Batches.{AreJudged, IsJudged, valid_of}
-use Rattle.session_rules.specs.KeptTraces.{Kept, day_of, kept_with, taken_in, with_taken, days_of}
+use Rattle.session_rules.specs.KeptTraces.{Kept, day_of, kept_with, days_of}
 use Rattle.session_rules.specs.Sessions.{PassesLimitOf, first_state, graced, kept_after}
 use Rattle.session_rules.specs.declared.limit.Limit.{Limit}
 use Rattle.session_rules.specs.declared.refused.Refused.{Refused}
-use Rattle.session_rules.specs.declared.limit.Limit.TheVariants.{Names, Tasks, Days}
+use Rattle.session_rules.specs.declared.limit.Limit.TheVariants.{Names, Tasks, Days, Traces}
 use Rattle.trace_types.specs.Batch.{PlainTrace, is_of_request, requests_of, trace_of, traces_of}
 use Rattle.trace_types.specs.Events.{event_name_at, task_at, time_at}
 use Rattle.trace_types.specs.Segments.{SegmentName, name_of, task_of}
@@ -149,41 +153,35 @@ taken zero ts h = All-nil IsDrillTrace
 taken (suc n) [] h = All-nil IsDrillTrace
 taken (suc n) (t ∷ ts) h = All-cons IsDrillTrace t (take n ts) (All-head IsDrillTrace t ts h) (taken n ts (All-tail IsDrillTrace t ts h))
 
-few_names : (ts : List Trace) → All IsDrillTrace ts → length (with_traces first_state.known ts).names ≤ 144
+few_names : (ts : List Trace) → All IsDrillTrace ts → length (with_traces (first_state empty_digest).known ts).names ≤ 144
 few_names ts h = few_firsts same_name name_exact (map name_of (flat_map (λ (t : Trace). t.segments) ts)) some_names (mapped_all IsDrillSegment (Contains some_names) name_of _ (λ s g. g.name) (all_segments ts h))
 
-few_tasks : (ts : List Trace) → All IsDrillTrace ts → length (with_traces first_state.known ts).tasks ≤ 12
+few_tasks : (ts : List Trace) → All IsDrillTrace ts → length (with_traces (first_state empty_digest).known ts).tasks ≤ 12
 few_tasks ts h = few_firsts bytes_eq bytes_eq-Decides (map task_of (flat_map (λ (t : Trace). t.segments) ts)) some_tasks (mapped_all IsDrillSegment (Contains some_tasks) task_of _ (λ s g. g.task) (all_segments ts h))
 
 -- ---- days
 
-module _ (P : Kept → Type 0) where
-  taken_by : (before : Bool) (k t : Kept) (kept more : List Kept) → All P (k ∷ kept) → P t → All P more → All P (if before then k ∷ more else t ∷ k ∷ kept)
-  taken_by true k t kept more h p q = All-cons P k more (All-head P k kept h) q
-  taken_by false k t kept more h p q = All-cons P t (k ∷ kept) p h
-
-  one_taken : (kept : List Kept) (t : Kept) → All P kept → P t → All P (taken_in kept t)
-  one_taken [] t h p = All-cons P t [] p h
-  one_taken (k ∷ kept) t h p = taken_by (nat_le (day_of k) (day_of t)) k t kept (taken_in kept t) h p (one_taken kept t (All-tail P k kept h) p)
-
-  all_taken : (kept ts : List Kept) → All P kept → All P ts → All P (with_taken kept ts)
-  all_taken kept [] h p = h
-  all_taken kept (t ∷ ts) h p = all_taken (taken_in kept t) ts (one_taken kept t h (All-head P t ts p)) (All-tail P t ts p)
-
-few_days : (ts : List Trace) → All IsDrillTrace ts → length (days_of (kept_after first_state ts)) ≤ 21
+few_days : (ts : List Trace) → All IsDrillTrace ts → length (days_of (kept_after (first_state empty_digest) ts)) ≤ 21
 few_days ts h =
     let P : Kept → Type 0 = λ k. Contains some_days (day_of k) in
-    let kept = all_taken P [] (graced first_state ts) (All-nil P) (mapped_all IsDrillTrace P (kept_with 0) ts (λ t g. g.day) h) in
-    few_firsts nat_eq number_exact (map day_of (kept_after first_state ts)) some_days (mapped_all P (Contains some_days) day_of (kept_after first_state ts) (λ k g. g) kept)
+    let kept = all_taken P [] (graced (first_state empty_digest) ts) (All-nil P) (mapped_all IsDrillTrace P (kept_with 0) ts (λ t g. g.day) h) in
+    few_firsts nat_eq number_exact (map day_of (kept_after (first_state empty_digest) ts)) some_days (mapped_all P (Contains some_days) day_of (kept_after (first_state empty_digest) ts) (λ k g. g) kept)
+
+-- ---- how many there are
+
+few_kept : (ts : List Trace) → length (kept_after (first_state empty_digest) ts) ≤ length ts
+few_kept ts = omega (arith, length-with_taken [] (graced (first_state empty_digest) ts), length-map ts (kept_with 0))
 
 -- ---- an add of a drill
 
-passes : (valid : List Trace) → All IsDrillTrace valid → (limit : Limit) → PassesLimitOf first_state valid limit → ⊥
-passes valid h (Names count) (k, within, fits, passed) = absurd (omega (arith, few_names (take (k + 1) valid) (taken (k + 1) valid h), passed.0))
-passes valid h (Tasks count) (k, within, fits, passed) = absurd (omega (arith, few_tasks (take (k + 1) valid) (taken (k + 1) valid h), passed.1))
-passes valid h (Days count) (fits, more, is) = absurd (omega (arith, few_days valid h, more))
+passes : (valid : List Trace) → All IsDrillTrace valid → length valid ≤ 220000 → (limit : Limit) → PassesLimitOf (first_state empty_digest) valid limit → ⊥
+passes valid h few (Names count) (k, within, fits, passed) = absurd (omega (arith, few_names (take (k + 1) valid) (taken (k + 1) valid h), passed.0))
+passes valid h few (Tasks count) (k, within, fits, passed) = absurd (omega (arith, few_tasks (take (k + 1) valid) (taken (k + 1) valid h), passed.1))
+passes valid h few (Days count) (fits, more, is) = absurd (omega (arith, few_days valid h, more))
+passes valid h few Traces (fits, days, more) = absurd (omega (arith, few_kept valid, few, more))
 
 -- the first add of a drill passes no limit
-pub add_passes : (batch : List Event) (valid : List Trace) (refused : List Refused) → All IsDrillEvent batch → AreJudged (traces_of batch) valid refused → (limit : Limit) → PassesLimitOf first_state valid limit → ⊥
-add_passes batch valid refused h judged limit over =
-    passes valid (subst (All IsDrillTrace) (sym judged.valid_are) (valid_by (traces_of batch) judged.verdicts (raws_of_drill batch (requests_of batch) h) judged.each)) limit over
+pub add_passes : (batch : List Event) (valid : List Trace) (refused : List Refused) → All IsDrillEvent batch → length batch ≤ 220000 → AreJudged (traces_of batch) valid refused → (limit : Limit) → PassesLimitOf (first_state empty_digest) valid limit → ⊥
+add_passes batch valid refused h few judged limit over =
+    let small : length valid ≤ 220000 = omega (arith, ap (λ (ts : List Trace). length ts) judged.valid_are, valid_few batch judged.verdicts judged.each, few) in
+    passes valid (subst (All IsDrillTrace) (sym judged.valid_are) (valid_by (traces_of batch) judged.verdicts (raws_of_drill batch (requests_of batch) h) judged.each)) small limit over

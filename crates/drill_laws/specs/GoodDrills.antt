@@ -13,10 +13,11 @@ abbrev pub DrillLinesAreGood : Type 0
 DrillLinesAreGood = (number traces : ℕ) → traces ≤ 20000
     → (lines : List Line) × (lines_said (drill_input number traces) ≡ Ok lines)
 
--- a run whose arguments ask for a drill, whatever its numbers are, is done, or is out of memory, or
--- could not write its text: status 0, 1 or 5
+-- a run whose arguments ask for a drill, whatever its numbers are and whatever they give it, is
+-- done, or is out of memory, or could not write its text: status 0, 1 or 5
 abbrev pub DrillsEndWell : Type 0
 DrillsEndWell = (seen : Seen) (outcome : Outcome) (workers number traces : ℕ)
-    → call_of seen.words ≡ Some (record { workers = workers; action = drill number traces })
+    (given : List (List ℕ)) → call_of seen.words
+    ≡ Some (record { workers = workers; given = given; action = drill number traces })
     → Explains outcome seen
     → (outcome ≡ Done) ⊎ (outcome ≡ Memory) ⊎ (outcome ≡ Write)

@@ -2,17 +2,22 @@
 use Rattle.std.proofs.Common.{◌≡◌, ◌≤◌, ℕ, List, [], ◌++◌, length, Option, Result, Ok, arith, ap, refl, subst, sym, ◌∙◌, append-nil, append_assoc}
 use Rattle.std.specs.Prelude.{Vec}
 use Rattle.std.specs.declared.alloc.Global.{Global}
+use Rattle.certificates.specs.Certificates.{certificate_said}
+use Rattle.certificates.specs.declared.claim.Claim.{Claim}
+use Rattle.digest_facts.specs.Digests.{empty_digest}
+use Rattle.digest_facts.specs.Tables.{Table}
 use Rattle.event_lines.specs.declared.line.Line.{Line}
 use Rattle.event_lines.specs.InputLines.{LineFault, lines_said}
 use Rattle.event_lines.specs.LinesTaken.{LinesTaken, TakesBytes, said_with}
 use Rattle.mystery_io.specs.Input.{input_limit}
-use Rattle.session_rules.specs.declared.job.Job.{Job}
+use Rattle.trace_types.specs.Segments.{SegmentName}
 use Rattle.mystery_run.specs.declared.input.Input.{Input}
 use Rattle.mystery_run.specs.declared.input.Input.TheVariants.{Bytes, Lines, Bad}
 use Rattle.mystery_run.specs.declared.input_form.InputForm.{InputForm}
 use Rattle.mystery_run.specs.declared.input_form.InputForm.TheVariants as forms
 use Rattle.mystery_run.specs.declared.outcome.Outcome.{Outcome}
-use Rattle.mystery_run.specs.Works.{work_from, jobs_said, steps_said}
+use Rattle.mystery_run.specs.Works.{preface_said, steps_said}
+use Rattle.mystery_run.specs.inner.GivenTables.{AreGiven, IsUsable}
 use Rattle.mystery_run.specs.inner.InputEnds.{InputEnds}
 use Rattle.mystery_run.specs.inner.Inputs.{HasTaken, IsInputOf, IsReadAs, IsWithinLimit, bytes_kept, lines_said_by}
 
@@ -23,11 +28,6 @@ has_taken_more old new taken bytes h before = λ later. h.said later ∙ before 
 -- all bytes were taken
 pub said_of_all : (taken : LinesTaken) (bytes : List ℕ) (said : Result (List Line) LineFault) → HasTaken taken bytes → said_with taken [] ≡ said → lines_said bytes ≡ said
 said_of_all taken bytes said h e = ap lines_said (sym (append-nil bytes)) ∙ sym (h []) ∙ e
-
--- jobs that end as the lines of an input say end as its bytes say
-pub ends_of_bytes : (workers : ℕ) (last : Option Job) (input : Input) (o : Outcome) (before now : Option (List ℕ)) → InputEnds workers (work_from last (lines_said_by input)) o before now
-    → (bytes : List ℕ) → IsInputOf forms.Lines input bytes → InputEnds workers (jobs_said last bytes) o before now
-ends_of_bytes workers last input o before now h bytes is = subst (λ said. InputEnds workers (work_from last said) o before now) is h
 
 -- bytes that are kept are an input of each form
 pub bytes_are : (form : InputForm) (input : Input) (bytes : List ℕ) → lines_said_by input ≡ lines_said bytes → bytes_kept input ≡ bytes → IsInputOf form input bytes
@@ -61,3 +61,16 @@ pub kept_within : (input : Input) → IsWithinLimit input → length (bytes_kept
 kept_within (Bytes bytes) within = within
 kept_within (Lines lines) within = omega arith
 kept_within (Bad line reason) within = omega arith
+
+-- what the bytes of a certificate say, and that nothing is given beside them
+pub claims_said : (bytes known : List ℕ) (claims : List Claim) (tables : List (Table SegmentName (List ℕ))) → bytes ≡ known → certificate_said bytes ≡ Ok claims → tables ≡ []
+    → preface_said [] known ≡ Ok (record { tables = tables; claims = claims })
+claims_said bytes known claims tables same said none = rw (← same, said, none) refl
+
+-- claims that were read, and nothing that is given
+pub claims_usable : (tables : List (Table SegmentName (List ℕ))) (claims items : List Claim) (bytes known : List ℕ) → tables ≡ [] → claims ≡ items → length items ≤ length bytes → bytes ≡ known → length known ≤ input_limit
+    → IsUsable (record { tables = tables; claims = claims })
+claims_usable tables claims items bytes known none same few read fits = record {
+  given = subst AreGiven (sym none) (empty_digest, record { digests = []; tables = tt; merge = refl });
+  few = omega (arith, ap length same, few, ap length read, fits);
+}

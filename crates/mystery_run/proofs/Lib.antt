@@ -1,5 +1,6 @@
 pub mod DecidedLemmas
 pub mod EndingLemmas
+pub mod GivenLemmas
 pub mod HexLemmas
 pub mod HonestLemmas
 pub mod InputLemmas

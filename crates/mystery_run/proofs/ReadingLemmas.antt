@@ -179,7 +179,7 @@ some_names (x ∷ xs) e = omega arith
 pub without_names : (names : List (List ℕ)) → (length names == 0) ≡ true → names ≡ []
 without_names names e = nil_from_length names (eqb-true (length names) 0 e)
 
--- a reading that passes the limit in a file passes it: that of the certificate, whose readings are no
+-- a reading that passes the limit in a file passes it: that of the preface, whose readings are no
 -- more than its names, or that of the input
 few_first : (seen : FilesSeen) (cert : List (List ℕ)) (count : ℕ) → OpensFirst seen cert count → take (length cert) seen.readings ≡ seen.readings
 few_first seen cert count h =

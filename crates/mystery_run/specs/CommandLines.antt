@@ -1,7 +1,9 @@
--- The grammar of the arguments: `[--workers N] COMMAND`, where COMMAND is `session FILE...`, a view
--- as `model FILE...`, `whatif TASK START END NUM DEN FILE...`, `tail FILE...`, `why FILE...`,
--- `verify CERT FILE...`, `evidence [--least N] [--reduced] FILE...`, `drill NUMBER TRACES` or
--- `replay FILE`. The two options of `evidence` stand in either order.
+-- The grammar of the arguments: `[--workers N] [--given FILE]... COMMAND`, where COMMAND is
+-- `session FILE...`, a view as `model FILE...`, `whatif TASK START END NUM DEN FILE...`,
+-- `tail FILE...`, `why FILE...`, `verify CERT FILE...`, `evidence [--least N] [--reduced] FILE...`,
+-- `drill NUMBER TRACES` or `replay FILE`. The two options of `evidence` stand in either order.
+-- Where something is given COMMAND is a view, `whatif` or `tail`, and `model` and `summarize` need
+-- no FILE.
 use Rattle.std.specs.Prelude.{ℕ, ◌^◌, ◌==◌, ◌||◌, List, [], ◌∷◌, ◌++◌, length, codes, not, nat_lt}
 use Rattle.std.specs.Prelude.{Bool, true, false, if◌then◌else◌, Option, Some, None, is_some}
 use Rattle.std.specs.Prelude.{option_and_then, option_map}
@@ -12,6 +14,7 @@ use Rattle.std.specs.Str.{bytes_eq}
 use Rattle.evidence_rules.specs.declared.choice.Choice.{Choice}
 use Rattle.mystery_run.specs.declared.view.View.{View}
 use Rattle.mystery_run.specs.declared.view.View.TheVariants.{Model, Paths, Slack, Report, Graph}
+use Rattle.mystery_run.specs.declared.view.View.TheVariants.{Summarize}
 use Rattle.session_rules.specs.declared.named_change.NamedChange.{NamedChange}
 use Rattle.step_core.specs.Numbers.{plain_number}
 
@@ -30,9 +33,10 @@ pub data Action : Type 0 where
   drill : ℕ → ℕ → Action
   replay : List ℕ → Action
 
--- what the arguments ask for: how many workers, and what is to be done
+-- what the arguments ask for: how many workers, the files that are given, and what is to be done
 pub record Call : Type 0 where
   pub workers : ℕ
+  pub given : List (List ℕ)
   pub action : Action
 
 -- the number from low to high, both included, that the text is in plain digits, without a sign or a
@@ -62,7 +66,8 @@ named_view name =
     if bytes_eq name (codes "paths") then Some Paths else (
     if bytes_eq name (codes "slack") then Some Slack else (
     if bytes_eq name (codes "report") then Some Report else (
-    if bytes_eq name (codes "graph") then Some Graph else None))))
+    if bytes_eq name (codes "graph") then Some Graph else (
+    if bytes_eq name (codes "summarize") then Some Summarize else None)))))
 
 -- the segments of a name take `num / den` of their time: the name's three texts, and the numbers,
 -- of which `den` is from 1 to 1,000,000 and `num` from 0 to `den`
@@ -158,19 +163,65 @@ abbrev pub action_of_words : List (List ℕ) → Option Action
 action_of_words [] = None
 action_of_words (name ∷ words) = named_action name words
 
--- the call with this number of workers and this action, if both are there
-abbrev pub call_with : Option ℕ → Option Action → Option Call
-call_with workers action =
-    option_and_then (λ n. option_map (λ a. record { workers = n; action = a }) action) workers
+-- the action judges traces under what is given
+abbrev pub is_judged : Action → Bool
+is_judged (session files) = false
+is_judged (view v files) = true
+is_judged (what_if change files) = true
+is_judged (tail files) = true
+is_judged (why files) = false
+is_judged (verify file files) = false
+is_judged (evidence choice files) = false
+is_judged (drill number traces) = false
+is_judged (replay file) = false
 
--- the call of the arguments: `--workers` with a number from 1 to 64, or 4 workers without it, and
--- then the command
+-- the view with this name that needs no file where something is given: it is then one of what is
+-- given alone
+abbrev pub view_alone : List ℕ → Option Action
+view_alone name =
+    if bytes_eq name (codes "model") then Some (view Model []) else (
+    if bytes_eq name (codes "summarize") then Some (view Summarize []) else None)
+
+-- what these arguments ask for where something is given
+abbrev pub action_under : List (List ℕ) → Option Action
+action_under (name ∷ []) = view_alone name
+action_under words =
+    option_and_then (λ a. if is_judged a then Some a else None) (action_of_words words)
+
+-- the files of the options `--given FILE` that these arguments begin with
+abbrev pub given_in : List (List ℕ) → List (List ℕ)
+given_in (first ∷ file ∷ words) =
+    if bytes_eq first (codes "--given") then file ∷ given_in words else []
+given_in words = []
+
+-- the arguments after these options
+abbrev pub after_given : List (List ℕ) → List (List ℕ)
+after_given (first ∷ file ∷ words) =
+    if bytes_eq first (codes "--given") then after_given words else first ∷ file ∷ words
+after_given words = words
+
+-- the call of so many workers in which these files are given, by the arguments after them
+abbrev pub call_under : ℕ → List (List ℕ) → List (List ℕ) → Option Call
+call_under workers [] form =
+    option_map (λ a. record { workers = workers; given = []; action = a }) (action_of_words form)
+call_under workers (file ∷ files) form =
+    if list_all is_filled (file ∷ files)
+    then option_map (λ a. record { workers = workers; given = file ∷ files; action = a })
+    (action_under form)
+    else None
+
+-- the call of so many workers that these arguments ask for
+abbrev pub call_with : ℕ → List (List ℕ) → Option Call
+call_with workers words = call_under workers (given_in words) (after_given words)
+
+-- the call of the arguments: `--workers` with a number from 1 to 64, or 4 workers without it, then
+-- what is given, and then the command
 abbrev pub call_of_words : List (List ℕ) → Option Call
 call_of_words (first ∷ second ∷ form) =
     if bytes_eq first (codes "--workers")
-    then call_with (number_between 1 64 second) (action_of_words form)
-    else call_with (Some 4) (action_of_words (first ∷ second ∷ form))
-call_of_words words = None
+    then option_and_then (λ n. call_with n form) (number_between 1 64 second)
+    else call_with 4 (first ∷ second ∷ form)
+call_of_words words = call_with 4 words
 
 -- the call of the arguments; none if they are outside the grammar, or 2 ^ 32 or more
 abbrev pub call_of : List (List ℕ) → Option Call
@@ -180,7 +231,7 @@ call_of words = if nat_lt (length words) (2 ^ 32) then call_of_words words else 
 abbrev pub is_in_grammar : List (List ℕ) → Bool
 is_in_grammar words = is_some (call_of words)
 
--- the files of its input, in order; none for a drill
+-- the files of its input, in order; none for a drill, and for a view of what is given alone
 abbrev pub files_of_action : Action → List (List ℕ)
 files_of_action (session files) = files
 files_of_action (view v files) = files
@@ -198,15 +249,23 @@ abbrev pub certificate_of_action : Action → List (List ℕ)
 certificate_of_action (verify file files) = file ∷ []
 certificate_of_action action = []
 
--- the files of the input, none where the arguments are outside the grammar or ask for a drill
+-- the files of the preface, which is read before the input and is no part of it: what is given, or
+-- the certificate that is checked
+abbrev pub preface_under : List (List ℕ) → List (List ℕ) → List (List ℕ)
+preface_under [] certificate = certificate
+preface_under (file ∷ files) certificate = file ∷ files
+
+abbrev pub preface_of_call : Call → List (List ℕ)
+preface_of_call call = preface_under call.given (certificate_of_action call.action)
+
+-- the files of the input, none where the arguments are outside the grammar or name none
 abbrev pub files_of : List (List ℕ) → List (List ℕ)
 files_of words = option_map_or (λ (call : Call). files_of_action call.action) (call_of words) []
 
--- the file of the certificate, none where the arguments are outside the grammar or ask for no check
-abbrev pub certificate_of : List (List ℕ) → List (List ℕ)
-certificate_of words =
-    option_map_or (λ (call : Call). certificate_of_action call.action) (call_of words) []
+-- the files of the preface, none where the arguments are outside the grammar or name none
+abbrev pub preface_of : List (List ℕ) → List (List ℕ)
+preface_of words = option_map_or preface_of_call (call_of words) []
 
--- the file arguments: that of the certificate is the first to be read
+-- the file arguments: those of the preface are the first to be read
 abbrev pub all_files_of : List (List ℕ) → List (List ℕ)
-all_files_of words = certificate_of words ++ files_of words
+all_files_of words = preface_of words ++ files_of words

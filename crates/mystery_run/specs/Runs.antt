@@ -6,7 +6,8 @@ use Rattle.mystery_io.specs.Readings.{AreEnded}
 use Rattle.mystery_run.specs.declared.outcome.Outcome.{Outcome}
 use Rattle.mystery_run.specs.declared.outcome.Outcome.TheVariants.{Done, Memory, Arguments, BadLine}
 use Rattle.mystery_run.specs.declared.outcome.Outcome.TheVariants.{File, Write, Size, Over}
-use Rattle.mystery_run.specs.CommandLines.{all_files_of, certificate_of, files_of, is_in_grammar}
+use Rattle.mystery_run.specs.declared.outcome.Outcome.TheVariants.{OverGiven}
+use Rattle.mystery_run.specs.CommandLines.{all_files_of, files_of, is_in_grammar, preface_of}
 use Rattle.mystery_run.specs.Endings.{Ends, Writes}
 use Rattle.mystery_run.specs.Readings.{FailsAt, PassesAt}
 
@@ -24,18 +25,18 @@ abbrev pub run_seen : {S : Type 0} → List (List ℕ) → FilesSeen → (S → 
 run_seen words files written old new =
     record { words = words; files = files; written_before = written old; written_now = written new }
 
--- P holds of the certificate and the input that were read: what the reads gave of the first files, as
--- many as the arguments name for a certificate, and what they gave of the rest
+-- P holds of the preface and the input that were read: what the reads gave of the first files, as
+-- many as the arguments name for a preface, and what they gave of the rest
 abbrev pub OfInputs : FilesSeen → List (List ℕ) → (List ℕ → List ℕ → Type 0) → Type 0
 OfInputs seen words P =
-    P (input_read (take (length (certificate_of words)) seen.readings))
-    (input_read (drop (length (certificate_of words)) seen.readings))
+    P (input_read (take (length (preface_of words)) seen.readings))
+    (input_read (drop (length (preface_of words)) seen.readings))
 
 -- the run may end so over what it read, with a text of which that was written which should be
 abbrev pub EndsAs : Outcome → Seen → Type 0
 EndsAs outcome seen =
-    OfInputs seen.files seen.words (λ certificate input. (text : List ℕ)
-    × Ends seen.words certificate input outcome text
+    OfInputs seen.files seen.words (λ preface input. (text : List ℕ)
+    × Ends seen.words preface input outcome text
     × Writes outcome seen.written_before seen.written_now text)
 
 -- the arguments are in the grammar, and each of their files was opened, one after another, and read to
@@ -53,13 +54,14 @@ Reads Arguments seen =
     (is_in_grammar seen.words ≡ false) × OpensFirst seen.files (all_files_of seen.words) 0
 Reads (File index) seen =
     (is_in_grammar seen.words ≡ true)
-    × FailsAt seen.files (certificate_of seen.words) (files_of seen.words) index
+    × FailsAt seen.files (preface_of seen.words) (files_of seen.words) index
 Reads Size seen =
     (is_in_grammar seen.words ≡ true)
-    × ((index : ℕ) × PassesAt seen.files (certificate_of seen.words) (files_of seen.words) index)
+    × ((index : ℕ) × PassesAt seen.files (preface_of seen.words) (files_of seen.words) index)
 Reads (BadLine line why) seen = ReadsAll seen
 Reads Done seen = ReadsAll seen
 Reads (Over limit) seen = ReadsAll seen
+Reads (OverGiven limit) seen = ReadsAll seen
 Reads Write seen = ReadsAll seen
 Reads Memory seen =
     (is_in_grammar seen.words ≡ true)

@@ -1,6 +1,8 @@
 -- What private contracts alone cite.
 pub mod Actions
 pub mod FaultEndings
+pub mod GivenTables
+pub mod GivenWords
 pub mod InputEnds
 pub mod Inputs
 pub mod LastJobs

@@ -1,5 +1,6 @@
 ghost use Rattle.std.specs.Prelude.{◌≡◌};
 ghost use Rattle.mystery_run.specs.CommandLines.{certificate_of_action, files_of_action};
+ghost use Rattle.mystery_run.specs.CommandLines.{is_judged};
 ghost use Rattle.mystery_run.specs.inner.ParsedLines.{action_of};
 ghost use Rattle.mystery_run.specs.inner.Inputs.{form_of_action};
 
@@ -10,7 +11,8 @@ use evidence_rules::Choice;
 use std::slice;
 use trace_types::Text;
 
-/// What the arguments ask for. At least one file of an input is named, but for a drill.
+/// What the arguments ask for. At least one file of an input is named, but for a drill and for a
+/// view of what is given alone.
 #[derive(Clone, Copy, Debug)]
 pub(crate) enum Action<'w> {
     /// Carry out the control lines of these files.
@@ -74,6 +76,23 @@ impl<'w> Action<'w> {
             Action::Evidence { files, .. } => files,
             Action::Drill { .. } => &[],
             Action::Replay { file } => slice::from_ref(file),
+        }
+    }
+
+    /// Tells whether it judges traces under what is given.
+    pub(crate) fn is_judged(self) -> bool
+        ensures { result ≡ is_judged (action_of self.entry) }
+    {
+        match self {
+            Action::Session { .. } => false,
+            Action::View { .. } => true,
+            Action::WhatIf { .. } => true,
+            Action::Tail { .. } => true,
+            Action::Why { .. } => false,
+            Action::Verify { .. } => false,
+            Action::Evidence { .. } => false,
+            Action::Drill { .. } => false,
+            Action::Replay { .. } => false,
         }
     }
 

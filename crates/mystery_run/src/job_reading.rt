@@ -1,9 +1,11 @@
-ghost use Rattle.std.specs.Prelude.{◌≡◌, ◌++◌, ◌∷◌, [], Ok, IfErr, IfOk, IfSome};
+ghost use Rattle.std.specs.Prelude.{◌≡◌, ◌++◌, ◌∷◌, ℕ, List, [], Ok, IfErr, IfOk, IfSome};
 ghost use Rattle.std.specs.Prelude.{OnOk};
 ghost use Rattle.event_lines.specs.declared.command.Command.TheVariants.{Add};
 ghost use Rattle.event_lines.specs.declared.line.Line.TheVariants.{Control};
 ghost use Rattle.event_lines.specs.InputLines.{IsLineError};
+ghost use Rattle.digest_facts.specs.Tables.{Table};
 ghost use Rattle.session_rules.specs.ReadyJobs.{AreReady};
+ghost use Rattle.trace_types.specs.Segments.{SegmentName};
 ghost use Rattle.mystery_run.specs.Works.{Jobs, work_from, jobs_with};
 ghost use Rattle.mystery_run.specs.inner.Inputs.{IsWithinLimit, lines_said_by};
 ghost use Rattle.mystery_run.specs.inner.LastJobs.{IsLastJob};
@@ -26,7 +28,8 @@ fn push_add(alloc: Global, lines: &mut LineParts) -> Result<(), AllocError>
 /// Makes the jobs of lines. Where there is a last job, the events since the last add are added
 /// before it.
 fn make_jobs(alloc: Global, mut lines: LineParts, last: Option<Job>) -> Result<Vec<Job>, AllocError>
-    ensures { IfOk result (λ jobs. jobs_with last lines ≡ Jobs jobs.items) }
+    ensures { IfOk result (λ jobs. (tables : List (Table SegmentName (List ℕ)))
+        → jobs_with tables last lines ≡ Jobs tables jobs.items) }
 {
     let Some(job) = last else {
         return jobs(alloc, lines);
@@ -68,7 +71,8 @@ pub(crate) fn read_jobs<R: Threads + Sync>(
     requires within { IsWithinLimit input }
     requires last { IfSome last IsLastJob }
     ensures said { IfOk result
-        (λ jobs. work_from last (lines_said_by input) ≡ Ok (Jobs jobs.items)) }
+        (λ jobs. (tables : List (Table SegmentName (List ℕ)))
+        → work_from tables last (lines_said_by input) ≡ Ok (Jobs tables jobs.items)) }
     ensures ready { IfOk result (λ jobs. AreReady jobs.items) }
     ensures bad { IfErr result (IsLineError (lines_said_by input)) }
 {

@@ -3,12 +3,13 @@
 #![tactic(auto)]
 
 mod action;
-mod certificate;
+mod call_files;
 mod change_words;
 mod command_line;
 mod drill;
 mod evidence_words;
 mod forecast;
+mod given_words;
 mod hex;
 mod input;
 mod input_form;
@@ -17,6 +18,7 @@ pub mod laws;
 mod line_intake;
 mod numbers;
 mod outcome;
+mod preface;
 mod program;
 mod readings;
 mod real_run;

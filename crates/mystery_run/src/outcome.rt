@@ -1,9 +1,11 @@
-ghost use Rattle.std.specs.Prelude.{◌≡◌, ◌+◌, ◌≤◌, ◌<◌, ◌++◌, length, codes, decimal};
+ghost use Rattle.std.specs.Prelude.{◌≡◌, ◌+◌, ◌≤◌, ◌<◌, ◌^◌, ◌++◌, length, codes, decimal};
 ghost use Rattle.mystery_run.specs.inner.FaultEndings.{outcome_of};
-ghost use Rattle.mystery_run.specs.Messages.{limit_count, limit_unit, message_of, status_of};
+ghost use Rattle.mystery_run.specs.Messages.{given_count, given_unit, limit_count, limit_line};
+ghost use Rattle.mystery_run.specs.Messages.{limit_unit, message_of, status_of};
 
 use crate::Reason;
 use arrayvec::ArrayString;
+use digest_merging::DigestLimit;
 use itoa::Buffer;
 use session::CommandFault;
 use session_rules::Limit;
@@ -17,17 +19,19 @@ pub enum Outcome {
     Memory,
     /// The arguments are outside the grammar.
     Arguments,
-    /// The line with this number is the first bad one: of the certificate, or else of the input.
+    /// The line with this number is the first bad one: of the preface, or else of the input.
     BadLine { line: u32, why: Reason },
-    /// The file argument with this index, from 0, could not be opened or read. A certificate has
-    /// the index 0.
+    /// The file argument with this index, from 0, could not be opened or read. Those of the preface
+    /// come first.
     File { index: u32 },
     /// The text could not be written to its end.
     Write,
-    /// The certificate or the input has more than 67,108,864 bytes.
+    /// The preface or the input has more than 67,108,864 bytes.
     Size,
     /// An add passes this limit. The text of the jobs before it was written.
     Over { limit: Limit },
+    /// What is given passes this limit. Nothing was written.
+    OverGiven { limit: DigestLimit },
 }
 
 /// The greatest length of a message in bytes.
@@ -59,25 +63,42 @@ fn make_numbered_line(before: &str, number: u64, after: &str, reason: &str) -> A
     line
 }
 
-/// Returns how many there would be after an add that passes this limit, and of what.
-fn limit_words(limit: Limit) -> (u32, &'static str)
-    ensures count { result.0 ≡ limit_count limit }
-    ensures unit { result.1.now ≡ limit_unit limit }
-    ensures short { length result.1.now ≤ 20 }
+/// Makes the message of a limit that so many pass.
+fn make_limit_line(count: u64, unit: &str) -> ArrayString<LONGEST>
+    requires { length unit.now ≤ 20 }
+    ensures { result.bytes ≡ limit_line count unit.now }
+{
+    make_numbered_line("limit: ", count, " ", unit)
+}
+
+/// Makes the message of 2^64 traces, which are too many by one.
+fn make_trace_line() -> ArrayString<LONGEST>
+    ensures { result.bytes ≡ limit_line (2 ^ 64) (codes "traces") }
+{
+    make_line("limit: 18446744073709551616 traces")
+}
+
+/// Makes the message of a limit that an add passes.
+fn make_add_line(limit: Limit) -> ArrayString<LONGEST>
+    ensures { result.bytes ≡ limit_line (limit_count limit) (limit_unit limit) }
 {
     match limit {
-        Limit::Names { count } => (count, "segment names"),
-        Limit::Tasks { count } => (count, "tasks"),
-        Limit::Days { count } => (count, "days"),
+        Limit::Names { count } => make_limit_line(u64::from(count), "segment names"),
+        Limit::Tasks { count } => make_limit_line(u64::from(count), "tasks"),
+        Limit::Days { count } => make_limit_line(u64::from(count), "days"),
+        Limit::Traces => make_trace_line(),
     }
 }
 
-/// Makes the message of a limit.
-fn make_limit_line(limit: Limit) -> ArrayString<LONGEST>
-    ensures { result.bytes ≡ message_of (Outcome.Over limit) }
+/// Makes the message of a limit that what is given passes.
+fn make_given_line(limit: DigestLimit) -> ArrayString<LONGEST>
+    ensures { result.bytes ≡ limit_line (given_count limit) (given_unit limit) }
 {
-    let (count, unit) = limit_words(limit);
-    make_numbered_line("limit: ", u64::from(count), " ", unit)
+    match limit {
+        DigestLimit::Names { count } => make_limit_line(count, "segment names"),
+        DigestLimit::Tasks { count } => make_limit_line(count, "tasks"),
+        DigestLimit::Traces => make_trace_line(),
+    }
 }
 
 impl From<CommandFault> for Outcome {
@@ -107,6 +128,7 @@ impl Outcome {
             Outcome::Write => 5,
             Outcome::Size => 6,
             Outcome::Over { .. } => 6,
+            Outcome::OverGiven { .. } => 6,
         }
     }
 
@@ -126,7 +148,8 @@ impl Outcome {
             }
             Outcome::Write => make_line("write failed"),
             Outcome::Size => make_line("limit: input over 67108864 bytes"),
-            Outcome::Over { limit } => make_limit_line(limit),
+            Outcome::Over { limit } => make_add_line(limit),
+            Outcome::OverGiven { limit } => make_given_line(limit),
         }
     }
 }

@@ -1,18 +1,23 @@
 ghost use Rattle.std.specs.Prelude.{◌≡◌, ◌<◌, ◌≤◌, ◌+◌, ◌^◌, ◌++◌, [], drop, length, take, IfErr};
 ghost use Rattle.std.specs.Prelude.{IfOk, OnOk};
-ghost use Rattle.certificates.specs.Certificates.{certificate_said};
 ghost use Rattle.mystery_io.specs.Input.{input_limit, input_read};
 ghost use Rattle.mystery_io.specs.ReadFaults.{files_seen, HasReadCause, OpensFirst, read_faults};
 ghost use Rattle.mystery_io.specs.Readings.{AreEnded, OnlyGrow, new_readings};
 ghost use Rattle.mystery_run.specs.declared.input_form.InputForm.TheVariants.{Lines};
+ghost use Rattle.mystery_run.specs.Works.{preface_said};
+ghost use Rattle.mystery_run.specs.inner.GivenTables.{IsUsable};
 ghost use Rattle.mystery_run.specs.inner.Inputs.{IsReadAs};
-ghost use Rattle.mystery_run.specs.inner.ReadingTwice.{HasReadingCause, said_by};
+ghost use Rattle.mystery_run.specs.inner.ReadingTwice.{HasReadingCause, preface_files, said_by};
 
-use crate::certificate::Certificate;
+use crate::Reason;
+use crate::call_files::CallFiles;
 use crate::input::Input;
 use crate::input_form::InputForm;
 use crate::line_intake::LineIntake;
+use crate::preface::Preface;
 use certificates::{CertFault, ClaimList, read_certificate};
+use digest_laws::laws::what_is_read_gives_a_digest;
+use digest_reading::{DigestFault, read_digests};
 use event_lines::{LineError, LineReader};
 use mystery_io::{Files, ReadFault, read_all, read_into};
 use std::alloc::Global;
@@ -28,8 +33,8 @@ const MOST_BUFFERED_WORKERS: u32 = 4;
 /// What was read for a call.
 #[derive(Debug, Drop)]
 pub(crate) struct Readings {
-    /// What the certificate says.
-    pub(crate) certificate: Certificate,
+    /// What the preface says.
+    pub(crate) preface: Preface,
     /// What the input says, or its bytes.
     pub(crate) input: Input,
 }
@@ -58,19 +63,15 @@ fn read_bytes<F: Files>(alloc: Global, files: &mut F, names: &[Text]) -> Result<
 }
 
 /// Reads the file of a certificate and drops its bytes. Without a name there are no claims.
-fn read_claims<F: Files>(
-    alloc: Global,
-    files: &mut F,
-    names: &[Text],
-) -> Result<Certificate, ReadFault>
+fn read_claims<F: Files>(alloc: Global, files: &mut F, names: &[Text]) -> Result<Preface, ReadFault>
     requires { length names.now < 2 ^ 32 }
     ensures said { IfOk result (λ read.
-        certificate_said (input_read (new_readings (F.given files.old) (F.given files.new)))
+        preface_said [] (input_read (new_readings (F.given files.old) (F.given files.new)))
         ≡ said_by read) }
     ensures fits { OnOk result
         (length (input_read (new_readings (F.given files.old) (F.given files.new)))
         ≤ input_limit) }
-    ensures few { IfOk result (λ read. IfOk (said_by read) (λ claims. length claims < 2 ^ 32)) }
+    ensures usable { IfOk result (λ read. IfOk (said_by read) IsUsable) }
     ensures ended { OnOk result (AreEnded (new_readings (F.given files.old) (F.given files.new))) }
     ensures opened { OnOk result
         (OpensFirst (files_seen F.given F.opens files.old files.new)
@@ -84,12 +85,86 @@ fn read_claims<F: Files>(
 {
     let bytes = read_bytes(alloc, files, names)?;
     match read_certificate(alloc, &bytes) {
-        Ok(claims) => Ok(Certificate::Claims {
+        Ok(claims) => Ok(Preface::Said {
+            tables: Vec::new(alloc),
             claims: ClaimList::of(claims),
         }),
-        Err(CertFault::Bad { line }) => Ok(Certificate::Bad { line }),
+        Err(CertFault::Bad { line }) => Ok(Preface::Bad {
+            line,
+            why: Reason::Certificate,
+        }),
         Err(CertFault::Memory) => Err(ReadFault::Memory),
     }
+}
+
+/// Reads the files that are given as digests, one text after another, and drops their bytes.
+fn read_given<F: Files>(alloc: Global, files: &mut F, names: &[Text]) -> Result<Preface, ReadFault>
+    requires some { 0 < length names.now }
+    requires few { length names.now < 2 ^ 32 }
+    ensures said { IfOk result (λ read.
+        preface_said names.now
+        (input_read (new_readings (F.given files.old) (F.given files.new)))
+        ≡ said_by read) }
+    ensures fits { OnOk result
+        (length (input_read (new_readings (F.given files.old) (F.given files.new)))
+        ≤ input_limit) }
+    ensures usable { IfOk result (λ read. IfOk (said_by read) IsUsable) }
+    ensures ended { OnOk result (AreEnded (new_readings (F.given files.old) (F.given files.new))) }
+    ensures opened { OnOk result
+        (OpensFirst (files_seen F.given F.opens files.old files.new)
+        names.now (length names.now)) }
+    ensures cause { IfErr result
+        (HasReadCause (files_seen F.given F.opens files.old files.new)
+        names.now) }
+    ensures grows { OnlyGrow (F.given files.old) (F.given files.new) }
+    ensures tallied { F.faults files.new ≡ read_faults result (F.faults files.old) }
+{
+    // For the proof alone.
+    what_is_read_gives_a_digest();
+    let bytes = read_bytes(alloc, files, names)?;
+    match read_digests(alloc, &bytes) {
+        Ok(tables) => Ok(Preface::Said {
+            tables,
+            claims: ClaimList::of(Vec::new(alloc)),
+        }),
+        Err(DigestFault::Bad { line }) => Ok(Preface::Bad {
+            line,
+            why: Reason::Summary,
+        }),
+        Err(DigestFault::Memory) => Err(ReadFault::Memory),
+    }
+}
+
+/// Reads the preface of a call: the files that are given, or the certificate that is checked.
+fn read_preface<F: Files>(
+    alloc: Global,
+    files: &mut F,
+    names: CallFiles<'_>,
+) -> Result<Preface, ReadFault>
+    requires { length (preface_files names) < 2 ^ 32 }
+    ensures said { IfOk result (λ read.
+        preface_said names.entry.given.now
+        (input_read (new_readings (F.given files.old) (F.given files.new)))
+        ≡ said_by read) }
+    ensures fits { OnOk result
+        (length (input_read (new_readings (F.given files.old) (F.given files.new)))
+        ≤ input_limit) }
+    ensures usable { IfOk result (λ read. IfOk (said_by read) IsUsable) }
+    ensures ended { OnOk result (AreEnded (new_readings (F.given files.old) (F.given files.new))) }
+    ensures opened { OnOk result
+        (OpensFirst (files_seen F.given F.opens files.old files.new)
+        (preface_files names.entry) (length (preface_files names.entry))) }
+    ensures cause { IfErr result
+        (HasReadCause (files_seen F.given F.opens files.old files.new)
+        (preface_files names.entry)) }
+    ensures unread { preface_files names.entry ≡ [] → files.new ≡ files.old }
+    ensures grows { OnlyGrow (F.given files.old) (F.given files.new) }
+    ensures tallied { F.faults files.new ≡ read_faults result (F.faults files.old) }
+{
+    if names.given.is_empty() {
+        return read_claims(alloc, files, names.certificate);
+    }
+    read_given(alloc, files, names.given)
 }
 
 /// Reads the lines of the files of these names by up to so many workers, while the files are read. A
@@ -164,8 +239,8 @@ fn read_input<R: Threads + Sync, F: Files>(
     }
 }
 
-/// Reads the file of a certificate, if one is named, and then the files of an input, each reading
-/// within the limit of size by itself.
+/// Reads the preface of a call, if it has one, and then its input, each reading within the limit of
+/// size by itself.
 ///
 /// The error says why not all was read; it counts files over both readings.
 pub(crate) fn read_both<R: Threads + Sync, F: Files>(
@@ -174,43 +249,41 @@ pub(crate) fn read_both<R: Threads + Sync, F: Files>(
     workers: u32,
     form: InputForm,
     files: &mut F,
-    certificate: &[Text],
-    names: &[Text],
+    names: CallFiles<'_>,
 ) -> Result<Readings, ReadFault>
     requires workers { 0 < workers }
-    requires few { length certificate.now + length names.now < 2 ^ 32 }
-    ensures said { IfOk result (λ read. certificate_said (input_read
-        (take (length certificate.now) (new_readings (F.given files.old) (F.given files.new))))
-        ≡ said_by read.certificate) }
-    ensures certificate_fits { OnOk result (length (input_read
-        (take (length certificate.now) (new_readings (F.given files.old) (F.given files.new))))
-        ≤ input_limit) }
-    ensures few { IfOk result (λ read.
-        IfOk (said_by read.certificate) (λ claims. length claims < 2 ^ 32)) }
+    requires few { length (preface_files names) + length names.input.now < 2 ^ 32 }
+    ensures said { IfOk result (λ read. preface_said names.entry.given.now (input_read
+        (take (length (preface_files names.entry))
+        (new_readings (F.given files.old) (F.given files.new)))) ≡ said_by read.preface) }
+    ensures preface_fits { OnOk result (length (input_read
+        (take (length (preface_files names.entry))
+        (new_readings (F.given files.old) (F.given files.new)))) ≤ input_limit) }
+    ensures usable { IfOk result (λ read. IfOk (said_by read.preface) IsUsable) }
     ensures input { IfOk result
         (λ read. IsReadAs form read.input (input_read
-        (drop (length certificate.now) (new_readings (F.given files.old) (F.given files.new))))) }
+        (drop (length (preface_files names.entry))
+        (new_readings (F.given files.old) (F.given files.new))))) }
     ensures ended { OnOk result (AreEnded (new_readings (F.given files.old) (F.given files.new))) }
     ensures opened { OnOk result
         (OpensFirst (files_seen F.given F.opens files.old files.new)
-        (certificate.now ++ names.now) (length (certificate.now ++ names.now))) }
+        (preface_files names.entry ++ names.entry.input.now)
+        (length (preface_files names.entry ++ names.entry.input.now))) }
     ensures cause { IfErr result
         (HasReadingCause
         (files_seen F.given F.opens files.old files.new)
-        certificate.now names.now) }
-    ensures unread { certificate.now ++ names.now ≡ [] → files.new ≡ files.old }
+        (preface_files names.entry) names.entry.input.now) }
+    ensures unread { preface_files names.entry ++ names.entry.input.now ≡ []
+        → files.new ≡ files.old }
     ensures grows { OnlyGrow (F.given files.old) (F.given files.new) }
     ensures tallied { F.faults files.new ≡ read_faults result (F.faults files.old) }
 {
-    let said = read_claims(alloc, files, certificate)?;
-    match read_input(rt, alloc, workers, form, files, names) {
-        Ok(input) => Ok(Readings {
-            certificate: said,
-            input,
-        }),
+    let preface = read_preface(alloc, files, names)?;
+    match read_input(rt, alloc, workers, form, files, names.input) {
+        Ok(input) => Ok(Readings { preface, input }),
         Err(ReadFault::Memory) => Err(ReadFault::Memory),
         Err(ReadFault::File { index }) => Err(ReadFault::File {
-            index: certificate.len() as u32 + index,
+            index: names.preface_count() + index,
         }),
         Err(ReadFault::TooBig) => Err(ReadFault::TooBig),
     }

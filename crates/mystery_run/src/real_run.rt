@@ -1,10 +1,10 @@
 ghost use Rattle.std.specs.Prelude.{◌≡◌, ◌==◌, ◌⊎◌, [], if◌then◌else◌};
 ghost use Rattle.mystery_io.specs.RealObjects.{file_faults, files_given, open_calls, sink_faults};
 ghost use Rattle.mystery_io.specs.RealObjects.{sink_taken};
-ghost use Rattle.mystery_run.specs.CommandLines.{files_of};
+ghost use Rattle.mystery_run.specs.CommandLines.{all_files_of};
+ghost use Rattle.mystery_run.specs.Endings.{PassesFirst};
 ghost use Rattle.mystery_run.specs.Messages.{message_of, status_of};
 ghost use Rattle.mystery_run.specs.RealRuns.{IsSent, real_run_seen};
-ghost use Rattle.mystery_run.specs.Readings.{PassesSize};
 ghost use Rattle.mystery_run.specs.Runs.{Explains, OfInputs};
 ghost use Rattle.mystery_run.specs.declared.outcome.Outcome.{Outcome};
 
@@ -36,11 +36,12 @@ pub fn run_real<'r, R: Threads + Sync + Files>(
     ensures write_fault { sink_faults result.2 ≡ (if result.0 == 5 then 1 else 0) }
 
     // What is left alone.
-    ensures unread { files_of words.now ≡ []
+    ensures unread { all_files_of words.now ≡ []
         → (files_given result.1 ≡ []) × (open_calls result.1 ≡ 0) }
     ensures nothing { (result.0 ≡ 2) ⊎ (result.0 ≡ 3) ⊎ (result.0 ≡ 4)
         ⊎ ((result.0 ≡ 6)
-        × OfInputs (real_run_seen words.now result.1 result.2).files words.now PassesSize)
+        × OfInputs (real_run_seen words.now result.1 result.2).files words.now
+        (PassesFirst words.now))
         → sink_taken result.2 ≡ [] }
     ensures silent { result.0 ≡ 0 → sink_taken result.3 ≡ [] }
 {

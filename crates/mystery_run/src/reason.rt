@@ -12,6 +12,8 @@ pub enum Reason {
     Step,
     /// It is outside the form of a certificate, whose line it is.
     Certificate,
+    /// It is outside the form of a digest's text, in what is given.
+    Summary,
 }
 
 impl Reason {
@@ -24,6 +26,7 @@ impl Reason {
             Reason::Line { why } => why.as_str(),
             Reason::Step => "bad step",
             Reason::Certificate => "bad certificate",
+            Reason::Summary => "bad summary",
         }
     }
 }

@@ -17,6 +17,8 @@ pub(crate) enum View {
     Report,
     /// Their graphs.
     Graph,
+    /// Their digest.
+    Summarize,
 }
 
 impl View {
@@ -30,6 +32,7 @@ impl View {
             "slack" => Some(View::Slack),
             "report" => Some(View::Report),
             "graph" => Some(View::Graph),
+            "summarize" => Some(View::Summarize),
             _ => None,
         }
     }
@@ -44,6 +47,7 @@ impl View {
             View::Slack => Command::Slack,
             View::Report => Command::Report,
             View::Graph => Command::Graph,
+            View::Summarize => Command::Summarize,
         }
     }
 }

@@ -210,11 +210,12 @@ fn fail_writes<'a, R: Threads + Sync + Abort>(
 }
 
 /// Views of an input.
-const VIEWS: [&[&str]; 6] = [
+const VIEWS: [&[&str]; 7] = [
     &["report", "f"],
     &["paths", "f"],
     &["slack", "f"],
     &["graph", "f"],
+    &["summarize", "f"],
     &["tail", "f"],
     &[
         "whatif",

@@ -19,6 +19,8 @@ mod faults;
 #[cfg(test)]
 mod forecasts;
 #[cfg(test)]
+mod given;
+#[cfg(test)]
 mod limits;
 #[cfg(test)]
 mod many_traces;
@@ -36,6 +38,8 @@ mod rows;
 mod running;
 #[cfg(test)]
 mod sessions;
+#[cfg(test)]
+mod summaries;
 #[cfg(test)]
 mod views;
 #[cfg(test)]

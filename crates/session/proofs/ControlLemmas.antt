@@ -1,25 +1,32 @@
 -- What jobs other than an add do to the state that a session shows, and what they print.
-use Rattle.std.proofs.Common.{◌≡◌, ℕ, ◌+◌, List, [], ◌∷◌, length, Option, refl, sym, ap, ◌∙◌, subst, arith}
-use Rattle.std.specs.Prelude.{Result, Ok, codes}
+use Rattle.std.proofs.Common.{◌≡◌, ℕ, ◌+◌, List, [], ◌∷◌, length, map, Option, refl, sym, ap, ◌∙◌, subst, arith}
+use Rattle.std.specs.Prelude.{Result, Ok, Err, codes, not, nat_lt}
+use Rattle.digest_facts.specs.Digests.{Digest}
 use Rattle.day_partitions.specs.Books as books
 use Rattle.day_partitions.specs.Books.{IsBook, all_traces, traces_kept_on, with_fewer}
+use Rattle.event_lines.specs.declared.command.Command.{Command}
 use Rattle.event_lines.specs.declared.command.Command.TheVariants as commands
 use Rattle.book_laws.specs.BookLaws.{DropShows, NewestShow}
+use Rattle.book_laws.specs.NameLaws.{NamesAreListed}
 use Rattle.book_laws.specs.Shown.{AreShown, IsShown}
-use Rattle.session_rules.specs.KeptTraces.{Kept, newest, traces_on, without_day}
-use Rattle.session_rules.specs.Parts.{Dropped, IsPart, KeptNewest, Part, count_row}
-use Rattle.session_rules.specs.Sessions.{Does, State}
+use Rattle.session_rules.specs.KeptTraces.{Kept, day_of, greater_days, is_of_day, newest, traces_on, without_day}
+use Rattle.session_rules.specs.Parts.{DigestOf, Dropped, GraphOf, Header, IsPart, KeptNewest, ModelOf, Part, PathOf, SlacksOf, count_row}
+use Rattle.session_rules.specs.Sessions.{Does, State, forecast_parts, report_parts, summary_parts, tail_parts}
 use Rattle.session_rules.specs.declared.job.Job.{Job}
-use Rattle.session_rules.specs.declared.job.Job.TheVariants.{Control}
-use Rattle.text_rows.specs.PartsFollow.{CallPrintsOnePart, NoPartIsPrinted}
+use Rattle.session_rules.specs.declared.job.Job.TheVariants.{Add, Control, Evidence, Summary, Tail, Verify, WhatIf, Why}
+use Rattle.text_rows.specs.PartsFollow.{CallPrintsOnePart, NoPartIsBegun, NoPartIsPrinted}
 use Rattle.text_rows.specs.Printing.{PrintsText}
 use Rattle.text_rows.specs.TextsOfParts.{PrintsTexts}
 use Rattle.text_rows.specs.declared.print_fault.PrintFault.{PrintFault}
+use Rattle.text_rows.specs.declared.print_fault.PrintFault.TheVariants.{Memory}
+use Rattle.trace_types.proofs.ShortLemmas.{filter-short}
 use Rattle.trace_types.proofs.ZipLemmas.{zip_length}
+use Rattle.trace_types.specs.Segments.{SegmentName}
+use Rattle.session.proofs.GivenLemmas.{fewer}
 use Rattle.session.specs.Carrying.{kept_count}
 use Rattle.session.specs.SessionStates.{SessionState, Shows}
 use Rattle.session.specs.inner.Changes.{session_with_book, session_with_grace, session_with_watch}
-use Rattle.session.specs.inner.Steps.{PrintsSteps}
+use Rattle.session.specs.inner.Steps.{IsJudgedJob, IsView, PrintsSteps}
 
 module _ {S : Type 0} (written : S → Option (List ℕ)) (faults : S → ℕ) where
   pub drop_step : (drop : DropShows) (one : CallPrintsOnePart written faults IsPart (Unit {0})) (before after : SessionState) (day count : ℕ) (result : Result (Unit {0}) PrintFault) (old new : S) (held holds : List ℕ)
@@ -32,7 +39,15 @@ module _ {S : Type 0} (written : S → Option (List ℕ)) (faults : S → ℕ) w
         parts = Dropped day (length (traces_on day s.kept)) ∷ [];
         next = next;
         does = (refl, refl);
-        shows = subst (λ a. Shows a next) (sym is) (record { known = shown.known; watch = shown.watch; grace = shown.grace; traces = d.0 });
+        shows = subst (λ a. Shows a next) (sym is) (record {
+          known = shown.known;
+          watch = shown.watch;
+          grace = shown.grace;
+          traces = d.0;
+          given = shown.given;
+          begins = shown.begins;
+          counted = fewer s.given.traces (length s.kept) _ shown.counted (filter-short (λ k. not (is_of_day day k)) s.kept);
+        });
         printed = one (Dropped day (length (traces_on day s.kept))) (count_row (codes "drop") day count) result old new held holds (ap (count_row (codes "drop") day) (counted ∙ d.1)) printed;
       }
 
@@ -42,7 +57,15 @@ module _ {S : Type 0} (written : S → Option (List ℕ)) (faults : S → ℕ) w
   keep_step newest_shows one before after days count result old new held holds is counted book printed s shown =
       let n = newest_shows before.known before.book s.kept days book shown.traces in
       let next : State = record s { kept = newest days s.kept } in
-      let shows : Shows after next = subst (λ a. Shows a next) (sym is) (record { known = shown.known; watch = shown.watch; grace = shown.grace; traces = n }) in
+      let shows : Shows after next = subst (λ a. Shows a next) (sym is) (record {
+        known = shown.known;
+        watch = shown.watch;
+        grace = shown.grace;
+        traces = n;
+        given = shown.given;
+        begins = shown.begins;
+        counted = fewer s.given.traces (length s.kept) _ shown.counted (filter-short (λ k. nat_lt (greater_days s.kept (day_of k)) days) s.kept);
+      }) in
       record {
         parts = KeptNewest days count ∷ [];
         next = next;
@@ -59,7 +82,15 @@ module _ {S : Type 0} (written : S → Option (List ℕ)) (faults : S → ℕ) w
     parts = [];
     next = record s { watch = every };
     does = (refl, refl);
-    shows = subst (λ a. Shows a (record s { watch = every })) (sym is) (record { known = shown.known; watch = refl; grace = shown.grace; traces = shown.traces });
+    shows = subst (λ a. Shows a (record s { watch = every })) (sym is) (record {
+      known = shown.known;
+      watch = refl;
+      grace = shown.grace;
+      traces = shown.traces;
+      given = shown.given;
+      begins = shown.begins;
+      counted = shown.counted;
+    });
     printed = record { all = none (written old) held; prefix = tt; counted = refl };
   }
 
@@ -68,11 +99,64 @@ module _ {S : Type 0} (written : S → Option (List ℕ)) (faults : S → ℕ) w
     parts = [];
     next = record s { grace = micros };
     does = (refl, refl);
-    shows = subst (λ a. Shows a (record s { grace = micros })) (sym is) (record { known = shown.known; watch = shown.watch; grace = refl; traces = shown.traces });
+    shows = subst (λ a. Shows a (record s { grace = micros })) (sym is) (record {
+      known = shown.known;
+      watch = shown.watch;
+      grace = refl;
+      traces = shown.traces;
+      given = shown.given;
+      begins = shown.begins;
+      counted = shown.counted;
+    });
     printed = record { all = none (written old) held; prefix = tt; counted = refl };
   }
 
-  -- a job that changes nothing and prints parts of the kept traces
+  -- a job that changes nothing and prints parts of the kept traces and the given digest
+  pub judged_step : (job : Job) (parts : Digest SegmentName (List ℕ) → List Kept → List Part) → ((workers : ℕ) (s : State) → Does workers job s (parts s.given s.kept) s) → (session : SessionState) (result : Result (Unit {0}) PrintFault) (old new : S) (held holds : List ℕ)
+      → ((s : State) → Shows session s → PrintsTexts written faults result old new IsPart (parts s.given s.kept) held holds) → PrintsSteps written faults result old new job session session held holds
+  judged_step job parts does session result old new held holds printed s shown = record {
+    parts = parts s.given s.kept;
+    next = s;
+    does = does session.workers s;
+    shows = shown;
+    printed = printed s shown;
+  }
+
+  -- one that was out of memory before it printed anything
+  unbegun_step : (unbegun : NoPartIsBegun IsPart) (job : Job) (parts : Digest SegmentName (List ℕ) → List Kept → List Part) → ((workers : ℕ) (s : State) → Does workers job s (parts s.given s.kept) s) → (session : SessionState) (old : S) (held : List ℕ)
+      → PrintsSteps {T = Unit {0}} written faults (Err Memory) old old job session session held held
+  unbegun_step unbegun job parts does session old held = judged_step job parts does session (Err Memory) old old held held
+      (λ s shown. record { all = tt; prefix = unbegun (parts s.given s.kept) (written old) held; counted = refl })
+
+  pub unbegun_view : (unbegun : NoPartIsBegun IsPart) (listed : NamesAreListed) (command : Command) → IsView command → (session : SessionState) (old : S) (held : List ℕ) → PrintsSteps {T = Unit {0}} written faults (Err Memory) old old (Control command) session session held held
+  unbegun_view unbegun listed commands.Add v session old held = absurd v
+  unbegun_view unbegun listed (commands.Drop day) v session old held = absurd v
+  unbegun_view unbegun listed (commands.Keep days) v session old held = absurd v
+  unbegun_view unbegun listed (commands.Watch every) v session old held = absurd v
+  unbegun_view unbegun listed (commands.Grace micros) v session old held = absurd v
+  unbegun_view unbegun listed commands.Model v session old held = unbegun_step unbegun (Control commands.Model) (λ given kept. ModelOf given kept ∷ []) (λ w s. (refl, refl)) session old held
+  unbegun_view unbegun listed commands.Paths v session old held =
+      unbegun_step unbegun (Control commands.Paths) (λ given kept. Header (codes "paths") (length kept) ∷ map (PathOf given kept) kept) (λ w s. (refl, refl)) session old held
+  unbegun_view unbegun listed commands.Slack v session old held =
+      unbegun_step unbegun (Control commands.Slack) (λ given kept. Header (codes "slack") (length kept) ∷ map (SlacksOf given kept) kept) (λ w s. (refl, refl)) session old held
+  unbegun_view unbegun listed commands.Report v session old held =
+      unbegun_step unbegun (Control commands.Report) (λ given kept. report_parts given kept (listed kept).0) (λ w s. (refl, ((listed s.kept).0, (listed s.kept).1, refl))) session old held
+  unbegun_view unbegun listed commands.Graph v session old held =
+      unbegun_step unbegun (Control commands.Graph) (λ given kept. Header (codes "graph") (length kept) ∷ map (GraphOf given kept) kept) (λ w s. (refl, refl)) session old held
+  unbegun_view unbegun listed commands.Summarize v session old held = unbegun_step unbegun (Control commands.Summarize) (λ given kept. DigestOf given kept ∷ []) (λ w s. (refl, refl)) session old held
+
+  pub unbegun_job : (unbegun : NoPartIsBegun IsPart) (listed : NamesAreListed) (job : Job) → IsJudgedJob job → (session : SessionState) (old : S) (held : List ℕ) → PrintsSteps {T = Unit {0}} written faults (Err Memory) old old job session session held held
+  unbegun_job unbegun listed (Add events) v session old held = absurd v
+  unbegun_job unbegun listed (Control command) v session old held = absurd v
+  unbegun_job unbegun listed Summary v session old held = unbegun_step unbegun Summary summary_parts (λ w s. (refl, refl)) session old held
+  unbegun_job unbegun listed (WhatIf change) v session old held = unbegun_step unbegun (WhatIf change) (forecast_parts change) (λ w s. (refl, refl)) session old held
+  unbegun_job unbegun listed Tail v session old held =
+      unbegun_step unbegun Tail (λ given kept. tail_parts given kept (listed kept).0) (λ w s. (refl, ((listed s.kept).0, (listed s.kept).1, refl))) session old held
+  unbegun_job unbegun listed Why v session old held = absurd v
+  unbegun_job unbegun listed (Verify claims) v session old held = absurd v
+  unbegun_job unbegun listed (Evidence choice) v session old held = absurd v
+
+  -- a job that changes nothing and prints parts of the kept traces alone
   pub view_step : (job : Job) (parts : List Kept → List Part) → ((workers : ℕ) (s : State) → Does workers job s (parts s.kept) s) → (inside before : SessionState) → inside ≡ before → (result : Result (Unit {0}) PrintFault) (old new : S) (held holds : List ℕ)
       → ((kept : List Kept) → AreShown inside.known (all_traces inside.book.days) kept → PrintsTexts written faults result old new IsPart (parts kept) held holds) → PrintsSteps written faults result old new job before before held holds
   view_step job parts does inside before view result old new held holds printed =

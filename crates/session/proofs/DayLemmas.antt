@@ -15,7 +15,7 @@ use Rattle.book_laws.specs.Shown.{named_on}
 use Rattle.trace_types.specs.Listing.{ListsExactly}
 use Rattle.trace_types.specs.declared.named_trace.NamedTrace.{NamedTrace}
 use Rattle.batch_sheets.proofs.DayLemmas.{on_some, all_in}
-use Rattle.session.specs.inner.AddSteps.{LacksRoom}
+use Rattle.session.specs.inner.AddSteps.{HasRoom, LacksRoom}
 use Rattle.session.proofs.SplitLemmas.{sheets_few}
 
 -- a sheet of the traces of a day, whose words are of no account
@@ -96,4 +96,14 @@ lacks_room b named days count book lists is many = record {
   parts = are_sheets named days lists;
   many = many;
   count = is (sheets_on named days) (same_days named days);
+}
+
+-- where there would not be, it has
+pub has_room : (b : BookState) (named : List NamedTrace) (days : List ℕ) (count : ℕ) → IsBook b → ListsExactly nat_cmp (Contains (map named_day named)) days
+    → ((sheets : List DatedSheet) → map sheet_day sheets ≡ days → count ≡ length b.days + new_days b.days sheets) → count ≤ 64 → HasRoom b named
+has_room b named days count book lists is few = record {
+  book = book;
+  sheets = sheets_on named days;
+  parts = are_sheets named days lists;
+  room = let e = is (sheets_on named days) (same_days named days) in omega (arith, e, few);
 }

@@ -7,6 +7,7 @@ use Rattle.std.proofs.lemmas.List.Elements.{All-head, All-tail}
 use Rattle.std.proofs.lemmas.List.Sums.{sum_by-append, sum_by_push, sum_by-cons}
 use Rattle.std.proofs.Math.Seq.{take-append-add, take-length}
 use Rattle.day_partitions.specs.Books.{all_traces}
+use Rattle.digest_facts.specs.Digests.{Digest}
 use Rattle.book_laws.specs.Shown.{AreShown}
 use Rattle.mystery_io.specs.Prefixes.{AppendsPrefix}
 use Rattle.segment_names.specs.Known.{Known}
@@ -21,6 +22,7 @@ use Rattle.session_rules.specs.Parts.{Part, IsPart}
 use Rattle.session_rules.specs.Sessions.{Does, Leads, Passes, State, first_state}
 use Rattle.session_rules.specs.declared.job.Job.{Job}
 use Rattle.session_rules.specs.declared.limit.Limit.{Limit}
+use Rattle.trace_types.specs.Segments.{SegmentName}
 use Rattle.trace_types.specs.declared.named_trace.NamedTrace.{NamedTrace}
 use Rattle.session_rules.specs.JobTexts.{IsText}
 use Rattle.session.specs.Running.{EndsIn, WritesFirst, WritesToLimit}
@@ -48,43 +50,52 @@ prefix_after before mid now text more w p = record {
 
 -- ---- the loop
 
--- the jobs were carried out from the first state, and a text of them was written
-pub record AreDone (workers : ℕ) (jobs : List Job) (session : SessionState)
-    (before now : Option (List ℕ)) : Type 0 where
+pub nothing_left : (jobs : List Job) → length jobs ≡ 0 → jobs ≡ []
+nothing_left [] h = refl
+nothing_left (job ∷ jobs) h = absurd (omega (arith, h))
+
+-- the jobs were carried out from the first state under a given digest, and a text of them was
+-- written
+pub record AreDone (workers : ℕ) (given : Digest SegmentName (List ℕ)) (jobs : List Job)
+    (session : SessionState) (before now : Option (List ℕ)) : Type 0 where
   pub last : State
   pub text : List ℕ
-  pub told : IsText workers jobs last text
+  pub told : IsText workers given jobs last text
   pub shows : Shows session last
   pub written : now ≡ append_known before text
-  pub few : kept_count session ≤ sum_by requests_in jobs
 
 none_shown : (known : Known) (traces : List NamedTrace) → AreShown known traces [] → length traces ≤ 0
 none_shown known [] h = omega arith
 none_shown known (t ∷ traces) h = absurd h
 
-pub none_done : (workers : ℕ) (session : SessionState) (before : Option (List ℕ)) → Shows session first_state → AreDone workers [] session before before
-none_done workers session before shows = record {
-  last = first_state;
+pub none_done : (workers : ℕ) (given : Digest SegmentName (List ℕ)) (session : SessionState) (before : Option (List ℕ)) → Shows session (first_state given) → AreDone workers given [] session before before
+none_done workers given session before shows = record {
+  last = first_state given;
   text = [];
   told = record { parts = []; led = (refl, refl); told = refl };
   shows = shows;
   written = sym (append_nothing before);
-  few = none_shown session.known (all_traces session.book.days) shows.traces;
 }
 
-pub more_done : (workers : ℕ) (done : List Job) (job : Job) (old new : SessionState) (before mid now : Option (List ℕ)) → (d : AreDone workers done old before mid)
-    → old.workers ≡ workers → CarriesOut old.workers job d.last new mid now → kept_count new ≤ kept_count old + requests_in job → AreDone workers (done ++ job ∷ []) new before now
-more_done workers done job old new before mid now d same carried kept = let c : CarriesOut workers job d.last new mid now = subst (λ (w : ℕ). CarriesOut w job d.last new mid now) same carried in record {
+-- a session that shows where one starts keeps no trace
+pub none_kept : (given : Digest SegmentName (List ℕ)) (session : SessionState) → Shows session (first_state given) → kept_count session ≤ sum_by requests_in []
+none_kept given session shows = none_shown session.known (all_traces session.book.days) shows.traces
+
+pub more_kept : (done : List Job) (job : Job) (old new : ℕ) → old ≤ sum_by requests_in done → new ≤ old + requests_in job → new ≤ sum_by requests_in (done ++ job ∷ [])
+more_kept done job old new few kept = omega (arith, few, kept, sum_by_push requests_in done job)
+
+pub more_done : (workers : ℕ) (given : Digest SegmentName (List ℕ)) (done : List Job) (job : Job) (old new : SessionState) (before mid now : Option (List ℕ)) → (d : AreDone workers given done old before mid)
+    → old.workers ≡ workers → CarriesOut old.workers job d.last new mid now → AreDone workers given (done ++ job ∷ []) new before now
+more_done workers given done job old new before mid now d same carried = let c : CarriesOut workers job d.last new mid now = subst (λ (w : ℕ). CarriesOut w job d.last new mid now) same carried in record {
   last = c.next;
   text = d.text ++ c.text;
   told = record {
     parts = d.told.parts ++ c.parts;
-    led = leads_more workers done (job ∷ []) first_state d.last c.next d.told.parts c.parts d.told.led (leads_one workers job d.last c.next c.parts c.does);
+    led = leads_more workers done (job ∷ []) (first_state given) d.last c.next d.told.parts c.parts d.told.led (leads_one workers job d.last c.next c.parts c.does);
     told = texts_more IsPart d.told.parts c.parts d.text c.text d.told.told c.told;
   };
   shows = c.shows;
   written = c.written ∙ ap (λ (o : Option (List ℕ)). append_known o c.text) d.written ∙ known_append_twice before d.text c.text;
-  few = omega (arith, d.few, kept, sum_by_push requests_in done job);
 }
 
 -- the requests of the jobs so far and of the next are among all
@@ -103,11 +114,11 @@ next_ready done rest job all split ready = at done (subst (λ (js : List Job). A
 -- ---- faults
 
 -- nothing was begun
-pub unbegun : (workers : ℕ) (jobs : List Job) (before : Option (List ℕ)) → WritesFirst workers jobs before before
-unbegun workers jobs before = ([], record { done = []; rest = jobs; split = refl; last = first_state; first = []; left = []; led = (refl, refl); told = refl }, record { count = 0; appended = sym (append_nothing before) })
+pub unbegun : (workers : ℕ) (given : Digest SegmentName (List ℕ)) (jobs : List Job) (before : Option (List ℕ)) → WritesFirst workers given jobs before before
+unbegun workers given jobs before = ([], record { done = []; rest = jobs; split = refl; last = first_state given; first = []; left = []; led = (refl, refl); told = refl }, record { count = 0; appended = sym (append_nothing before) })
 
-module _ (workers : ℕ) (done rest : List Job) (job : Job) (all : List Job) (session : SessionState) (before mid now : Option (List ℕ)) (split : done ++ (job ∷ rest) ≡ all) (d : AreDone workers done session before mid) where
-  ended_before : now ≡ mid → WritesFirst workers all before now
+module _ (workers : ℕ) (given : Digest SegmentName (List ℕ)) (done rest : List Job) (job : Job) (all : List Job) (session : SessionState) (before mid now : Option (List ℕ)) (split : done ++ (job ∷ rest) ≡ all) (d : AreDone workers given done session before mid) where
+  ended_before : now ≡ mid → WritesFirst workers given all before now
   ended_before same = (
     d.text,
     record {
@@ -123,7 +134,7 @@ module _ (workers : ℕ) (done rest : List Job) (job : Job) (all : List Job) (se
     prefix_whole before now d.text (same ∙ d.written),
   )
 
-  ended_within : CutsShort workers job d.last mid now → WritesFirst workers all before now
+  ended_within : CutsShort workers job d.last mid now → WritesFirst workers given all before now
   ended_within c = (
     d.text ++ c.text,
     record {
@@ -133,13 +144,13 @@ module _ (workers : ℕ) (done rest : List Job) (job : Job) (all : List Job) (se
       last = c.next;
       first = d.told.parts ++ c.first;
       left = c.left;
-      led = rw (append_assoc d.told.parts c.first c.left) (leads_more workers done (job ∷ []) first_state d.last c.next d.told.parts (c.first ++ c.left) d.told.led (leads_one workers job d.last c.next (c.first ++ c.left) c.does));
+      led = rw (append_assoc d.told.parts c.first c.left) (leads_more workers done (job ∷ []) (first_state given) d.last c.next d.told.parts (c.first ++ c.left) d.told.led (leads_one workers job d.last c.next (c.first ++ c.left) c.does));
       told = texts_more IsPart d.told.parts c.first d.text c.text d.told.told c.told;
     },
     prefix_after before mid now d.text c.text d.written c.prefix,
   )
 
-  ended_at : (limit : Limit) → Passes job d.last limit → now ≡ mid → WritesToLimit workers all limit before now
+  ended_at : (limit : Limit) → Passes job d.last limit → now ≡ mid → WritesToLimit workers given all limit before now
   ended_at limit passes same = (
     d.text,
     record {
@@ -154,11 +165,11 @@ module _ (workers : ℕ) (done rest : List Job) (job : Job) (all : List Job) (se
     same ∙ d.written,
   )
 
-  cause_ends : (fault : CommandFault) → HasCommandCause fault workers job d.last mid now → EndsIn fault workers all before now
+  cause_ends : (fault : CommandFault) → HasCommandCause fault workers job d.last mid now → EndsIn fault workers given all before now
   cause_ends Memory (inl same) = ended_before same
   cause_ends Memory (inr c) = ended_within c
   cause_ends Write c = ended_within c
   cause_ends (Over limit) c = ended_at limit c.0 c.1
 
-  pub fault_ends : (fault : CommandFault) → session.workers ≡ workers → HasCommandCause fault session.workers job d.last mid now → EndsIn fault workers all before now
+  pub fault_ends : (fault : CommandFault) → session.workers ≡ workers → HasCommandCause fault session.workers job d.last mid now → EndsIn fault workers given all before now
   fault_ends fault same cause = cause_ends fault (subst (λ (w : ℕ). HasCommandCause fault w job d.last mid now) same cause)

@@ -4,6 +4,8 @@ mod CarryLemmas
 mod ControlLemmas
 mod CountLemmas
 mod DayLemmas
+mod GivenLemmas
+mod JudgeLemmas
 mod KnownLemmas
 mod RunLemmas
 mod SheetLemmas

@@ -1,11 +1,11 @@
 -- What holds of the traces of an add, over the definitions alone.
-use Rattle.std.specs.Prelude.{◌≡◌, ℕ, ◌+◌, ◌<◌, ◌≤◌, ◌++◌, ◌∷◌, List, length}
+use Rattle.std.specs.Prelude.{◌≡◌, ℕ, ◌+◌, ◌^◌, ◌<◌, ◌≤◌, ◌++◌, ◌∷◌, List, length}
 use Rattle.std.specs.List.{AllZip, flat_map}
 use Rattle.batch_sheets.specs.declared.recording.DayLines.{DayLines}
 use Rattle.book_laws.specs.BookLaws.{AreSheetsOf}
 use Rattle.book_laws.specs.Shown.{AreShown}
 use Rattle.day_partitions.specs.Batches.{HasRoomFor, new_days, with_all}
-use Rattle.day_partitions.specs.Books.{BookState, IsBook}
+use Rattle.day_partitions.specs.Books.{BookState, IsBook, all_traces}
 use Rattle.day_partitions.specs.Batches.{trace_count}
 use Rattle.day_partitions.specs.declared.dated_sheet.DatedSheet.{DatedSheet}
 use Rattle.segment_names.specs.Limits.{PassesLimit}
@@ -16,7 +16,7 @@ use Rattle.session_rules.specs.KeptTraces.{Kept}
 use Rattle.session_rules.specs.Parts.{IsPart, Refusals, refused_row, watch_row}
 use Rattle.session_rules.specs.Sessions.{Adds, PassesLimitOf, State, graced, most_days, state_after}
 use Rattle.session_rules.specs.Sessions.{watch_parts}
-use Rattle.session_rules.specs.declared.limit.Limit.TheVariants.{Days}
+use Rattle.session_rules.specs.declared.limit.Limit.TheVariants.{Days, Traces}
 use Rattle.session_rules.specs.Batches.{AreJudged}
 use Rattle.session_rules.specs.declared.refused.Refused.{Refused}
 use Rattle.text_rows.specs.TextsOfParts.{AreTexts}
@@ -48,12 +48,17 @@ session_after old wide valid sheets = record {
   workers = old.workers;
   known = with_traces old.known valid;
   book = with_all wide sheets;
+  given = old.given;
   watch = old.watch;
   grace = old.grace;
 }
 
--- the valid traces of a batch are recorded, no limit of names or tasks is passed, and the book has
--- the days of the session's
+-- the traces of the given digest, those in the book and so many more
+abbrev pub count_with : SessionState → ℕ → ℕ
+count_with s more = s.given.table.traces + (length (all_traces s.book.days) + more)
+
+-- the valid traces of a batch are recorded, no limit of names or tasks is passed, the book has the
+-- days of the session's, and all traces can be counted in 64 bits
 pub record IsAdded (old : SessionState) (wide : BookState) (valid : List Trace)
     (sheets : List DatedSheet) (watched : List DayLines) : Type 0 where
   pub kept : IsKept old.known
@@ -62,6 +67,7 @@ pub record IsAdded (old : SessionState) (wide : BookState) (valid : List Trace)
   pub none : (limit : NameLimit) → PassesLimit old.known valid limit → ⊥
   pub recorded : AreSheets (with_traces old.known valid) old.workers old.watch
       (graced_by old.grace valid) sheets watched
+  pub counted : count_with old (length valid) < 2 ^ 64
 
 -- where the book has room for their days, an add of the sheets leads the session on as the
 -- definition of an add says
@@ -92,6 +98,14 @@ AddPassesDays = (old : SessionState) (s : State) (valid : List Trace) (wide : Bo
     (named : List NamedTrace) (sheets : List DatedSheet) (days : ℕ) → Shows old s
     → IsNamedAdd old wide valid named sheets → most_days < days
     → days ≡ length wide.days + new_days wide.days sheets → PassesLimitOf s valid (Days days)
+
+-- where there would not be too many days, but more traces than 64 bits count, the add passes the
+-- limit of traces
+abbrev pub AddPassesTraces : Type 0
+AddPassesTraces = (old : SessionState) (s : State) (valid : List Trace) (wide : BookState)
+    (named : List NamedTrace) (sheets : List DatedSheet) → Shows old s
+    → IsNamedAdd old wide valid named sheets → HasRoomFor wide sheets
+    → 2 ^ 64 ≤ count_with old (length valid) → PassesLimitOf s valid Traces
 
 -- the watch rows of a day, and the text of an add
 abbrev pub day_text : DayLines → List ℕ

@@ -23,9 +23,10 @@ ghost use Rattle.trace_types.specs.declared.trace.Trace.{Trace};
 
 use crate::Session;
 use crate::add_fault::AddFault;
-use crate::batch_records::{list_days_within, record_batch};
+use crate::batch_records::{can_count, list_days_within, record_batch};
 use crate::laws::{
-    add_is_told, add_leads_on, add_passes_days, names_grow, no_more_are_sheeted, no_more_are_valid,
+    add_is_told, add_leads_on, add_passes_days, add_passes_traces, names_grow, no_more_are_sheeted,
+    no_more_are_valid,
 };
 use batch_sheets::{DayLines, judge_batch, name_batch};
 use event_lines::EventParts;
@@ -34,7 +35,7 @@ use event_table::{GatheredEvents, Texts, gather};
 use kept_books::KeptBook;
 use mystery_io::Gate;
 use segment_cut::CutTrace;
-use session_rules::Refused;
+use session_rules::{Limit, Refused};
 use std::alloc::Global;
 use std::thread::Threads;
 use trace_types::NamedTrace;
@@ -122,6 +123,7 @@ impl Session {
             alloc,
             workers,
             book,
+            given,
             watch,
             grace,
         } = self;
@@ -134,6 +136,7 @@ impl Session {
                 alloc,
                 workers,
                 book,
+                given,
                 watch,
                 grace,
             },
@@ -142,7 +145,8 @@ impl Session {
     }
 
     /// Records named traces, and adds their days to the book, all or, after an error, none. Where
-    /// there would be too many days, none is recorded. Returns their watch lines.
+    /// there would be too many days, or else too many traces to be counted, none is recorded.
+    /// Returns their watch lines.
     fn add_days<R: Threads + Sync, G: Gate + Sync>(
         &mut self,
         rt: &R,
@@ -164,6 +168,11 @@ impl Session {
         // For the proof alone.
         no_more_are_sheeted();
         let days = list_days_within(self.alloc, &self.book, &named)?;
+        if !can_count(&self.given, &self.book, named.len()) {
+            return Err(AddFault::Over {
+                limit: Limit::Traces,
+            });
+        }
         let recorded = record_batch(
             rt,
             self.alloc,
@@ -205,6 +214,7 @@ impl Session {
         no_more_are_valid();
         add_leads_on();
         add_passes_days();
+        add_passes_traces();
         add_is_told();
         let judged = judge_batch(rt, self.alloc, gathered, self.workers)?;
         let NamedBatch { mut session, named } = self.add_names(rt, gathered.texts(), judged.valid)?;

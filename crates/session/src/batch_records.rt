@@ -1,18 +1,19 @@
-ghost use Rattle.std.specs.Prelude.{◌^◌, ◌+◌, ◌<◌, All, Contains, List, length, map};
-ghost use Rattle.std.specs.Prelude.{IfErr, IfOk};
+ghost use Rattle.std.specs.Prelude.{◌^◌, ◌+◌, ◌<◌, ◌↔◌, All, Contains, IsTrue, List, length, map};
+ghost use Rattle.std.specs.Prelude.{IfErr, IfOk, OnOk};
 ghost use Rattle.std.specs.Ordering.{nat_cmp};
 ghost use Rattle.batch_sheets.specs.Splitting.{named_day};
 ghost use Rattle.book_laws.specs.Shown.{AreShown};
 ghost use Rattle.kept_books.specs.KeptBooks.{IsKeptBook, traces_in};
 ghost use Rattle.refute_tests.specs.Clearing.{HaveNamesBelow};
 ghost use Rattle.session.specs.Sheets.{AreSheets};
-ghost use Rattle.session.specs.inner.AddSteps.{HasRoomCause};
+ghost use Rattle.session.specs.inner.AddSteps.{HasRoom, HasRoomCause};
 ghost use Rattle.session_rules.specs.KeptTraces.{Kept};
 ghost use Rattle.trace_types.specs.Listing.{ListsExactly};
 
 use crate::add_fault::AddFault;
 use batch_sheets::{RecordedDays, days_with, list_days, record_days, split_by_day};
 use book_laws::laws::watch_lines_are_told_by_text;
+use judged_books::GivenDigest;
 use kept_books::KeptBook;
 use mystery_io::Gate;
 use session_rules::Limit;
@@ -32,6 +33,7 @@ pub(crate) fn list_days_within(
     requires { length (traces_in book.now) + length named.now < 2 ^ 32 }
     ensures days { IfOk result
         (λ days. ListsExactly nat_cmp (Contains (map named_day named.now)) days.items) }
+    ensures room { OnOk result (HasRoom book.now.book named.now) }
     ensures cause { IfErr result (HasRoomCause book.now.book named.now) }
     ensures kept { IsKeptBook book.now }
 {
@@ -44,6 +46,17 @@ pub(crate) fn list_days_within(
         });
     }
     Ok(days)
+}
+
+/// Tests whether the traces that a digest stands for, those of a book and so many more can be
+/// counted in 64 bits.
+pub(crate) fn can_count(given: &GivenDigest, book: &KeptBook, more: usize) -> bool
+    requires { length (traces_in book.now) + more < 2 ^ 32 }
+    ensures { IsTrue result
+        ↔ (given.now.table.traces + (length (traces_in book.now) + more) < 2 ^ 64) }
+{
+    let kept = u64::from(book.trace_count()) + more as u64;
+    given.table().traces.checked_add(kept).is_some()
 }
 
 /// Records the named traces of a batch, of which these are the days, day by day by so many workers,

@@ -1,8 +1,9 @@
 //! Laws over the definitions alone: each function does nothing, and its contract is the law.
-ghost use Rattle.session.specs.AddLaws.{AddIsTold, AddLeadsOn, AddPassesDays};
+ghost use Rattle.session.specs.AddLaws.{AddIsTold, AddLeadsOn, AddPassesDays, AddPassesTraces};
 ghost use Rattle.session.specs.AddLaws.{NamesGrow, NoMoreAreSheeted, NoMoreAreValid};
 
 use book_laws::laws::{grown_shows, sheets_show};
+use judged_books::laws::grown_begins_alike;
 
 /// A catalogue has no fewer names after traces are added.
 pub fn names_grow()
@@ -25,11 +26,20 @@ pub fn add_leads_on()
 {
     grown_shows();
     sheets_show();
+    grown_begins_alike();
 }
 
 /// Where there would be too many days, the add passes the limit of days.
 pub fn add_passes_days()
     ensures { AddPassesDays }
+{
+    grown_shows();
+    sheets_show();
+}
+
+/// Where there would be more traces than 64 bits count, the add passes the limit of traces.
+pub fn add_passes_traces()
+    ensures { AddPassesTraces }
 {
     grown_shows();
     sheets_show();

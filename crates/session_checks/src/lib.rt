@@ -12,6 +12,10 @@ mod claims;
 #[cfg(test)]
 mod first_refuters;
 #[cfg(test)]
+mod given_sessions;
+#[cfg(test)]
+mod given_tables;
+#[cfg(test)]
 mod named_batches;
 #[cfg(test)]
 mod refuters;

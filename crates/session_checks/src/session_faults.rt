@@ -1,9 +1,9 @@
 //! Sessions that are refused: too many days, and a write that fails.
-use crate::session_steps::{add_through, control};
+use crate::session_steps::{add_through, control, start};
 use crate::worked_batches::on_days;
 use event_lines::Command;
 use mystery_io::{Gate, MemSink, Sink};
-use session::{CommandFault, Limit, Session};
+use session::{CommandFault, Limit};
 use std::alloc::{AllocError, Global};
 use std::sync::atomic::{AtomicU64, Ordering};
 use std::test::Fail;
@@ -29,7 +29,7 @@ fn add_fault<R: AllocGlobal + Threads + Sync, S: Sink>(
     out: &mut S,
     gate: &CountingGate,
 ) -> Result<Option<CommandFault>, AllocError> {
-    let session = Session::new(rt.alloc(), 2)?;
+    let session = start(rt.alloc(), 2)?;
     Ok(add_through(rt, session, events, out, gate).err())
 }
 
@@ -67,7 +67,7 @@ fn drop_fault<R: AllocGlobal + Threads + Sync, S: Sink>(
     rt: &R,
     out: &mut S,
 ) -> Result<Option<CommandFault>, AllocError> {
-    let session = Session::new(rt.alloc(), 1)?;
+    let session = start(rt.alloc(), 1)?;
     Ok(control(rt, session, Command::Drop { day: 3 }, out).err())
 }
 

@@ -1,8 +1,9 @@
 //! Jobs that a session carries out: each answers `Memory` where it would have too many traces.
-ghost use Rattle.std.specs.Prelude.{◌≡◌, ◌≤◌, length, IfOk, IfSome, IsTrue};
+ghost use Rattle.std.specs.Prelude.{◌≡◌, ◌<◌, ◌≤◌, length, IfOk, IfSome, IsTrue};
 ghost use Rattle.session_rules.specs.ReadyJobs.{IsReady, IsReadyCommand, requests_in};
 ghost use Rattle.trace_types.specs.Times.{AreTimely};
 
+use crate::given_tables::nothing_given;
 use certificates::{Claim, ClaimList};
 use event_lines::{Command, EventParts, lines_rise};
 use event_table::EventTable;
@@ -57,13 +58,22 @@ pub(crate) fn add<R: AllocGlobal + Threads + Sync, S: Sink>(
     add_through(rt, session, events, out, &OpenGate)
 }
 
+/// Makes a session of so many workers, to which nothing is given.
+pub(crate) fn start(alloc: Global, workers: u32) -> Result<Session, AllocError>
+    requires some { 0 < workers }
+    requires few { workers ≤ 64 }
+{
+    let given = nothing_given(alloc)?;
+    Session::new(alloc, workers, given)
+}
+
 /// Makes a session of one worker, and carries out an add of these events.
 pub(crate) fn begin<R: AllocGlobal + Threads + Sync, S: Sink>(
     rt: &R,
     events: Vec<Event>,
     out: &mut S,
 ) -> Result<Session, CommandFault> {
-    match Session::new(rt.alloc(), 1) {
+    match start(rt.alloc(), 1) {
         Ok(session) => add(rt, session, events, out),
         Err(_) => Err(CommandFault::Memory),
     }

@@ -1,7 +1,7 @@
 //! Sessions that add, drop and keep days, and what they print.
 ghost use Rattle.std.specs.Prelude.{◌≡◌, ◌<◌, ◌≤◌, IfOk};
 
-use crate::session_steps::{add, begin, carry_out, control};
+use crate::session_steps::{add, begin, carry_out, control, start};
 use crate::worked_batches::{batch, name};
 use event_lines::Command;
 use mystery_io::{MemSink, Sink};
@@ -63,7 +63,7 @@ fn run_controls<R: AllocGlobal + Threads + Sync, S: Sink>(
     events: Vec<Event>,
     out: &mut S,
 ) -> Result<Session, CommandFault> {
-    let Ok(session) = Session::new(rt.alloc(), 1) else {
+    let Ok(session) = start(rt.alloc(), 1) else {
         return Err(CommandFault::Memory);
     };
     let session = drop_and_print(rt, session, events, out)?;

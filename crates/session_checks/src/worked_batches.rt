@@ -70,6 +70,13 @@ pub(crate) fn turned_batch(alloc: Global) -> Result<Vec<Event>, AllocError> {
     Ok(events)
 }
 
+/// Makes the events of the first of these two traces.
+pub(crate) fn first_of_turned(alloc: Global) -> Result<Vec<Event>, AllocError> {
+    let mut events = turned_batch(alloc)?;
+    events.truncate(4);
+    Ok(events)
+}
+
 /// Makes the events of so many traces, each on a day of its own.
 pub(crate) fn on_days(alloc: Global, days: u32) -> Result<Vec<Event>, AllocError> {
     let mut events = Vec::new(alloc);

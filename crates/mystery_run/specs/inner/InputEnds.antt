@@ -3,15 +3,17 @@ use Rattle.std.specs.Prelude.{ℕ, ◌≡◌, ◌⊎◌, List, [], Option, Resul
 use Rattle.mystery_run.specs.declared.outcome.Outcome.{Outcome}
 use Rattle.mystery_run.specs.declared.outcome.Outcome.TheVariants.{Done, Memory, Arguments, BadLine}
 use Rattle.mystery_run.specs.declared.outcome.Outcome.TheVariants.{File, Write, Size, Over}
+use Rattle.mystery_run.specs.declared.outcome.Outcome.TheVariants.{OverGiven}
 use Rattle.mystery_run.specs.Endings.{Writes}
-use Rattle.mystery_run.specs.Texts.{IsTextOf, IsTextUpTo, IsTextOfParts}
+use Rattle.mystery_run.specs.Texts.{IsGivenOver, IsTextOf, IsTextUpTo, IsTextOfParts}
 use Rattle.mystery_run.specs.Works.{BadInput, Work}
 
 -- a work of so many workers may end so, with this text
 abbrev pub WorkEnds : ℕ → Work → Outcome → List ℕ → Type 0
 WorkEnds workers work Done text = IsTextOf workers work text
 WorkEnds workers work (Over limit) text = IsTextUpTo workers work limit text
-WorkEnds workers work Memory text = IsTextOfParts workers work text
+WorkEnds workers work (OverGiven limit) text = IsGivenOver work limit × (text ≡ [])
+WorkEnds workers work Memory text = (text ≡ []) ⊎ IsTextOfParts workers work text
 WorkEnds workers work Write text = IsTextOfParts workers work text
 WorkEnds workers work Arguments text = ⊥
 WorkEnds workers work (BadLine line why) text = ⊥

@@ -4,6 +4,7 @@ use Rattle.mystery_io.specs.Counts.{counted_up}
 use Rattle.mystery_run.specs.declared.outcome.Outcome.{Outcome}
 use Rattle.mystery_run.specs.declared.outcome.Outcome.TheVariants.{Done, Memory, Arguments, BadLine}
 use Rattle.mystery_run.specs.declared.outcome.Outcome.TheVariants.{File, Write, Size, Over}
+use Rattle.mystery_run.specs.declared.outcome.Outcome.TheVariants.{OverGiven}
 
 -- the count of faults of the sink after a run
 abbrev pub outcome_faults : Outcome → ℕ → ℕ
@@ -15,6 +16,7 @@ outcome_faults (File index) count = count
 outcome_faults Write count = counted_up count
 outcome_faults Size count = count
 outcome_faults (Over limit) count = count
+outcome_faults (OverGiven limit) count = count
 
 -- the count of faults of the files after a run
 abbrev pub outcome_read_faults : Outcome → ℕ → ℕ
@@ -26,3 +28,4 @@ outcome_read_faults (File index) count = counted_up count
 outcome_read_faults Write count = count
 outcome_read_faults Size count = count
 outcome_read_faults (Over limit) count = count
+outcome_read_faults (OverGiven limit) count = count

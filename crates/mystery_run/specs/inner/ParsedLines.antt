@@ -1,6 +1,6 @@
 -- Parsed arguments, seen as what the grammar says of them.
 use Rattle.mystery_run.specs.CommandLines.{Action, Call, session, view, what_if, tail, why, verify}
-use Rattle.mystery_run.specs.CommandLines.{evidence, drill, replay}
+use Rattle.mystery_run.specs.CommandLines.{evidence, drill, replay, given_in}
 use Rattle.mystery_run.specs.declared.action.Action as asked
 use Rattle.mystery_run.specs.declared.action.Action.TheVariants as actions
 use Rattle.mystery_run.specs.declared.change_words.ChangeWords.{ChangeWords}
@@ -25,4 +25,8 @@ action_of (actions.Replay file) = replay file.now
 
 -- a parsed command line, seen as the call that it is
 abbrev pub call_of_line : CommandLine → Call
-call_of_line line = record { workers = line.workers; action = action_of line.action }
+call_of_line line = record {
+  workers = line.workers;
+  given = given_in line.given.now;
+  action = action_of line.action;
+}

@@ -9,7 +9,7 @@ use Rattle.segment_names.specs.declared.name_fault.NameFault.TheVariants as name
 use Rattle.segment_names.specs.declared.name_fault.NameLimit.TheVariants as limits
 use Rattle.session_rules.specs.Sessions.{Passes, State}
 use Rattle.session_rules.specs.declared.job.Job.TheVariants.{Add}
-use Rattle.session_rules.specs.declared.limit.Limit.TheVariants.{Names, Tasks, Days}
+use Rattle.session_rules.specs.declared.limit.Limit.TheVariants.{Names, Tasks, Days, Traces}
 use Rattle.trace_types.specs.declared.event.Event.{Event}
 use Rattle.trace_types.specs.declared.trace.Trace.{Trace}
 use Rattle.session.specs.declared.add_fault.AddFault.{AddFault}
@@ -44,3 +44,4 @@ HasNamesCause known valid Memory = ⊤
 HasNamesCause known valid (Over (Names count)) = PassesLimit known valid (limits.Names count)
 HasNamesCause known valid (Over (Tasks count)) = PassesLimit known valid (limits.Tasks count)
 HasNamesCause known valid (Over (Days count)) = ⊥
+HasNamesCause known valid (Over Traces) = ⊥

@@ -11,6 +11,7 @@ session_with_book s book = record {
   workers = s.workers;
   known = s.known;
   book = book;
+  given = s.given;
   watch = s.watch;
   grace = s.grace;
 }
@@ -21,6 +22,7 @@ session_with_watch s every = record {
   workers = s.workers;
   known = s.known;
   book = s.book;
+  given = s.given;
   watch = every;
   grace = s.grace;
 }
@@ -31,6 +33,7 @@ session_with_grace s micros = record {
   workers = s.workers;
   known = s.known;
   book = s.book;
+  given = s.given;
   watch = s.watch;
   grace = micros;
 }
@@ -41,6 +44,7 @@ session_with_names s valid = record {
   workers = s.workers;
   known = with_traces s.known valid;
   book = with_names s.book (length (with_traces s.known valid).names);
+  given = s.given;
   watch = s.watch;
   grace = s.grace;
 }

@@ -1,8 +1,12 @@
 -- What a job other than an add does to a session, and what is printed of it.
-use Rattle.std.specs.Prelude.{ℕ, List, Option, Result}
+use Rattle.std.specs.Prelude.{ℕ, List, Option, Result, ⊤}
+use Rattle.event_lines.specs.declared.command.Command.{Command}
+use Rattle.event_lines.specs.declared.command.Command.TheVariants as commands
 use Rattle.session_rules.specs.Parts.{IsPart, Part}
 use Rattle.session_rules.specs.Sessions.{Does, State}
 use Rattle.session_rules.specs.declared.job.Job.{Job}
+use Rattle.session_rules.specs.declared.job.Job.TheVariants.{Add, Control, Summary, WhatIf, Tail}
+use Rattle.session_rules.specs.declared.job.Job.TheVariants.{Why, Verify, Evidence}
 use Rattle.text_rows.specs.TextsOfParts.{PrintsTexts}
 use Rattle.text_rows.specs.declared.print_fault.PrintFault.{PrintFault}
 use Rattle.session.specs.SessionStates.{SessionState, Shows}
@@ -24,3 +28,28 @@ abbrev pub PrintsSteps : {S T : Type 0} → (S → Option (List ℕ)) → (S →
 PrintsSteps written faults result old new job before session held holds = (s : State)
     → Shows before s
     → PrintsStep written faults result old new before.workers job s session held holds
+
+-- the command prints a view of the kept traces and the given digest
+abbrev pub IsView : Command → Type 0
+IsView commands.Add = ⊥
+IsView (commands.Drop day) = ⊥
+IsView (commands.Keep days) = ⊥
+IsView (commands.Watch every) = ⊥
+IsView (commands.Grace micros) = ⊥
+IsView commands.Model = ⊤
+IsView commands.Paths = ⊤
+IsView commands.Slack = ⊤
+IsView commands.Report = ⊤
+IsView commands.Graph = ⊤
+IsView commands.Summarize = ⊤
+
+-- the job is no command, and prints what the kept traces and the given digest leave
+abbrev pub IsJudgedJob : Job → Type 0
+IsJudgedJob (Add events) = ⊥
+IsJudgedJob (Control command) = ⊥
+IsJudgedJob Summary = ⊤
+IsJudgedJob (WhatIf change) = ⊤
+IsJudgedJob Tail = ⊤
+IsJudgedJob Why = ⊥
+IsJudgedJob (Verify claims) = ⊥
+IsJudgedJob (Evidence choice) = ⊥

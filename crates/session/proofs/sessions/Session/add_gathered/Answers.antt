@@ -28,7 +28,7 @@ returns-in_err-watched-clause-cause g c =
     let batch = c.in_ok-session.field-0 in
     let fault = c.in_err-watched.field-0.0 in
     let p = err_from_is_err_and c.from_residual-in_err-watched.result c.from_residual-in_err-watched.ensures.1 in
-    rw (p.1, p.2) (λ events same s shown. booked_cause c.args.self valid batch.session c.in_ok-session.ensures.added c.add_passes_days.ensures fault s events refused shown (judged_as c.args.gathered.now.traces events valid refused same c.in_ok-judged.ensures.judged) (c.in_err-watched.ensures.cause valid c.in_ok-session.ensures.shown))
+    rw (p.1, p.2) (λ events same s shown. booked_cause c.args.self valid batch.session c.in_ok-session.ensures.added c.add_passes_days.ensures c.add_passes_traces.ensures fault s events refused shown (judged_as c.args.gathered.now.traces events valid refused same c.in_ok-judged.ensures.judged) (c.in_err-watched.ensures.cause valid c.in_ok-session.ensures.shown))
 
 pub returns-clause-kept : goal.returns-clause-kept
 returns-clause-kept g c =

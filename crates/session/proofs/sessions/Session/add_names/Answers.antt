@@ -17,4 +17,4 @@ returns-in_err-book-clause-cause g c =
 pub returns-clause-added : goal.returns-clause-added
 returns-clause-added g c =
     let old = c.self.inside in
-    are_named c.args.self (map cut_trace c.args.valid.items) old.workers old.book c.in_ok-book.field-0.book old.watch old.grace c.self.view_is c.name_and_widen.ensures.kept.known c.in_ok-book.ensures.none c.in_ok-book.ensures.added
+    are_named c.args.self (map cut_trace c.args.valid.items) old.workers old.book c.in_ok-book.field-0.book old.given old.watch old.grace c.self.view_is c.name_and_widen.ensures.kept.known c.in_ok-book.ensures.none c.in_ok-book.ensures.added
