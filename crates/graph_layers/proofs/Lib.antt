@@ -1,0 +1,5 @@
+pub mod ArrowLemmas
+pub mod DepthLemmas
+pub mod LayerLemmas
+pub mod ReachLemmas
+pub mod SeatLemmas

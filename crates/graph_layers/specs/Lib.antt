@@ -1,0 +1,5 @@
+pub mod Joined
+pub mod Layers
+pub mod Layouts
+pub mod Places
+pub mod inner
