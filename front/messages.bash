@@ -64,7 +64,8 @@ explain_option() {
     local near
     case $1 in
     --workers) say "--workers needs a number from 1 to 64 after it" ;;
-    --workers=*) say "'$1' was not understood: write '--workers ${1#*=}'" ;;
+    --given) say "--given needs a FILE after it, with what 'summarize' printed" ;;
+    --workers=* | --given=*) say "'$1' was not understood: write '${1%%=*} ${1#*=}'" ;;
     *)
         near=$(nearest "$1" $(all_options))
         say "there is no option '$1'${near:+; did you mean '$near'?}"
@@ -143,6 +144,8 @@ explain_files() {
         say "verify takes CERT, a file that 'why' printed, and then the files of the events"
     elif [ "$name" = replay ] && (($# > 1)); then
         say "replay takes one file of steps"
+    elif needs_no_file "$name" && (($# == 0)); then
+        say "a file that is given has an empty name"
     elif (($# <= fixed)); then
         say "$name needs a FILE; '-' is standard input"
     else
@@ -161,14 +164,19 @@ explain_usage() {
     while [ "${1-}" = --workers ] && (($# > 1)) && is_number "$2" 1 64; do
         shift 2
     done
+    while [ "${1-}" = --given ] && (($# > 1)); do
+        shift 2
+    done
     if [ "${1-}" = --workers ] && (($# > 1)); then
         say "'$2' was not understood: --workers takes a whole number from 1 to 64, in plain digits"
     elif (($# == 0)); then
         say "there is no command"
     elif [[ $1 = -* ]]; then
         explain_option "$1"
-    elif [ "$1" = drill ]; then
+    elif [ "$1" = drill ] && ((${#given[@]} == 0)); then
         explain_drill "${@:2}"
+    elif ((${#given[@]})) && [[ " $UNGIVEN " = *" $1 "* ]]; then
+        say "$1 takes no --given"
     elif ! places_of "$@"; then
         explain_command "$1"
     elif { [ "$1" != whatif ] || ! explain_whatif "${@:2}"; } &&
@@ -235,18 +243,39 @@ explain_first_line() {
     esac
 }
 
+# Says what may have come into a file with a summary.
+explain_summary() {
+    local LC_ALL=C row
+    [ -f "$1" ] && IFS= read -r row <"$1" 2>/dev/null
+    if [[ ${row-} = refused$'\t'* ]]; then
+        say "the rows of refused traces come before the summary; without them: grep -v '^refused' FILE"
+    fi
+}
+
+# Sets `given_files` to the files of the options.
+find_given() {
+    local place
+    given_files=()
+    for ((place = 1; place < ${#given[@]}; place += 2)); do
+        given_files+=("${given[place]}")
+    done
+}
+
 # Says in which file the bad line is, and what to do with a file of another form.
 explain_line() {
-    local number reason found line form='^line ([0-9]+): ([^'$'\n'']*)'
+    local number reason found line given_files form='^line ([0-9]+): ([^'$'\n'']*)'
     [[ $message =~ $form ]] && places_of "${words[@]}" || return 0
     number=${BASH_REMATCH[1]} reason=${BASH_REMATCH[2]}
-    if [ "$reason" = 'bad certificate' ]; then
-        find_line "$number" "${words[1]}" || return 0
-    else
-        find_line "$number" "${words[@]:1+fixed}" || return 0
-    fi
+    find_given
+    case $reason in
+    'bad certificate') find_line "$number" "${words[1]}" || return 0 ;;
+    'bad summary') find_line "$number" "${given_files[@]}" || return 0 ;;
+    *) find_line "$number" "${words[@]:1+fixed}" || return 0 ;;
+    esac
     printf '(%s, line %s)\n' "$(shown_name "$found")" "$line" >&2
-    if ((line == 1)); then
+    if [ "$reason" = 'bad summary' ]; then
+        explain_summary "$found"
+    elif ((line == 1)); then
         explain_first_line "$found"
     fi
 }
@@ -266,9 +295,15 @@ reason_of() {
 
 # Says which file could not be read, and why.
 explain_file() {
-    local name form='^file ([0-9]+): '
+    local name number given_files form='^file ([0-9]+): '
     [[ $message =~ $form ]] && places_of "${words[@]}" || return 0
-    name=${words[BASH_REMATCH[1] + first_file]}
+    number=${BASH_REMATCH[1]}
+    find_given
+    if ((number <= ${#given_files[@]})); then
+        name=${given_files[number - 1]}
+    else
+        name=${words[number - ${#given_files[@]} + first_file]}
+    fi
     printf '(%s: %s)\n' "$(shown_name "$name")" "$(reason_of "$name")" >&2
     if [[ $name = -* ]]; then
         say "'$name' stands where files do: options of the program stand before the command"
