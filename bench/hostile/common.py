@@ -13,7 +13,7 @@ MESSAGES = {
     3: rb"line [1-9][0-9]*: [a-zA-Z ]+\n",
     4: rb"file [1-9][0-9]*: read failed\n",
     5: rb"write failed\n",
-    6: rb"limit: (input over 67108864 bytes|[1-9][0-9]* (segment names|tasks|days))\n",
+    6: rb"limit: (input over 67108864 bytes|[1-9][0-9]* (segment names|tasks|days|traces))\n",
 }
 
 

@@ -11,7 +11,7 @@ DAY = 86400 * 10**9
 REASONS = ["not a JSON object", "missing member", "wrong kind", "out of range", "bad text", "unknown command"]
 FAULTS = ["too many events", "repeated event", "repeated send", "repeated receive", "clock out of range"]
 NUMBERS = {"drop": "day", "keep": "days", "watch": "every", "grace": "micros"}
-PLAIN = ["add", "model", "paths", "slack", "report", "graph"]
+PLAIN = ["add", "model", "paths", "slack", "report", "graph", "summarize"]
 
 
 def fail(word):
