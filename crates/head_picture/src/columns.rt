@@ -1,33 +1,12 @@
 ghost use Rattle.std.specs.Prelude.{◌≡◌, ◌≤◌, ◌<◌, ◌^◌, ◌++◌, OnOk};
 ghost use Rattle.std.specs.List.{flat_map};
-ghost use Rattle.head_picture.specs.Heads.{column_bars, column_span, column_text, column_title};
-ghost use Rattle.head_picture.specs.Heads.{columns_text, mean_of};
+ghost use Rattle.head_picture.specs.Heads.{column_bars, column_text, column_title, columns_text};
 
 use crate::texts::{push_columns_end, push_columns_start};
 use markup::{Piece, push_fixed, push_pieces};
 use page_rows::{BucketRow, Page};
-use picture_parts::{Span, part_of, push_bar, span_of};
+use picture_parts::{Span, column_of, mean_of, part_of, push_bar};
 use std::alloc::AllocError;
-
-/// Finds the mean of numbers, rounded down.
-fn mean_of(sum: u128, count: u128) -> u128
-    ensures value { result ≡ mean_of sum count }
-    ensures most { result ≤ sum }
-{
-    if count == 0 { 0 } else { sum / count }
-}
-
-/// Finds the column of one rank of so many.
-fn column_span(count: usize, rank: u128) -> Span
-    requires { rank < 2 ^ 80 }
-    ensures { result ≡ column_span count rank }
-{
-    let span = span_of(rank, rank + 1, count as u128);
-    Span {
-        x: span.x,
-        width: span.width.saturating_sub(400),
-    }
-}
 
 /// Appends what is said of a rank.
 fn push_column_title(
@@ -79,7 +58,7 @@ fn push_column(
     let latency = mean_of(sum, loads);
     let length = mean_of(bucket.length.get().min(sum), loads);
     push_column_title(bytes, loads, latency, length)?;
-    let span = column_span(count, bucket.number.get());
+    let span = column_of(count, bucket.number.get());
     push_column_bars(
         bytes,
         span,

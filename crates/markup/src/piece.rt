@@ -27,7 +27,7 @@ fn push_piece(bytes: &mut Vec<u8>, piece: &Piece<'_>) -> Result<(), AllocError>
 {
     match piece {
         Piece::Fixed(text) => push_fixed(bytes, text),
-        Piece::Name(name) => push_name(bytes, name.as_bytes()),
+        Piece::Name(name) => push_name(bytes, name),
         Piece::Number(number) => push_number(bytes, *number),
         Piece::Place(place) => push_place(bytes, *place),
         Piece::Time(nanos) => push_time(bytes, *nanos),

@@ -7,7 +7,8 @@ use Rattle.picture_parts.specs.Places.{PartIsOnScale}
 use Rattle.matrix_picture.specs.declared.mark.Mark.{Mark}
 use Rattle.matrix_picture.specs.declared.mark.Mark.TheVariants.{Full, Part, Exclusive, Overlap, Nothing}
 use Rattle.matrix_picture.specs.Marks.{mark_edge}
-use Rattle.matrix_picture.specs.Matrices.{MarkIsWithin, cell_edge}
+use Rattle.matrix_picture.specs.Matrices.{MarkIsWithin}
+use Rattle.matrix_picture.specs.Places.{cell_edge}
 
 module _ (on_scale : PartIsOnScale) where
   -- an edge is within a cell

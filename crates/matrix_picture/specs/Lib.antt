@@ -1,3 +1,5 @@
+pub mod Frames
 pub mod Marks
 pub mod Matrices
+pub mod Places
 pub mod Texts

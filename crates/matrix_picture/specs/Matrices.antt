@@ -2,45 +2,29 @@
 use Rattle.std.specs.Prelude.{ℕ, ◌+◌, ◌-◌, ◌*◌, ◌/◌, ◌<◌, ◌≤◌, ◌==◌, ◌&&◌, ◌++◌, List, [], ◌∷◌}
 use Rattle.std.specs.Prelude.{Bool, codes, if◌then◌else◌, length, nat_le, nat_lt}
 use Rattle.std.specs.List.{flat_map}
-use Rattle.markup.specs.Parts.{Fixed, Name, Number, parts_text}
+use Rattle.markup.specs.Parts.{Fixed, Number, parts_text}
 use Rattle.page_rows.specs.declared.model_rows.BetweenRow.{BetweenRow}
 use Rattle.page_rows.specs.declared.model_rows.BoxRow.{BoxRow}
 use Rattle.page_rows.specs.Pages.{PageLists}
-use Rattle.picture_parts.specs.Names.{title_text}
+use Rattle.picture_parts.specs.Names.{isolated_text, title_text}
 use Rattle.matrix_picture.specs.declared.mark.Mark.{Mark}
 use Rattle.matrix_picture.specs.declared.mark.Mark.TheVariants.{Full, Part as PartMark, Exclusive}
 use Rattle.matrix_picture.specs.declared.mark.Mark.TheVariants.{Overlap, Nothing}
+use Rattle.matrix_picture.specs.Frames.{pipe_frames}
 use Rattle.matrix_picture.specs.Marks.{mark_class, mark_edge, mark_of}
+use Rattle.matrix_picture.specs.Places.{cell_edge, margin, mark_place, matrix_height}
+use Rattle.matrix_picture.specs.Places.{matrix_width}
 use Rattle.matrix_picture.specs.Texts.{matrix_end, matrix_start}
-
--- the edge of a cell in pixels: smaller where there are more boxes
-abbrev pub cell_edge : (count : ℕ) → ℕ
-cell_edge count = if nat_le count 24 then 16 else if nat_le count 44 then 12 else 9
-
--- the pixels to the left of the cells, for the names
-abbrev pub margin : ℕ
-margin = 220
-
--- how wide and how high the picture is
-abbrev pub matrix_width : (count : ℕ) → ℕ
-matrix_width count = margin + count * cell_edge count + 4
-
-abbrev pub matrix_height : (count : ℕ) → ℕ
-matrix_height count = count * cell_edge count + 16
-
--- where a mark of this edge begins in the cell with this number, from 0
-abbrev pub mark_place : (number cell edge : ℕ) → ℕ
-mark_place number cell edge = number * cell + (cell - edge) / 2
 
 -- the label of a box: its task, and its last event where it is a segment; the events of a task are
 -- empty
 unfoldable pub box_label : BoxRow → List ℕ
-box_label box = if length box.name.2 == 0 then parts_text (Name box.name.0 ∷ [])
-    else parts_text (Name box.name.0 ∷ Fixed (codes ": ") ∷ Name box.name.2 ∷ [])
+box_label box = if length box.name.2 == 0 then isolated_text box.name.0
+    else isolated_text box.name.0 ++ codes ": " ++ isolated_text box.name.2
 
 -- what a title says of a box: its task, and both events where it is a segment
 abbrev pub box_title : BoxRow → List ℕ
-box_title box = if length box.name.2 == 0 then parts_text (Name box.name.0 ∷ [])
+box_title box = if length box.name.2 == 0 then isolated_text box.name.0
     else title_text box.name
 
 -- the name of the box with this number
@@ -129,11 +113,11 @@ picture_start count = parts_text
     ∷ Fixed (codes "\" height=\"") ∷ Number (matrix_height count)
     ∷ Fixed (codes "\" role=\"img\" aria-label=\"Matrix of relations\">") ∷ [])
 
--- the matrix: each box has its labels, and each two boxes their cell
+-- the matrix: each box has its labels, each two boxes their cell, each two of a pipeline a frame
 unfoldable pub matrix_text : PageLists → List ℕ
 matrix_text p = matrix_start ++ picture_start (length p.boxes)
     ++ flat_map (label_if (length p.boxes)) p.boxes ++ flat_map (cell_text p.boxes) p.betweens
-    ++ matrix_end
+    ++ flat_map (pipe_frames p.boxes) p.pipes ++ matrix_end
 
 -- a mark is within its cell, and its cell within the picture
 abbrev pub MarkIsWithin : Type 0

@@ -1,6 +1,7 @@
 ghost use Rattle.std.specs.Prelude.{◌≡◌, ◌≤◌, ◌<◌, ◌^◌, ◌++◌, OnOk, length, ◌==◌};
-ghost use Rattle.matrix_picture.specs.Matrices.{cell_text, counts_text, mark_place, mark_text};
-ghost use Rattle.matrix_picture.specs.Matrices.{shown_text, square_text};
+ghost use Rattle.matrix_picture.specs.Matrices.{cell_text, counts_text, mark_text, shown_text};
+ghost use Rattle.matrix_picture.specs.Matrices.{square_text};
+ghost use Rattle.matrix_picture.specs.Places.{mark_place};
 
 use crate::Mark;
 use crate::labels::{cell_edge, push_box_name};

@@ -1,15 +1,13 @@
-ghost use Rattle.std.specs.Prelude.{◌≡◌, ◌≤◌, ◌<◌, ◌^◌, ◌++◌, ◌∷◌, [], codes, OnOk};
+ghost use Rattle.std.specs.Prelude.{◌≡◌, ◌≤◌, ◌<◌, ◌^◌, ◌++◌, OnOk};
 ghost use Rattle.std.specs.List.{flat_map};
-ghost use Rattle.markup.specs.Parts.{Fixed, Name, parts_text};
-ghost use Rattle.matrix_picture.specs.Matrices.{box_label, box_name, box_title, cell_edge, label_if};
-ghost use Rattle.matrix_picture.specs.Matrices.{label_of};
+ghost use Rattle.matrix_picture.specs.Matrices.{box_label, box_name, box_title, label_if, label_of};
 ghost use Rattle.matrix_picture.specs.Matrices.{lower_label, name_if, row_end, row_start};
+ghost use Rattle.matrix_picture.specs.Places.{cell_edge};
 
-use markup::{Piece, push_pieces};
+use markup::{Piece, push_fixed, push_pieces};
 use page_rows::BoxRow;
-use picture_parts::push_title;
+use picture_parts::{push_isolated, push_title};
 use std::alloc::AllocError;
-use trace_types::NameText;
 
 /// Gives the edge of a cell in pixels: smaller where there are more boxes.
 pub(crate) fn cell_edge(count: usize) -> u32
@@ -26,37 +24,17 @@ pub(crate) fn cell_edge(count: usize) -> u32
     }
 }
 
-/// Appends the name of a task.
-fn push_task(bytes: &mut Vec<u8>, name: &NameText) -> Result<(), AllocError>
-    ensures { OnOk result (bytes.new.items ≡ bytes.old.items ++ parts_text (Name name.now.0 ∷ [])) }
-{
-    push_pieces(bytes, &[Piece::Name(name.task.as_str())])
-}
-
-/// Appends a task and an event.
-fn push_event(bytes: &mut Vec<u8>, name: &NameText) -> Result<(), AllocError>
-    ensures { OnOk result (bytes.new.items ≡ bytes.old.items
-        ++ parts_text (Name name.now.0 ∷ Fixed (codes ": ") ∷ Name name.now.2 ∷ [])) }
-{
-    push_pieces(
-        bytes,
-        &[
-            Piece::Name(name.task.as_str()),
-            Piece::Fixed(": "),
-            Piece::Name(name.end.as_str()),
-        ],
-    )
-}
-
 /// Appends the label of a box.
 #[tactic(auto, unfolding(crate::specs::Matrices::box_label))]
 fn push_box_label(bytes: &mut Vec<u8>, row: &BoxRow) -> Result<(), AllocError>
     ensures { OnOk result (bytes.new.items ≡ bytes.old.items ++ box_label row.now) }
 {
+    push_isolated(bytes, &row.name.task)?;
     if row.name.end.as_str().is_empty() {
-        return push_task(bytes, &row.name);
+        return Ok(());
     }
-    push_event(bytes, &row.name)
+    push_fixed(bytes, ": ")?;
+    push_isolated(bytes, &row.name.end)
 }
 
 /// Appends what a title says of a box.
@@ -64,7 +42,7 @@ fn push_box_title(bytes: &mut Vec<u8>, row: &BoxRow) -> Result<(), AllocError>
     ensures { OnOk result (bytes.new.items ≡ bytes.old.items ++ box_title row.now) }
 {
     if row.name.end.as_str().is_empty() {
-        return push_task(bytes, &row.name);
+        return push_isolated(bytes, &row.name.task);
     }
     push_title(bytes, &row.name)
 }

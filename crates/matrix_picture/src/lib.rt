@@ -1,7 +1,9 @@
-//! The relations between the boxes of the model, as a matrix: a cell for each two boxes.
+//! The relations between the boxes of the model, as a matrix: a cell for each two boxes, and
+//! frames around those of pipelines.
 #![tactic(auto)]
 
 mod cell;
+mod frames;
 mod labels;
 pub mod laws;
 mod mark;

@@ -4,6 +4,7 @@ ghost use Rattle.matrix_picture.specs.Matrices.{cell_text, label_if, matrix_clas
 ghost use Rattle.matrix_picture.specs.Matrices.{picture_start};
 
 use crate::cell::push_cell;
+use crate::frames::push_frames;
 use crate::labels::{cell_edge, push_label_if};
 use crate::texts::{push_matrix_end, push_matrix_start};
 use markup::{Piece, push_pieces};
@@ -77,5 +78,6 @@ pub fn push_matrix(bytes: &mut Vec<u8>, page: &Page) -> Result<(), AllocError>
     push_picture_start(bytes, count)?;
     push_labels(bytes, count, page.boxes())?;
     push_cells(bytes, page.boxes(), page.betweens())?;
+    push_frames(bytes, page.boxes(), page.pipes())?;
     push_matrix_end(bytes)
 }

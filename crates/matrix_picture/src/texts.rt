@@ -10,7 +10,7 @@ pub(crate) fn push_matrix_start(bytes: &mut Vec<u8>) -> Result<(), AllocError>
 {
     push_fixed(
         bytes,
-        "<section id=\"model\"><h2>What depends on what?</h2><p class=\"key\"><i class=\"k full\"></i>the row happens before the column <i class=\"k part\"></i>some of its names do <i class=\"k excl\"></i>mutually exclusive <i class=\"k over\"></i>overlap; empty: never in one load, or the column happens before the row</p><div class=\"scroll\">",
+        "<section id=\"model\"><h2>What depends on what?</h2><p class=\"key\"><i class=\"k full\"></i>the row happens before the column <i class=\"k part\"></i>some of its names do <i class=\"k excl\"></i>mutually exclusive <i class=\"k over\"></i>overlap <i class=\"k pip\"></i>pipeline; empty: never in one load, or the column happens before the row</p><div class=\"scroll\">",
     )
 }
 

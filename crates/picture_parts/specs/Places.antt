@@ -19,6 +19,17 @@ abbrev pub span_of : (from to full : ℕ) → Span
 span_of from to full =
     record { x = place_of from full; width = place_of to full - place_of from full }
 
+-- the column of one of so many, from 0, with a gap behind it
+abbrev pub column_of : (count number : ℕ) → Span
+column_of count number = record {
+  x = (span_of number (number + 1) count).x;
+  width = (span_of number (number + 1) count).width - 400;
+}
+
+-- the mean of a sum over so many, rounded down; 0 of none
+abbrev pub mean_of : (sum count : ℕ) → ℕ
+mean_of sum count = if count == 0 then 0 else sum / count
+
 -- a place is on the scale, and a greater number lies no further to the left
 abbrev pub PartIsOnScale : Type 0
 PartIsOnScale = (steps n full : ℕ) → part_of steps n full ≤ steps

@@ -9,6 +9,6 @@ mod places;
 mod span;
 
 pub use bars::{begin_caption, push_bar};
-pub use names::{push_label, push_title};
-pub use places::{part_of, place_of, span_of, whole_of};
+pub use names::{push_isolated, push_label, push_title, same_name};
+pub use places::{column_of, mean_of, part_of, place_of, span_of, whole_of};
 pub use span::Span;

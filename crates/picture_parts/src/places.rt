@@ -1,5 +1,6 @@
 ghost use Rattle.std.specs.Prelude.{◌≡◌, ◌≤◌, ◌<◌, ◌+◌, ◌^◌};
-ghost use Rattle.picture_parts.specs.Places.{part_of, place_of, span_of, whole_of};
+ghost use Rattle.picture_parts.specs.Places.{column_of, mean_of, part_of, place_of, span_of};
+ghost use Rattle.picture_parts.specs.Places.{whole_of};
 
 use crate::Span;
 
@@ -43,4 +44,24 @@ pub fn span_of(from: u128, to: u128, full: u128) -> Span
         x,
         width: place_of(to, full).saturating_sub(x),
     }
+}
+
+/// Finds the column of one of so many, from 0, with a gap behind it.
+pub fn column_of(count: usize, number: u128) -> Span
+    requires { number < 2 ^ 80 }
+    ensures { result ≡ column_of count number }
+{
+    let span = span_of(number, number + 1, count as u128);
+    Span {
+        x: span.x,
+        width: span.width.saturating_sub(400),
+    }
+}
+
+/// Finds the mean of a sum over so many, rounded down.
+pub fn mean_of(sum: u128, count: u128) -> u128
+    ensures value { result ≡ mean_of sum count }
+    ensures most { result ≤ sum }
+{
+    if count == 0 { 0 } else { sum / count }
 }

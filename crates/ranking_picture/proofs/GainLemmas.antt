@@ -4,7 +4,8 @@ use Rattle.std.specs.Prelude.{if◌then◌else◌}
 use Rattle.std.proofs.Math.Seq.{drop-cons}
 use Rattle.std.proofs.lemmas.List.{drop_all}
 use Rattle.page_rows.specs.declared.gain_rows.GainRow.{GainRow}
-use Rattle.ranking_picture.specs.Rankings.{first_gain, same_name}
+use Rattle.picture_parts.specs.Names.{same_name}
+use Rattle.ranking_picture.specs.Rankings.{first_gain}
 use Rattle.trace_types.specs.Segments.{SegmentName}
 
 module _ (figure : GainRow → ℕ) (gains : List GainRow) (i : ℕ) (gain : GainRow) (name : SegmentName) (lt : i < length gains) (is : gain ≡ get_or gains i gain) where

@@ -1,5 +1,5 @@
 -- Which segments are on critical paths, the longest first, and what they would gain.
-use Rattle.std.specs.Prelude.{ℕ, ◌-◌, ◌^◌, ◌&&◌, List, [], ◌∷◌, Bool, bytes_eq, if◌then◌else◌}
+use Rattle.std.specs.Prelude.{ℕ, ◌-◌, ◌^◌, List, [], ◌∷◌, if◌then◌else◌}
 use Rattle.std.specs.Prelude.{nat_lt, IsPermutation}
 use Rattle.std.specs.List.{flat_map}
 use Rattle.std.specs.List.Sorted.{IsSortedByKey}
@@ -7,12 +7,9 @@ use Rattle.std.specs.Ordering.{nat_cmp}
 use Rattle.page_rows.specs.declared.gain_rows.GainRow.{GainRow}
 use Rattle.page_rows.specs.declared.report_rows.SegmentRow.{SegmentRow}
 use Rattle.page_rows.specs.Pages.{PageLists}
+use Rattle.picture_parts.specs.Names.{same_name}
 use Rattle.ranking_picture.specs.declared.ranked_row.RankedRow.{RankedRow}
 use Rattle.trace_types.specs.Segments.{SegmentName}
-
--- two names are equal, text by text
-abbrev pub same_name : SegmentName → SegmentName → Bool
-same_name a b = bytes_eq a.0 b.0 && bytes_eq a.1 b.1 && bytes_eq a.2 b.2
 
 -- a figure of the first gain of a name; 0 where the page has none
 abbrev pub first_gain : (GainRow → ℕ) → List GainRow → SegmentName → ℕ

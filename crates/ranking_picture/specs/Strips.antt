@@ -1,11 +1,11 @@
 -- The strip: all latency as one bar, of eight segments, of the others, and of the time between.
 use Rattle.std.specs.Prelude.{ℕ, ◌≡◌, ◌≤◌, ◌<◌, ◌+◌, ◌++◌, List, [], ◌∷◌, codes, if◌then◌else◌}
 use Rattle.std.specs.Prelude.{map, min, nat_lt, sum_by, take}
-use Rattle.markup.specs.Parts.{Fixed, Name, Time, Share, parts_text}
+use Rattle.markup.specs.Parts.{Fixed, Time, Share, parts_text}
 use Rattle.page_rows.specs.Pages.{PageLists}
 use Rattle.picture_parts.specs.declared.span.Span.{Span}
 use Rattle.picture_parts.specs.Bars.{bar_text, caption_start}
-use Rattle.picture_parts.specs.Names.{arrow}
+use Rattle.picture_parts.specs.Names.{arrow, isolated_text, title_text}
 use Rattle.picture_parts.specs.Places.{span_of, whole_of}
 use Rattle.ranking_picture.specs.declared.ranked_row.RankedRow.{RankedRow}
 use Rattle.ranking_picture.specs.Texts.{strip_start}
@@ -31,27 +31,32 @@ StripAddsUp = (all critical : ℕ) (times : List ℕ) → critical ≤ all → 0
     → sum_by (λ (s : Span). s.width) (strip_spans all critical 0 times) ≡ 100000
 
 -- what is said of a segment in the strip
-unfoldable pub part_title : ℕ → RankedRow → List ℕ
-part_title all row = parts_text
-    (Fixed (codes "<g><title>") ∷ Name row.name.0 ∷ Fixed (codes ": ") ∷ Name row.name.1
-    ∷ Fixed (codes " " ++ arrow ++ codes " ") ∷ Name row.name.2 ∷ Fixed (codes ": ")
-    ∷ Time row.critical ∷ Fixed (codes ", ") ∷ Share row.critical all
+unfoldable pub part_figures : (all : ℕ) → RankedRow → List ℕ
+part_figures all row = parts_text
+    (Fixed (codes ": ") ∷ Time row.critical ∷ Fixed (codes ", ") ∷ Share row.critical all
     ∷ Fixed (codes " of all</title>") ∷ [])
 
--- the name in a part that is wide enough
-unfoldable pub part_name : RankedRow → List ℕ
-part_name row = parts_text
-    (Name row.name.0 ∷ Fixed (codes " " ++ arrow ++ codes " ") ∷ Name row.name.2
+unfoldable pub part_title : (all : ℕ) → RankedRow → List ℕ
+part_title all row = codes "<g><title>" ++ title_text row.name ++ part_figures all row
+
+-- the name in a part that is wide enough, and its share below
+unfoldable pub part_share : (all : ℕ) → RankedRow → List ℕ
+part_share all row = parts_text
+    (Fixed (codes "</text><text class=\"in\" x=\"5\" y=\"28\">") ∷ Share row.critical all
     ∷ Fixed (codes "</text></svg>") ∷ [])
 
-abbrev pub part_caption : Span → RankedRow → List ℕ
-part_caption span row =
-    if nat_lt 3500 span.width then caption_start span 34 20 ++ part_name row else []
+unfoldable pub part_name : (all : ℕ) → RankedRow → List ℕ
+part_name all row = isolated_text row.name.0 ++ codes " " ++ arrow ++ codes " "
+    ++ isolated_text row.name.2 ++ part_share all row
+
+abbrev pub part_caption : (all : ℕ) → Span → RankedRow → List ℕ
+part_caption all span row =
+    if nat_lt 3500 span.width then caption_start span 34 14 ++ part_name all row else []
 
 -- the part of one segment
 unfoldable pub part_text : (all : ℕ) → Span → RankedRow → List ℕ
 part_text all span row = part_title all row ++ bar_text (codes "path") span 0 34
-    ++ part_caption span row ++ codes "</g>"
+    ++ part_caption all span row ++ codes "</g>"
 
 -- the parts of segments from a time on, then the rest of the critical paths and what is between
 abbrev pub strip_from : (all critical at : ℕ) → List RankedRow → List ℕ

@@ -95,11 +95,14 @@ others_list ranking = others_start ++ flat_map item_text (drop 24 ranking) ++ ot
 abbrev pub others_text : List RankedRow → List ℕ
 others_text ranking = if nat_lt 24 (length ranking) then others_list ranking else []
 
--- how many segments are on no critical path
-unfoldable pub off_text : (off all : ℕ) → List ℕ
-off_text off all = parts_text (Fixed (codes "<p class=\"note\">") ∷ Number off
+-- how many segments are on no critical path; nothing where none is
+unfoldable pub off_count : (off all : ℕ) → List ℕ
+off_count off all = parts_text (Fixed (codes "<p class=\"note\">") ∷ Number off
     ∷ Fixed (codes " of ") ∷ Number all
     ∷ Fixed (codes " segments are on no critical path and so not in this list.</p>") ∷ [])
+
+abbrev pub off_text : (off all : ℕ) → List ℕ
+off_text off all = if off == 0 then [] else off_count off all
 
 -- the scale of the table: the longest row, the rest or the time between fill the width
 abbrev pub scale_of : PageLists → List RankedRow → Scale

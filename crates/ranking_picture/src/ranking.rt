@@ -3,21 +3,13 @@ ghost use Rattle.std.specs.List.{flat_map};
 ghost use Rattle.std.specs.List.Sorted.{IsSortedByKey};
 ghost use Rattle.std.specs.Ordering.{nat_cmp};
 ghost use Rattle.ranking_picture.specs.Rankings.{IsRanking, half_of, none_of, rank_key, ranked_row};
-ghost use Rattle.ranking_picture.specs.Rankings.{row_if_on_path, same_name};
+ghost use Rattle.ranking_picture.specs.Rankings.{row_if_on_path};
 
 use crate::RankedRow;
 use page_rows::{Amount, GainRow, Page, SegmentRow};
+use picture_parts::same_name;
 use std::alloc::{AllocError, Global};
 use trace_types::NameText;
-
-/// Tells whether two names are equal.
-fn same_name(a: &NameText, b: &NameText) -> bool
-    ensures { result ≡ same_name a.now b.now }
-{
-    a.task.as_str() == b.task.as_str()
-        && a.start.as_str() == b.start.as_str()
-        && a.end.as_str() == b.end.as_str()
-}
 
 /// Makes a second number of a page.
 fn copy_of(amount: &Amount) -> Amount

@@ -1,11 +1,12 @@
 ghost use Rattle.std.specs.Prelude.{◌≡◌, ◌≤◌, ◌<◌, ◌^◌, ◌++◌, OnOk, take};
-ghost use Rattle.ranking_picture.specs.Strips.{end_of, part_caption, part_name, part_text, part_title};
-ghost use Rattle.ranking_picture.specs.Strips.{strip_from, strip_text};
+ghost use Rattle.ranking_picture.specs.Strips.{end_of, part_caption, part_figures, part_name};
+ghost use Rattle.ranking_picture.specs.Strips.{part_share, part_text, part_title, strip_from};
+ghost use Rattle.ranking_picture.specs.Strips.{strip_text};
 
 use crate::RankedRow;
 use crate::texts::push_strip_start;
 use markup::{Piece, Share, push_fixed, push_pieces};
-use picture_parts::{Span, begin_caption, push_bar, span_of};
+use picture_parts::{Span, begin_caption, push_bar, push_isolated, push_title, span_of};
 use std::alloc::AllocError;
 
 /// How many segments the strip shows.
@@ -21,23 +22,16 @@ fn end_of(critical: u128, at: u128, time: u128) -> u128
     (at + time).min(critical)
 }
 
-/// Appends what is said of a segment in the strip.
-fn push_part_title(bytes: &mut Vec<u8>, all: u128, row: &RankedRow) -> Result<(), AllocError>
+/// Appends what is said of a segment in the strip, behind its name.
+fn push_part_figures(bytes: &mut Vec<u8>, all: u128, row: &RankedRow) -> Result<(), AllocError>
     requires { all < 2 ^ 90 }
-    ensures { OnOk result (bytes.new.items ≡ bytes.old.items ++ part_title all row.now) }
+    ensures { OnOk result (bytes.new.items ≡ bytes.old.items ++ part_figures all row.now) }
 {
-    let name = &row.name;
     let critical = row.critical.get();
     let share = Share::of(critical, all);
     push_pieces(
         bytes,
         &[
-            Piece::Fixed("<g><title>"),
-            Piece::Name(name.task.as_str()),
-            Piece::Fixed(": "),
-            Piece::Name(name.start.as_str()),
-            Piece::Fixed(" → "),
-            Piece::Name(name.end.as_str()),
             Piece::Fixed(": "),
             Piece::Time(critical),
             Piece::Fixed(", "),
@@ -47,31 +41,60 @@ fn push_part_title(bytes: &mut Vec<u8>, all: u128, row: &RankedRow) -> Result<()
     )
 }
 
-/// Appends the name in a part.
-fn push_part_name(bytes: &mut Vec<u8>, row: &RankedRow) -> Result<(), AllocError>
-    ensures { OnOk result (bytes.new.items ≡ bytes.old.items ++ part_name row.now) }
+/// Appends what is said of a segment in the strip.
+#[tactic(auto, unfolding(crate::specs::Strips::part_title))]
+fn push_part_title(bytes: &mut Vec<u8>, all: u128, row: &RankedRow) -> Result<(), AllocError>
+    requires { all < 2 ^ 90 }
+    ensures { OnOk result (bytes.new.items ≡ bytes.old.items ++ part_title all row.now) }
 {
-    let name = &row.name;
+    push_fixed(bytes, "<g><title>")?;
+    push_title(bytes, &row.name)?;
+    push_part_figures(bytes, all, row)
+}
+
+/// Appends the share of a part below its name.
+fn push_part_share(bytes: &mut Vec<u8>, all: u128, row: &RankedRow) -> Result<(), AllocError>
+    requires { all < 2 ^ 90 }
+    ensures { OnOk result (bytes.new.items ≡ bytes.old.items ++ part_share all row.now) }
+{
+    let share = Share::of(row.critical.get(), all);
     push_pieces(
         bytes,
         &[
-            Piece::Name(name.task.as_str()),
-            Piece::Fixed(" → "),
-            Piece::Name(name.end.as_str()),
+            Piece::Fixed("</text><text class=\"in\" x=\"5\" y=\"28\">"),
+            Piece::Share(share),
             Piece::Fixed("</text></svg>"),
         ],
     )
 }
 
-/// Appends the name in a part, if that is wide enough.
-fn push_part_caption(bytes: &mut Vec<u8>, span: Span, row: &RankedRow) -> Result<(), AllocError>
-    ensures { OnOk result (bytes.new.items ≡ bytes.old.items ++ part_caption span row.now) }
+/// Appends the name in a part, and its share below.
+#[tactic(auto, unfolding(crate::specs::Strips::part_name))]
+fn push_part_name(bytes: &mut Vec<u8>, all: u128, row: &RankedRow) -> Result<(), AllocError>
+    requires { all < 2 ^ 90 }
+    ensures { OnOk result (bytes.new.items ≡ bytes.old.items ++ part_name all row.now) }
+{
+    push_isolated(bytes, &row.name.task)?;
+    push_fixed(bytes, " → ")?;
+    push_isolated(bytes, &row.name.end)?;
+    push_part_share(bytes, all, row)
+}
+
+/// Appends the name in a part and its share, if that is wide enough.
+fn push_part_caption(
+    bytes: &mut Vec<u8>,
+    all: u128,
+    span: Span,
+    row: &RankedRow,
+) -> Result<(), AllocError>
+    requires { all < 2 ^ 90 }
+    ensures { OnOk result (bytes.new.items ≡ bytes.old.items ++ part_caption all span row.now) }
 {
     if span.width <= 3500 {
         return Ok(());
     }
-    begin_caption(bytes, span, 34, 20)?;
-    push_part_name(bytes, row)
+    begin_caption(bytes, span, 34, 14)?;
+    push_part_name(bytes, all, row)
 }
 
 /// Appends the part of one segment.
@@ -82,7 +105,7 @@ fn push_part(bytes: &mut Vec<u8>, all: u128, span: Span, row: &RankedRow) -> Res
 {
     push_part_title(bytes, all, row)?;
     push_bar(bytes, "path", span, 0, 34)?;
-    push_part_caption(bytes, span, row)?;
+    push_part_caption(bytes, all, span, row)?;
     push_fixed(bytes, "</g>")
 }
 

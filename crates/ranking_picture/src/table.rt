@@ -1,7 +1,8 @@
 ghost use Rattle.std.specs.Prelude.{◌≡◌, ◌≤◌, ◌<◌, ◌^◌, ◌++◌, OnOk, codes, drop, take};
 ghost use Rattle.std.specs.List.{flat_map};
-ghost use Rattle.ranking_picture.specs.Tables.{between_text, half_mark, item_text, item_time, off_text, other_figures};
-ghost use Rattle.ranking_picture.specs.Tables.{other_text, others_list, others_text, per_load};
+ghost use Rattle.ranking_picture.specs.Tables.{between_text, half_mark, item_text, item_time};
+ghost use Rattle.ranking_picture.specs.Tables.{off_count, off_text, other_figures, other_text};
+ghost use Rattle.ranking_picture.specs.Tables.{others_list, others_text, per_load};
 ghost use Rattle.ranking_picture.specs.Tables.{rest_name, rest_text, row_bars, row_figures, row_text};
 
 use crate::texts::{
@@ -220,9 +221,9 @@ pub(crate) fn push_others(bytes: &mut Vec<u8>, ranking: &[RankedRow]) -> Result<
     push_others_list(bytes, ranking)
 }
 
-/// Appends how many segments are on no critical path.
-pub(crate) fn push_off(bytes: &mut Vec<u8>, off: usize, all: usize) -> Result<(), AllocError>
-    ensures { OnOk result (bytes.new.items ≡ bytes.old.items ++ off_text off all) }
+/// Appends a number of segments that are on no critical path.
+fn push_off_count(bytes: &mut Vec<u8>, off: usize, all: usize) -> Result<(), AllocError>
+    ensures { OnOk result (bytes.new.items ≡ bytes.old.items ++ off_count off all) }
 {
     push_pieces(
         bytes,
@@ -234,4 +235,14 @@ pub(crate) fn push_off(bytes: &mut Vec<u8>, off: usize, all: usize) -> Result<()
             Piece::Fixed(" segments are on no critical path and so not in this list.</p>"),
         ],
     )
+}
+
+/// Appends how many segments are on no critical path, unless none is.
+pub(crate) fn push_off(bytes: &mut Vec<u8>, off: usize, all: usize) -> Result<(), AllocError>
+    ensures { OnOk result (bytes.new.items ≡ bytes.old.items ++ off_text off all) }
+{
+    if off == 0 {
+        return Ok(());
+    }
+    push_off_count(bytes, off, all)
 }

@@ -1,2 +1,3 @@
+mod LeastLemmas
 mod OrderLemmas
 mod ScaleLemmas

@@ -4,7 +4,7 @@ use Rattle.std.specs.Prelude.{if◌then◌else◌, sum_by}
 use Rattle.std.proofs.lemmas.Bool.{eqb-false, eqb-true}
 use Rattle.std.proofs.lemmas.List.Sums.{sum_by-cons}
 use Rattle.picture_parts.specs.Places.{PartIsOnScale, PartsKeepOrder, part_of}
-use Rattle.room_picture.specs.Scales.{RoomPlaceIsWithin, RoomPlacesKeepOrder, RoomSpanIsWithin, decade_part, decades, room_place, room_span, steps_to}
+use Rattle.room_picture.specs.Scales.{RoomPlaceIsWithin, RoomPlacesKeepOrder, RoomSpanIsWithin, base_of, decade_part, decades, room_place, room_span, steps_to}
 
 -- of two functions the one that is nowhere greater has no greater sum
 sums_keep : (f g : ℕ → ℕ) → ((x : ℕ) → f x ≤ g x) → (xs : List ℕ) → sum_by f xs ≤ sum_by g xs
@@ -17,7 +17,7 @@ sums_keep f g h (x ∷ xs) = rw (sum_by-cons f x xs, sum_by-cons g x xs) (add (f
 module _ (on_scale : PartIsOnScale) (keep_order : PartsKeepOrder) where
   pub within : RoomPlaceIsWithin
   unfolding room_place
-  within n full = by (n == 0) (part_of 84000 (steps_to n) (steps_to full)) (on_scale 84000 (steps_to n) (steps_to full))
+  within least full n = by (n == 0) (part_of 84000 (steps_to n - base_of least) (steps_to full - base_of least)) (on_scale 84000 (steps_to n - base_of least) (steps_to full - base_of least))
     where
       by : (b : Bool) (p : ℕ) → p ≤ 84000 → (if b then 2000 else 12000 + p) ≤ 96000
       by true p h = omega arith
@@ -37,9 +37,12 @@ module _ (on_scale : PartIsOnScale) (keep_order : PartsKeepOrder) where
   sum_order : (n m : ℕ) (powers : List ℕ) → n ≤ m → sum_by (decade_part n) powers ≤ sum_by (decade_part m) powers
   sum_order n m powers le = sums_keep (decade_part n) (decade_part m) (λ power. decade_order n m power le) powers
 
+  less_order : (a b base : ℕ) → a ≤ b → a - base ≤ b - base
+  less_order a b base h = omega (arith, h)
+
   pub order : RoomPlacesKeepOrder
   unfolding room_place
-  order n m full le = by (n == 0) (m == 0) refl refl _ _ (keep_order 84000 (steps_to n) (steps_to m) (steps_to full) (sum_order n m decades le))
+  order least full n m le = by (n == 0) (m == 0) refl refl _ _ (keep_order 84000 (steps_to n - base_of least) (steps_to m - base_of least) (steps_to full - base_of least) (less_order (steps_to n) (steps_to m) (base_of least) (sum_order n m decades le)))
     where
       by : (b d : Bool) → (n == 0) ≡ b → (m == 0) ≡ d → (p q : ℕ) → p ≤ q → (if b then 2000 else 12000 + p) ≤ (if d then 2000 else 12000 + q)
       by true true e f p q h = omega arith
@@ -49,7 +52,7 @@ module _ (on_scale : PartIsOnScale) (keep_order : PartsKeepOrder) where
 
   pub spans : RoomSpanIsWithin
   unfolding room_span
-  spans from to full = add (room_place from full) (room_place to full) (within from full) (within to full)
+  spans least full from to = add (room_place least full from) (room_place least full to) (within least full from) (within least full to)
     where
       add : (a b : ℕ) → a ≤ 96000 → b ≤ 96000 → a + (b - a) ≤ 96000
       add a b p q = omega arith

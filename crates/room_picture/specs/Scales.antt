@@ -1,5 +1,5 @@
 -- Where a time lies on a scale whose steps grow: 1, 2 and 5 of each power of ten from 1 µs on.
-use Rattle.std.specs.Prelude.{ℕ, ◌≤◌, ◌+◌, ◌-◌, ◌*◌, ◌==◌, List, [], ◌∷◌, if◌then◌else◌}
+use Rattle.std.specs.Prelude.{ℕ, ◌≤◌, ◌+◌, ◌-◌, ◌*◌, ◌/◌, ◌==◌, List, [], ◌∷◌, if◌then◌else◌}
 use Rattle.std.specs.Prelude.{sum_by}
 use Rattle.picture_parts.specs.Places.{part_of}
 use Rattle.picture_parts.specs.declared.span.Span.{Span}
@@ -19,26 +19,33 @@ decade_part n power = part_of 1000 (n - power) power
 abbrev pub steps_to : ℕ → ℕ
 steps_to n = sum_by (decade_part n) decades
 
--- the place of a time on the width of a picture that ends at the time `full`: 0 stands apart at the
--- left
-unfoldable pub room_place : (n full : ℕ) → ℕ
-room_place n full =
-    if n == 0 then 2000 else 12000 + part_of 84000 (steps_to n) (steps_to full)
+-- where a scale begins that has to show this time: at the power of ten at or before it
+abbrev pub base_of : (least : ℕ) → ℕ
+base_of least = steps_to least / 3000 * 3000
+
+-- the place of a time on the width of a picture that shows times from `least` to `full`: 0 stands
+-- apart at the left
+unfoldable pub room_place : (least full n : ℕ) → ℕ
+room_place least full n = if n == 0 then 2000
+    else 12000 + part_of 84000 (steps_to n - base_of least) (steps_to full - base_of least)
 
 -- the bar from one time to another
-unfoldable pub room_span : (from to full : ℕ) → Span
-room_span from to full =
-    record { x = room_place from full; width = room_place to full - room_place from full }
+unfoldable pub room_span : (least full from to : ℕ) → Span
+room_span least full from to = record {
+  x = room_place least full from;
+  width = room_place least full to - room_place least full from;
+}
 
 -- a place is within the width
 abbrev pub RoomPlaceIsWithin : Type 0
-RoomPlaceIsWithin = (n full : ℕ) → room_place n full ≤ 96000
+RoomPlaceIsWithin = (least full n : ℕ) → room_place least full n ≤ 96000
 
 -- a longer time lies no further to the left
 abbrev pub RoomPlacesKeepOrder : Type 0
-RoomPlacesKeepOrder = (n m full : ℕ) → n ≤ m → room_place n full ≤ room_place m full
+RoomPlacesKeepOrder =
+    (least full n m : ℕ) → n ≤ m → room_place least full n ≤ room_place least full m
 
 -- a bar is within the width
 abbrev pub RoomSpanIsWithin : Type 0
-RoomSpanIsWithin =
-    (from to full : ℕ) → (room_span from to full).x + (room_span from to full).width ≤ 96000
+RoomSpanIsWithin = (least full from to : ℕ)
+    → (room_span least full from to).x + (room_span least full from to).width ≤ 96000

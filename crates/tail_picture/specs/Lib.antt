@@ -1,2 +1,3 @@
+pub mod Heats
 pub mod Tails
 pub mod Texts

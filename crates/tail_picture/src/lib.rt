@@ -1,6 +1,10 @@
-//! The slowest loads of a page beside the rest: what each name takes on their critical paths.
+//! The slowest loads of a page beside the rest: what differs on the whole, what each name takes on
+//! their critical paths, and what it takes rank by rank.
 #![tactic(auto)]
 
+mod difference;
+mod heat;
+pub mod laws;
 mod ordering;
 mod table;
 mod tailed_row;

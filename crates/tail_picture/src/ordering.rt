@@ -2,29 +2,20 @@ ghost use Rattle.std.specs.Prelude.{◌≡◌, ◌++◌, ◌<◌, ◌^◌, IfOk,
 ghost use Rattle.std.specs.List.{flat_map};
 ghost use Rattle.std.specs.List.Sorted.{IsSortedByKey};
 ghost use Rattle.std.specs.Ordering.{nat_cmp};
-ghost use Rattle.tail_picture.specs.Tails.{IsTailOrder, apart, mean_of, others_of, row_if_seen};
-ghost use Rattle.tail_picture.specs.Tails.{tail_key, tailed_row};
+ghost use Rattle.picture_parts.specs.Places.{mean_of};
+ghost use Rattle.tail_picture.specs.Tails.{IsTailOrder, apart, row_if_seen, tail_key, tailed_row};
 
 use crate::TailedRow;
+use crate::difference::{apart_of, others_of};
 use page_rows::{Amount, Page, TailHead, TailRow};
+use picture_parts::mean_of;
 use std::alloc::{AllocError, Global};
 
 /// Finds the mean of a sum over so many.
-fn mean_of(sum: &Amount, count: u128) -> Amount
+fn mean_amount(sum: &Amount, count: u128) -> Amount
     ensures { result ≡ mean_of sum.now count }
 {
-    let sum = sum.get();
-    if count == 0 {
-        return Amount::of(0);
-    }
-    Amount::of(sum / count)
-}
-
-/// Tells how many loads are not slow.
-pub(crate) fn others_of(head: &TailHead) -> u128
-    ensures { result ≡ others_of head.now }
-{
-    head.traces.get().saturating_sub(head.slow.get())
+    Amount::of(mean_of(sum.get(), count))
 }
 
 /// Makes the row of a name.
@@ -33,8 +24,8 @@ fn make_row(alloc: Global, head: &TailHead, row: &TailRow) -> Result<TailedRow, 
 {
     Ok(TailedRow {
         name: row.name.copy(alloc)?,
-        slow: mean_of(&row.slow_sum, head.slow.get()),
-        rest: mean_of(&row.rest_sum, others_of(head)),
+        slow: mean_amount(&row.slow_sum, head.slow.get()),
+        rest: mean_amount(&row.rest_sum, others_of(head)),
     })
 }
 
@@ -73,13 +64,7 @@ pub(crate) fn apart(row: &TailedRow) -> u128
     ensures value { result ≡ apart row.now }
     ensures small { result < 2 ^ 80 }
 {
-    let slow = row.slow.get();
-    let rest = row.rest.get();
-    if slow < rest {
-        rest - slow
-    } else {
-        slow - rest
-    }
+    apart_of(row.slow.get(), row.rest.get())
 }
 
 /// Returns the key by which rows are ordered: the farthest apart has the least.

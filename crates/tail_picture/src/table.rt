@@ -1,11 +1,13 @@
 ghost use Rattle.std.specs.Prelude.{◌≡◌, ◌++◌, List, OnOk, take};
 ghost use Rattle.std.specs.List.{flat_map};
 ghost use Rattle.tail_picture.specs.declared.tailed_row.TailedRow.{TailedRow as Tailed};
-ghost use Rattle.tail_picture.specs.Tails.{IsTailOrder, head_text, more_text, row_bars, row_figures};
-ghost use Rattle.tail_picture.specs.Tails.{greater_of, row_text, sign_of, table_text, tail_text};
-ghost use Rattle.tail_picture.specs.Tails.{width_of};
+ghost use Rattle.tail_picture.specs.Tails.{IsTailOrder, count_text, greater_of, head_text};
+ghost use Rattle.tail_picture.specs.Tails.{more_text, row_bars, row_figures, row_text, table_text};
+ghost use Rattle.tail_picture.specs.Tails.{tail_text, width_of};
 
-use crate::ordering::{apart, others_of};
+use crate::difference::{others_of, push_difference, sign_of};
+use crate::heat::push_heat;
+use crate::ordering::apart;
 use crate::texts::{
     push_picture_start, push_row_start, push_table_end, push_table_start, push_tail_end,
     push_tail_start,
@@ -28,24 +30,13 @@ fn push_row_bars(bytes: &mut Vec<u8>, width: u128, row: &TailedRow) -> Result<()
     push_bar(bytes, "off", span_of(0, row.rest.get(), width), 10, 8)
 }
 
-/// Lends the sign of the difference.
-fn sign_of(row: &TailedRow) -> &'static str
-    ensures { result.now ≡ sign_of row.now }
-{
-    if row.slow.get() < row.rest.get() {
-        "-"
-    } else {
-        "+"
-    }
-}
-
 /// Appends the figures of a name.
 fn push_row_figures(bytes: &mut Vec<u8>, row: &TailedRow) -> Result<(), AllocError>
     ensures { OnOk result (bytes.new.items ≡ bytes.old.items ++ row_figures row.now) }
 {
     let slow = row.slow.get();
     let rest = row.rest.get();
-    let sign = sign_of(row);
+    let sign = sign_of(slow, rest);
     let difference = apart(row);
     push_pieces(
         bytes,
@@ -57,29 +48,40 @@ fn push_row_figures(bytes: &mut Vec<u8>, row: &TailedRow) -> Result<(), AllocErr
             Piece::Fixed("<td>"),
             Piece::Fixed(sign),
             Piece::Time(difference),
-            Piece::Fixed("</tr>"),
         ],
     )
 }
 
 /// Appends the row of a name.
 #[tactic(auto, unfolding(crate::specs::Tails::row_text))]
-fn push_row(bytes: &mut Vec<u8>, width: u128, row: &TailedRow) -> Result<(), AllocError>
-    ensures { OnOk result (bytes.new.items ≡ bytes.old.items ++ row_text width row.now) }
+fn push_row(
+    bytes: &mut Vec<u8>,
+    page: &Page,
+    width: u128,
+    row: &TailedRow,
+) -> Result<(), AllocError>
+    ensures { OnOk result (bytes.new.items ≡ bytes.old.items ++ row_text page.now width row.now) }
 {
     push_row_start(bytes)?;
     push_label(bytes, &row.name)?;
     push_picture_start(bytes)?;
     push_row_bars(bytes, width, row)?;
-    push_row_figures(bytes, row)
+    push_row_figures(bytes, row)?;
+    push_heat(bytes, page, width, &row.name)
 }
 
 /// Appends rows.
-fn push_rows(bytes: &mut Vec<u8>, width: u128, rows: &[TailedRow]) -> Result<(), AllocError>
-    ensures { OnOk result (bytes.new.items ≡ bytes.old.items ++ flat_map (row_text width) rows.now) }
+fn push_rows(
+    bytes: &mut Vec<u8>,
+    page: &Page,
+    width: u128,
+    rows: &[TailedRow],
+) -> Result<(), AllocError>
+    ensures { OnOk result
+        (bytes.new.items ≡ bytes.old.items ++ flat_map (row_text page.now width) rows.now) }
 {
     'rows: for row in rows {
-        push_row(bytes, width, row)?;
+        push_row(bytes, page, width, row)?;
     }
     Ok(())
 }
@@ -112,11 +114,11 @@ fn width_of(rows: &[TailedRow]) -> u128
 
 /// Appends the table of these rows.
 #[tactic(auto, unfolding(crate::specs::Tails::table_text))]
-fn push_table(bytes: &mut Vec<u8>, rows: &[TailedRow]) -> Result<(), AllocError>
-    ensures { OnOk result (bytes.new.items ≡ bytes.old.items ++ table_text rows.now) }
+fn push_table(bytes: &mut Vec<u8>, page: &Page, rows: &[TailedRow]) -> Result<(), AllocError>
+    ensures { OnOk result (bytes.new.items ≡ bytes.old.items ++ table_text page.now rows.now) }
 {
     push_table_start(bytes)?;
-    push_rows(bytes, width_of(rows), rows)?;
+    push_rows(bytes, page, width_of(rows), rows)?;
     push_table_end(bytes)
 }
 
@@ -141,9 +143,9 @@ fn push_tail_head(bytes: &mut Vec<u8>, head: &TailHead) -> Result<(), AllocError
     )
 }
 
-/// Appends how many names are behind the first 16.
-fn push_more(bytes: &mut Vec<u8>, count: usize) -> Result<(), AllocError>
-    ensures { OnOk result (bytes.new.items ≡ bytes.old.items ++ more_text count) }
+/// Appends a number of names that are behind the first 16.
+fn push_count(bytes: &mut Vec<u8>, count: usize) -> Result<(), AllocError>
+    ensures { OnOk result (bytes.new.items ≡ bytes.old.items ++ count_text count) }
 {
     push_pieces(
         bytes,
@@ -157,6 +159,16 @@ fn push_more(bytes: &mut Vec<u8>, count: usize) -> Result<(), AllocError>
     )
 }
 
+/// Appends how many names are behind the first 16, unless none is.
+fn push_more(bytes: &mut Vec<u8>, count: usize) -> Result<(), AllocError>
+    ensures { OnOk result (bytes.new.items ≡ bytes.old.items ++ more_text count) }
+{
+    if count == 0 {
+        return Ok(());
+    }
+    push_count(bytes, count)
+}
+
 /// Appends the part on the slowest loads, with its rows in order.
 #[tactic(auto, unfolding(crate::specs::Tails::tail_text))]
 fn push_ordered(bytes: &mut Vec<u8>, page: &Page, rows: &[TailedRow]) -> Result<(), AllocError>
@@ -164,7 +176,8 @@ fn push_ordered(bytes: &mut Vec<u8>, page: &Page, rows: &[TailedRow]) -> Result<
 {
     push_tail_start(bytes)?;
     push_tail_head(bytes, page.tail())?;
-    push_table(bytes, first_rows(rows))?;
+    push_difference(bytes, page)?;
+    push_table(bytes, page, first_rows(rows))?;
     push_more(bytes, rows.len().saturating_sub(MOST_ROWS))?;
     push_tail_end(bytes)
 }

@@ -1,5 +1,6 @@
 ghost use Rattle.std.specs.Prelude.{◌≡◌, ◌++◌, OnOk};
-ghost use Rattle.tail_picture.specs.Texts.{picture_start, row_start, table_end, table_start, tail_end, tail_start};
+ghost use Rattle.tail_picture.specs.Texts.{heat_end, heat_start, picture_start, row_start};
+ghost use Rattle.tail_picture.specs.Texts.{table_end, table_start, tail_end, tail_start};
 
 use markup::push_fixed;
 use std::alloc::AllocError;
@@ -20,7 +21,7 @@ pub(crate) fn push_table_start(bytes: &mut Vec<u8>) -> Result<(), AllocError>
 {
     push_fixed(
         bytes,
-        "<p class=\"key\"><i class=\"k path\"></i>slowest 5 %, mean per load on critical paths <i class=\"k off\"></i>the rest</p><table class=\"rank\"><thead><tr><th class=\"n\">Segment<th class=\"b\">Per load<th>Slow<th>Rest<th>More in slow</tr></thead><tbody>",
+        "<p class=\"key\"><i class=\"k path\"></i>slowest 5 %, mean per load on critical paths <i class=\"k off\"></i>the rest</p><table class=\"rank tailt\"><thead><tr><th class=\"n\">Segment<th class=\"b\">Per load<th>Slow<th>Rest<th>More in slow<th class=\"heat\">Loads from quickest to slowest</tr></thead><tbody>",
     )
 }
 
@@ -53,4 +54,21 @@ pub(crate) fn push_tail_end(bytes: &mut Vec<u8>) -> Result<(), AllocError>
     ensures { OnOk result (bytes.new.items ≡ bytes.old.items ++ tail_end) }
 {
     push_fixed(bytes, "</section>")
+}
+
+/// Appends how the cells of a name begin.
+pub(crate) fn push_heat_start(bytes: &mut Vec<u8>) -> Result<(), AllocError>
+    ensures { OnOk result (bytes.new.items ≡ bytes.old.items ++ heat_start) }
+{
+    push_fixed(
+        bytes,
+        "<td class=\"heat\"><svg class=\"bar\" width=\"100%\" height=\"18\">",
+    )
+}
+
+/// Appends how the row of a name ends behind its cells.
+pub(crate) fn push_heat_end(bytes: &mut Vec<u8>) -> Result<(), AllocError>
+    ensures { OnOk result (bytes.new.items ≡ bytes.old.items ++ heat_end) }
+{
+    push_fixed(bytes, "</svg></tr>")
 }

@@ -89,7 +89,19 @@ matrix_style = codes ".matrix text{font-size:10px}.dense text{font-size:8px}.den
     ++ codes ".part{fill:var(--gain)}.excl{fill:none;stroke:var(--path);stroke-width:2}.over{fill:v"
     ++ codes "ar(--off)}.k.full,.k.part{background:var(--gain);width:12px;height:12px}.k.part{width"
     ++ codes ":7px;height:7px;vertical-align:1px}.k.excl{border:2px solid var(--path);width:8px;hei"
-    ++ codes "ght:8px}.k.over{background:var(--off);width:4px;height:4px;vertical-align:3px}"
+    ++ codes "ght:8px}.k.over{background:var(--off);width:4px;height:4px;vertical-align:3px}.pip{fi"
+    ++ codes "ll:none;stroke:var(--path2);stroke-width:2}.k.pip{border:2px solid var(--path2);width"
+    ++ codes ":12px;height:12px}"
+
+-- how the graph is drawn
+unfoldable pub graph_style : List ℕ
+graph_style = codes ".bx{fill:var(--head);stroke:var(--off)}.gt{font-weight:600}.graph .ge{fill:va"
+    ++ codes "r(--dim);font-size:10px}.hb{fill:none;stroke:var(--dim);stroke-width:1.1}.faint .hb{"
+    ++ codes "stroke-opacity:.3}.ah{fill:var(--dim)}.mx{fill:none;stroke:var(--path);stroke-width:"
+    ++ codes "2;stroke-dasharray:5 3}.pipe{fill:none;stroke:var(--off);stroke-width:4;opacity:.75}"
+    ++ codes ".ahp{fill:var(--off)}.k.hb{border-top:2px solid var(--dim);height:0;vertical-align:4"
+    ++ codes "px}.k.mx{border-top:2px dashed var(--path);height:0;vertical-align:4px}.k.pipe{borde"
+    ++ codes "r-top:4px solid var(--off);height:0;vertical-align:3px}"
 
 -- how the body of a page begins
 unfoldable pub body_start : List ℕ
@@ -101,3 +113,15 @@ body_start = codes "</style></head><body><svg width=\"0\" height=\"0\" aria-hidd
 -- how a page ends
 unfoldable pub page_end : List ℕ
 page_end = codes "</main></body></html>"
+
+-- how cells are shaded, and how tables of three columns are set
+unfoldable pub heat_style : List ℕ
+heat_style = codes ":root{--h0:#f4f5f6;--h1:#fde9d9;--h2:#fbd3b4;--h3:#f6b388;--h4:#ee935d;--h5:#dd"
+    ++ codes "7233;--h6:#c2550f;--h7:#9a3f05;--h8:#6f2b00}@media(prefers-color-scheme:dark){:root{-"
+    ++ codes "-h0:#1c2024;--h1:#3a2617;--h2:#55331b;--h3:#74431f;--h4:#955524;--h5:#b8692b;--h6:#d9"
+    ++ codes "8039;--h7:#f39c58;--h8:#ffc79a}}.h0{fill:var(--h0)}.h1{fill:var(--h1)}.h2{fill:var(--"
+    ++ codes "h2)}.h3{fill:var(--h3)}.h4{fill:var(--h4)}.h5{fill:var(--h5)}.h6{fill:var(--h6)}.h7{f"
+    ++ codes "ill:var(--h7)}.h8{fill:var(--h8)}.tailt td.n,.tailt th.n{width:27%}.tailt td.b,.tailt"
+    ++ codes " th.b{width:28%}td.heat,th.heat{width:34%;text-align:left}.wit td.n,.wit th.n{width:5"
+    ++ codes "5%;max-width:none;white-space:normal;overflow-wrap:anywhere}td.w,th.w{text-align:left"
+    ++ codes ";white-space:normal;overflow-wrap:anywhere}"

@@ -1,5 +1,6 @@
 ghost use Rattle.std.specs.Prelude.{◌≡◌, ◌++◌, OnOk};
-ghost use Rattle.view_page.specs.Texts.{base_style, body_start, dark_colours, key_style};
+ghost use Rattle.view_page.specs.Texts.{base_style, body_start, dark_colours, graph_style};
+ghost use Rattle.view_page.specs.Texts.{heat_style, key_style};
 ghost use Rattle.view_page.specs.Texts.{lane_style, light_colours, matrix_style, page_end};
 ghost use Rattle.view_page.specs.Texts.{page_start, shape_style, slack_style, table_style};
 
@@ -102,7 +103,27 @@ pub(crate) fn push_matrix_style(bytes: &mut Vec<u8>) -> Result<(), AllocError>
 {
     push_fixed(
         bytes,
-        ".matrix text{font-size:10px}.dense text{font-size:8px}.dense>text:nth-of-type(even){display:none}.ml{text-anchor:end}.mc{text-anchor:middle;fill:var(--dim)}.full,.part{fill:var(--gain)}.excl{fill:none;stroke:var(--path);stroke-width:2}.over{fill:var(--off)}.k.full,.k.part{background:var(--gain);width:12px;height:12px}.k.part{width:7px;height:7px;vertical-align:1px}.k.excl{border:2px solid var(--path);width:8px;height:8px}.k.over{background:var(--off);width:4px;height:4px;vertical-align:3px}",
+        ".matrix text{font-size:10px}.dense text{font-size:8px}.dense>text:nth-of-type(even){display:none}.ml{text-anchor:end}.mc{text-anchor:middle;fill:var(--dim)}.full,.part{fill:var(--gain)}.excl{fill:none;stroke:var(--path);stroke-width:2}.over{fill:var(--off)}.k.full,.k.part{background:var(--gain);width:12px;height:12px}.k.part{width:7px;height:7px;vertical-align:1px}.k.excl{border:2px solid var(--path);width:8px;height:8px}.k.over{background:var(--off);width:4px;height:4px;vertical-align:3px}.pip{fill:none;stroke:var(--path2);stroke-width:2}.k.pip{border:2px solid var(--path2);width:12px;height:12px}",
+    )
+}
+
+/// Appends how cells are shaded, and how tables of three columns are set.
+pub(crate) fn push_heat_style(bytes: &mut Vec<u8>) -> Result<(), AllocError>
+    ensures { OnOk result (bytes.new.items ≡ bytes.old.items ++ heat_style) }
+{
+    push_fixed(
+        bytes,
+        ":root{--h0:#f4f5f6;--h1:#fde9d9;--h2:#fbd3b4;--h3:#f6b388;--h4:#ee935d;--h5:#dd7233;--h6:#c2550f;--h7:#9a3f05;--h8:#6f2b00}@media(prefers-color-scheme:dark){:root{--h0:#1c2024;--h1:#3a2617;--h2:#55331b;--h3:#74431f;--h4:#955524;--h5:#b8692b;--h6:#d98039;--h7:#f39c58;--h8:#ffc79a}}.h0{fill:var(--h0)}.h1{fill:var(--h1)}.h2{fill:var(--h2)}.h3{fill:var(--h3)}.h4{fill:var(--h4)}.h5{fill:var(--h5)}.h6{fill:var(--h6)}.h7{fill:var(--h7)}.h8{fill:var(--h8)}.tailt td.n,.tailt th.n{width:27%}.tailt td.b,.tailt th.b{width:28%}td.heat,th.heat{width:34%;text-align:left}.wit td.n,.wit th.n{width:55%;max-width:none;white-space:normal;overflow-wrap:anywhere}td.w,th.w{text-align:left;white-space:normal;overflow-wrap:anywhere}",
+    )
+}
+
+/// Appends how the graph is drawn.
+pub(crate) fn push_graph_style(bytes: &mut Vec<u8>) -> Result<(), AllocError>
+    ensures { OnOk result (bytes.new.items ≡ bytes.old.items ++ graph_style) }
+{
+    push_fixed(
+        bytes,
+        ".bx{fill:var(--head);stroke:var(--off)}.gt{font-weight:600}.graph .ge{fill:var(--dim);font-size:10px}.hb{fill:none;stroke:var(--dim);stroke-width:1.1}.faint .hb{stroke-opacity:.3}.ah{fill:var(--dim)}.mx{fill:none;stroke:var(--path);stroke-width:2;stroke-dasharray:5 3}.pipe{fill:none;stroke:var(--off);stroke-width:4;opacity:.75}.ahp{fill:var(--off)}.k.hb{border-top:2px solid var(--dim);height:0;vertical-align:4px}.k.mx{border-top:2px dashed var(--path);height:0;vertical-align:4px}.k.pipe{border-top:4px solid var(--off);height:0;vertical-align:3px}",
     )
 }
 

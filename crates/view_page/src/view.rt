@@ -3,16 +3,18 @@ ghost use Rattle.page_rows.specs.Pages.{IsPageError, PageLists, page_said};
 ghost use Rattle.view_page.specs.Views.{IsView, style_sheet, view_start};
 
 use crate::texts::{
-    push_base_style, push_body_start, push_dark_colours, push_key_style, push_lane_style,
-    push_light_colours, push_matrix_style, push_page_end, push_page_start, push_shape_style,
-    push_slack_style, push_table_style,
+    push_base_style, push_body_start, push_dark_colours, push_graph_style, push_heat_style,
+    push_key_style, push_lane_style, push_light_colours, push_matrix_style, push_page_end,
+    push_page_start, push_shape_style, push_slack_style, push_table_style,
 };
+use graph_picture::push_graph;
 use head_picture::push_head;
 use lanes_picture::push_loads;
 use markup::push_fixed;
 use matrix_picture::push_matrix;
 use page_rows::{Page, PageError, read_page};
 use ranking_picture::push_ranking;
+use refute_picture::push_refutes;
 use room_picture::push_rooms;
 use std::alloc::{AllocError, Global};
 use tail_picture::push_tail;
@@ -30,18 +32,20 @@ fn push_style(bytes: &mut Vec<u8>) -> Result<(), AllocError>
     push_key_style(bytes)?;
     push_lane_style(bytes)?;
     push_slack_style(bytes)?;
-    push_matrix_style(bytes)
+    push_matrix_style(bytes)?;
+    push_heat_style(bytes)?;
+    push_graph_style(bytes)
 }
 
 /// Begins a page, down to its head.
 #[tactic(auto, unfolding(crate::specs::Views::view_start))]
-fn push_view_start(bytes: &mut Vec<u8>, page: &Page) -> Result<(), AllocError>
+fn push_view_start(alloc: Global, bytes: &mut Vec<u8>, page: &Page) -> Result<(), AllocError>
     ensures { OnOk result (bytes.new.items ≡ bytes.old.items ++ view_start page.now) }
 {
     push_page_start(bytes)?;
     push_style(bytes)?;
     push_body_start(bytes)?;
-    push_head(bytes, page)?;
+    push_head(alloc, bytes, page)?;
     push_fixed(bytes, "<main>")
 }
 
@@ -50,12 +54,14 @@ pub fn draw_page(alloc: Global, page: &Page) -> Result<Vec<u8>, AllocError>
     ensures { IfOk result (λ bytes. IsView page.now bytes.items) }
 {
     let mut bytes = Vec::new(alloc);
-    push_view_start(&mut bytes, page)?;
+    push_view_start(alloc, &mut bytes, page)?;
     push_ranking(alloc, &mut bytes, page)?;
     push_loads(alloc, &mut bytes, page)?;
     push_tail(alloc, &mut bytes, page)?;
     push_rooms(alloc, &mut bytes, page)?;
     push_matrix(&mut bytes, page)?;
+    push_refutes(alloc, &mut bytes, page)?;
+    push_graph(alloc, &mut bytes, page)?;
     push_page_end(&mut bytes)?;
     Ok(bytes)
 }

@@ -5,4 +5,4 @@ use Rattle.room_picture.proofs.ticks.push_lines.Given as goal
 
 -- the lines so far were appended
 abbrev pub invariant-powers : goal.invariant-powers
-invariant-powers l = l.bytes.items ≡ l.fn.bytes.items ++ flat_map (line_text l.full) (take l.power-index l.powers)
+invariant-powers l = l.bytes.items ≡ l.fn.bytes.items ++ flat_map (line_text l.least l.full) (take l.power-index l.powers)

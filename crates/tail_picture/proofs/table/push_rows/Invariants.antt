@@ -5,4 +5,4 @@ use Rattle.tail_picture.proofs.table.push_rows.Given as goal
 
 -- the rows so far were appended
 abbrev pub invariant-rows : goal.invariant-rows
-invariant-rows l = l.bytes.items ≡ l.fn.bytes.items ++ flat_map (row_text l.width) (take l.row-index l.rows)
+invariant-rows l = l.bytes.items ≡ l.fn.bytes.items ++ flat_map (row_text l.page l.width) (take l.row-index l.rows)

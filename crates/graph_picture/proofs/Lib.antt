@@ -1,0 +1,3 @@
+mod CapLemmas
+pub mod LineLemmas
+pub mod TextLemmas

@@ -1,0 +1,4 @@
+pub mod Overlaps
+pub mod Refutes
+pub mod Texts
+pub mod Totals
