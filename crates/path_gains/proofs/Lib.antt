@@ -1,0 +1,5 @@
+pub mod WeightLemmas
+pub mod AroundLemmas
+pub mod LossLemmas
+pub mod LawLemmas
+pub mod SpanLemmas
