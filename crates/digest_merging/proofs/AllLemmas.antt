@@ -1,5 +1,5 @@
 -- The merge of all digests of a list of tables.
-use Rattle.std.proofs.Common.{◌≡◌, ◌↔◌, ◌⊎◌, ℕ, zero, suc, ◌+◌, ◌-◌, ◌^◌, ◌<◌, ◌≤◌, List, [], ◌∷◌, ◌++◌, length, get_or, map, take, drop, refl, sym, ap, ◌∙◌, subst, ⊎_elim, inl, inr, arith, false, true, Some, None, Ordering, true≢false}
+use Rattle.std.proofs.Common.{◌≡◌, ◌↔◌, ℕ, zero, suc, ◌-◌, ◌^◌, ◌<◌, ◌≤◌, List, [], ◌∷◌, length, get_or, map, take, drop, refl, sym, ap, ◌∙◌, subst, ⊎_elim, inl, inr, arith, false, true, Some, None, Ordering, true≢false}
 use Rattle.std.specs.Prelude.{Bool, IfNone, IfSome, Option, is_some, nat_lt, if◌then◌else◌}
 use Rattle.std.specs.Cmp.Lexicographic.{slice_cmp}
 use Rattle.std.specs.List.{AllZip, Contains}
@@ -10,7 +10,7 @@ use Rattle.std.proofs.lemmas.List.Elements.{Contains-append_left, Contains-appen
 use Rattle.trace_types.specs.NameOrder.{name_cmp}
 use Rattle.trace_types.specs.Segments.{SegmentName}
 use Rattle.digest_facts.specs.Coherence.{IsCoherent}
-use Rattle.digest_facts.specs.Digests.{Digest, IsInForm, TellsApart, Rises, empty_digest, merged, placed, union, with_one}
+use Rattle.digest_facts.specs.Digests.{Digest, IsInForm, TellsApart, Rises, empty_digest, placed, union, with_one}
 use Rattle.digest_facts.specs.Tables.{Table}
 use Rattle.digest_facts.proofs.CoherenceLemmas.{merged_coherent}
 use Rattle.digest_facts.proofs.MergeLemmas.{commutes, merges_freely, name_apart, text_apart}
@@ -18,7 +18,7 @@ use Rattle.digest_facts.proofs.TableLemmas.{tables_tell_apart}
 use Rattle.digest_facts.proofs.UnionLemmas.{nil_has, union_has}
 use Rattle.digest_merging.specs.Limits.{limit_passed}
 use Rattle.digest_merging.specs.inner.AllTables.{all_counts, all_names, all_tasks}
-use Rattle.digest_merging.specs.Merges.{AGivenDigestIsOne, IsGivenBy, IsMergeFault, IsMergeOf, IsOutOfMemory, IsTableOf, merged_digest, merged_of}
+use Rattle.digest_merging.specs.Merges.{AGivenDigestIsOne, IsGivenBy, IsMergeFault, IsMergeOf, IsMergeOfAll, IsOutOfMemory, IsTableOf, merged_digest, merged_of}
 use Rattle.digest_merging.specs.declared.merge_fault.MergeFault.{MergeFault}
 use Rattle.digest_merging.specs.declared.merge_fault.MergeFault.TheVariants.{Limit, Memory}
 use Rattle.digest_merging.specs.declared.digest_limit.DigestLimit.{DigestLimit}
@@ -265,60 +265,58 @@ traces_of_all (s ∷ ss) (u ∷ us) h =
 some_none : (l : DigestLimit) → Some l ≡ None → ⊥
 some_none l e = cc
 
-pub none_merge : (us : List U) (w : U) → us ≡ [] → IsTableOf empty_digest w → (given : D) → IsGivenBy us given → IsTableOf given w
-none_merge us w e h given g = subst (λ (d : D). IsTableOf d w) (sym (none_given given (subst (λ (l : List U). IsGivenBy l given) e g))) h
+-- the table of a digest that passes no limit
+abbrev pub IsTableWithin : D → U → Type 0
+IsTableWithin d w = IsTableOf d w × (limit_passed d ≡ None)
 
-module _ (u : U) (us : List U) (e : us ≡ u ∷ []) (v : U) (empty : IsTableOf empty_digest v) (given : D) (g : IsGivenBy us given) (few : limit_passed given ≡ None) where
+pub none_merge : (us : List U) (w : U) → us ≡ [] → IsTableOf empty_digest w → (given : D) → IsGivenBy us given → IsTableWithin given w
+none_merge us w e h given g = subst (λ (d : D). IsTableWithin d w) (sym (none_given given (subst (λ (l : List U). IsGivenBy l given) e g))) (h, refl)
+
+module _ (u : U) (us : List U) (e : us ≡ u ∷ []) (v : U) (empty : IsTableOf empty_digest v) (given : D) (g : IsGivenBy us given) where
   only : IsOne u given
   only = one_table u given (subst (λ (l : List U). IsGivenBy l given) e g)
 
   with_none : given ≡ merged_digest only.digest empty_digest
   with_none = only.merge ∙ sym ((merges_freely name_cmp (slice_cmp nat_cmp) name_apart text_apart).ends only.digest only.table.coherent.form)
 
-  pub one_merge : (w : U) → IsMergeOf u v w → IsTableOf given w
-  one_merge w h = subst (λ (d : D). IsTableOf d w) (sym with_none) (h only.digest empty_digest only.table empty).0
+  pub one_merge : (w : U) → IsMergeOf u v w → IsTableWithin given w
+  one_merge w h = subst (λ (d : D). IsTableWithin d w) (sym with_none) (h only.digest empty_digest only.table empty)
 
-  pub one_fault : (fault : MergeFault) → IsMergeFault u v fault → IsOutOfMemory fault
-  one_fault Memory h = refl
-  one_fault (Limit l) h = absurd (some_none l (sym (h only.digest empty_digest only.table empty) ∙ ap limit_passed (sym with_none) ∙ few))
+  pub one_fault : limit_passed given ≡ None → (fault : MergeFault) → IsMergeFault u v fault → IsOutOfMemory fault
+  one_fault few Memory h = refl
+  one_fault few (Limit l) h = absurd (some_none l (sym (h only.digest empty_digest only.table empty) ∙ ap limit_passed (sym with_none) ∙ few))
 
-module _ (u v : U) (us : List U) (e : us ≡ u ∷ v ∷ []) (given : D) (g : IsGivenBy us given) (few : limit_passed given ≡ None) where
+module _ (u v : U) (us : List U) (e : us ≡ u ∷ v ∷ []) (given : D) (g : IsGivenBy us given) where
   both : AreTwo u v given
   both = two_tables u v given (subst (λ (l : List U). IsGivenBy l given) e g)
 
-  pub two_merge : (w : U) → IsMergeOf u v w → IsTableOf given w
-  two_merge w h = subst (λ (d : D). IsTableOf d w) (sym both.merge) (h both.first both.second both.of_first both.of_second).0
+  pub two_merge : (w : U) → IsMergeOf u v w → IsTableWithin given w
+  two_merge w h = subst (λ (d : D). IsTableWithin d w) (sym both.merge) (h both.first both.second both.of_first both.of_second)
 
-  pub two_fault : (fault : MergeFault) → IsMergeFault u v fault → IsOutOfMemory fault
-  two_fault Memory h = refl
-  two_fault (Limit l) h = absurd (some_none l (sym (h both.first both.second both.of_first both.of_second) ∙ ap limit_passed (sym both.merge) ∙ few))
+  pub two_fault : limit_passed given ≡ None → (fault : MergeFault) → IsMergeFault u v fault → IsOutOfMemory fault
+  two_fault few Memory h = refl
+  two_fault few (Limit l) h = absurd (some_none l (sym (h both.first both.second both.of_first both.of_second) ∙ ap limit_passed (sym both.merge) ∙ few))
 
-module _ (us lefts rights : List U) (n : ℕ) (el : lefts ≡ take n us) (er : rights ≡ drop n us) (given : D) (g : IsGivenBy us given) (few : limit_passed given ≡ None) where
+module _ (us lefts rights : List U) (n : ℕ) (el : lefts ≡ take n us) (er : rights ≡ drop n us) (given : D) (g : IsGivenBy us given) where
   halves : AreParts lefts rights given
   halves = subst (λ (l : List U). AreParts l rights given) (sym el) (subst (λ (l : List U). AreParts (take n us) l given) (sym er) (parts_given n us given g))
 
-  few_both : limit_passed (merged_digest halves.left halves.right) ≡ None
-  few_both = ap limit_passed (sym halves.merge) ∙ few
+  few_both : limit_passed given ≡ None → limit_passed (merged_digest halves.left halves.right) ≡ None
+  few_both few = ap limit_passed (sym halves.merge) ∙ few
 
-  few_left : limit_passed halves.left ≡ None
-  few_left = small_left halves.left halves.right halves.sound_left halves.sound_right few_both
+  pub left_fault : limit_passed given ≡ None → (fault : MergeFault) → ((d : D) → IsGivenBy lefts d → limit_passed d ≡ None → IsOutOfMemory fault) → IsOutOfMemory fault
+  left_fault few fault h = h halves.left halves.of_left (small_left halves.left halves.right halves.sound_left halves.sound_right (few_both few))
 
-  few_right : limit_passed halves.right ≡ None
-  few_right = small_right halves.left halves.right halves.sound_left halves.sound_right few_both
+  pub right_fault : limit_passed given ≡ None → (fault : MergeFault) → ((d : D) → IsGivenBy rights d → limit_passed d ≡ None → IsOutOfMemory fault) → IsOutOfMemory fault
+  right_fault few fault h = h halves.right halves.of_right (small_right halves.left halves.right halves.sound_left halves.sound_right (few_both few))
 
-  pub left_fault : (fault : MergeFault) → ((d : D) → IsGivenBy lefts d → limit_passed d ≡ None → IsOutOfMemory fault) → IsOutOfMemory fault
-  left_fault fault h = h halves.left halves.of_left few_left
+  module _ (l r : U) (hl : IsMergeOfAll lefts l) (hr : IsMergeOfAll rights r) where
+    pub halves_merge : (w : U) → IsMergeOf l r w → IsTableWithin given w
+    halves_merge w h = subst (λ (d : D). IsTableWithin d w) (sym halves.merge) (h halves.left halves.right (hl halves.left halves.of_left).0 (hr halves.right halves.of_right).0)
 
-  pub right_fault : (fault : MergeFault) → ((d : D) → IsGivenBy rights d → limit_passed d ≡ None → IsOutOfMemory fault) → IsOutOfMemory fault
-  right_fault fault h = h halves.right halves.of_right few_right
-
-  module _ (l r : U) (hl : (d : D) → IsGivenBy lefts d → limit_passed d ≡ None → IsTableOf d l) (hr : (d : D) → IsGivenBy rights d → limit_passed d ≡ None → IsTableOf d r) where
-    pub halves_merge : (w : U) → IsMergeOf l r w → IsTableOf given w
-    halves_merge w h = subst (λ (d : D). IsTableOf d w) (sym halves.merge) (h halves.left halves.right (hl halves.left halves.of_left few_left) (hr halves.right halves.of_right few_right)).0
-
-    pub halves_fault : (fault : MergeFault) → IsMergeFault l r fault → IsOutOfMemory fault
-    halves_fault Memory h = refl
-    halves_fault (Limit x) h = absurd (some_none x (sym (h halves.left halves.right (hl halves.left halves.of_left few_left) (hr halves.right halves.of_right few_right)) ∙ few_both))
+    pub halves_fault : limit_passed given ≡ None → (fault : MergeFault) → IsMergeFault l r fault → IsOutOfMemory fault
+    halves_fault few Memory h = refl
+    halves_fault few (Limit x) h = absurd (some_none x (sym (h halves.left halves.right (hl halves.left halves.of_left).0 (hr halves.right halves.of_right).0) ∙ few_both few))
 
 -- ---- what the counts of all tell
 module _ (us : List U) (given : D) (g : IsGivenBy us given) where

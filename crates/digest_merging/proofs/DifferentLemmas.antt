@@ -1,5 +1,5 @@
 -- The different elements of a sorted list.
-use Rattle.std.proofs.Common.{◌≡◌, ◌⊎◌, ◌↔◌, ℕ, zero, suc, ◌+◌, ◌-◌, ◌<◌, ◌≤◌, List, [], ◌∷◌, ◌++◌, length, get_or, map, refl, sym, ap, ◌∙◌, subst, ⊎_elim, inl, inr, arith, false, true, Ordering, IsPermutation, true≢false}
+use Rattle.std.proofs.Common.{◌≡◌, ◌↔◌, ℕ, ◌+◌, ◌-◌, ◌<◌, ◌≤◌, List, [], ◌∷◌, ◌++◌, length, get_or, map, refl, sym, ap, ◌∙◌, subst, ⊎_elim, arith, false, true, Ordering, IsPermutation, true≢false}
 use Rattle.std.specs.List.{Contains}
 use Rattle.std.specs.Prelude.{IsSortedByKey}
 use Rattle.std.specs.Bool.{◌==◌}

@@ -34,8 +34,8 @@ pub fn merge_digests(
         return Err(MergeFault::Limit(DigestLimit::Traces));
     };
     let days = union_of_days(alloc, &first.days, &second.days)?;
-    let tasks = merge_task_rows(alloc, &tasks, &first.tasks, &second.tasks)?;
-    let names = merge_name_rows(alloc, &names, &first.names, &second.names)?;
+    let tasks = merge_task_rows(alloc, tasks, &first.tasks, &second.tasks)?;
+    let names = merge_name_rows(alloc, names, &first.names, &second.names)?;
     Ok(DigestTable {
         traces,
         days,

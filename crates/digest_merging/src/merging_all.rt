@@ -23,12 +23,11 @@ fn empty_table(alloc: Global) -> DigestTable
     }
 }
 
-/// Merges the digests of all tables, which pass no limit: those of the one half, those of the other,
-/// and both merges, so that each digest is copied once for each halving. The only error is then out
-/// of memory.
-fn merge_within(alloc: Global, tables: &[DigestTable]) -> Result<DigestTable, MergeFault>
-    ensures merge { IfOk result (λ table. (given : Digest SegmentName (List ℕ))
-        → IsGivenBy tables.now given → limit_passed given ≡ None → IsTableOf given table) }
+/// Merges the digests of all tables: those of the one half, those of the other, and both merges, so
+/// that each digest is copied once for each halving. Where all of them pass no limit, the only error
+/// is out of memory; a limit that a part passes may be another one than that of all.
+fn merge_halves(alloc: Global, tables: &[DigestTable]) -> Result<DigestTable, MergeFault>
+    ensures merge { IfOk result (IsMergeOfAll tables.now) }
     ensures fault { IfErr result (λ e. (given : Digest SegmentName (List ℕ))
         → IsGivenBy tables.now given → limit_passed given ≡ None → IsOutOfMemory e) }
 {
@@ -38,8 +37,8 @@ fn merge_within(alloc: Global, tables: &[DigestTable]) -> Result<DigestTable, Me
         [first, second] => merge_digests(alloc, first, second),
         _ => {
             let (left, right) = tables.split_at(tables.len() / 2);
-            let left = merge_within(alloc, left)?;
-            let right = merge_within(alloc, right)?;
+            let left = merge_halves(alloc, left)?;
+            let right = merge_halves(alloc, right)?;
             merge_digests(alloc, &left, &right)
         }
     }
@@ -52,6 +51,11 @@ pub fn merge_all(alloc: Global, tables: &[DigestTable]) -> Result<DigestTable, M
     ensures merge { IfOk result (IsMergeOfAll tables.now) }
     ensures fault { IfErr result (IsFaultOfAll tables.now) }
 {
-    check_limits(alloc, tables)?;
-    merge_within(alloc, tables)
+    match merge_halves(alloc, tables) {
+        Ok(table) => Ok(table),
+        Err(fault) => {
+            check_limits(alloc, tables)?;
+            Err(fault)
+        }
+    }
 }

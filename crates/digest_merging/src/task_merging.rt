@@ -4,10 +4,10 @@ ghost use Rattle.std.specs.Cmp.Lexicographic.{slice_cmp};
 ghost use Rattle.std.specs.Ordering.{nat_cmp};
 ghost use Rattle.digest_merging.specs.declared.places.Places.{Places};
 ghost use Rattle.digest_facts.specs.Digests.{Rises, union};
-ghost use Rattle.digest_merging.specs.inner.MergedRows.{ArePlaces, IsPlaceIn, mark_by, mark_of};
+ghost use Rattle.digest_merging.specs.inner.MergedRows.{ArePlaces, IsPlaceIn, mark_by, marks_at};
 ghost use Rattle.digest_merging.specs.inner.MergedRows.{placed_rows};
 
-use crate::marks::{UNKNOWN, joined_mark};
+use crate::marks::marks_by;
 use crate::places::Places;
 use digest_text::TaskRow;
 use std::alloc::{AllocError, Global};
@@ -92,25 +92,22 @@ fn places_in(
     Ok(places)
 }
 
-/// Finds the mark of the tasks at two places of rows, of which the first is the lower.
-fn mark_of(rows: &[TaskRow], lower: Option<usize>, upper: Option<usize>) -> u8
-    ensures { result ≡ mark_of rows.now lower upper }
+/// Finds the marks of the row at a place; none where there is no row.
+fn marks_at(rows: &[TaskRow], place: Option<usize>) -> &[u8]
+    ensures { result.now ≡ marks_at rows.now place }
 {
-    let (Some(lower), Some(upper)) = (lower, upper) else {
-        return UNKNOWN;
+    let Some(place) = place else {
+        return &[];
     };
-    let Some(row) = rows.get(upper) else {
-        return UNKNOWN;
-    };
-    match row.marks.get(lower) {
-        Some(mark) => *mark,
-        None => UNKNOWN,
+    match rows.get(place) {
+        Some(row) => &row.marks,
+        None => &[],
     }
 }
 
 /// Makes the marks of a task, by its places and those of the tasks before it. The only error is out
 /// of memory.
-fn marks_by(
+fn marks_of(
     alloc: Global,
     first: &[TaskRow],
     second: &[TaskRow],
@@ -120,33 +117,27 @@ fn marks_by(
     ensures { IfOk result (λ v.
         v.items ≡ map (λ q. mark_by first.now second.now q at) earlier.now) }
 {
-    let mut marks = Vec::with_capacity(alloc, earlier.len())?;
-    'places: for place in earlier {
-        marks.push(joined_mark(
-            mark_of(first, place.left, at.left),
-            mark_of(second, place.right, at.right),
-        ))?;
-    }
-    Ok(marks)
+    let left = marks_at(first, at.left);
+    let right = marks_at(second, at.right);
+    marks_by(alloc, left, right, earlier)
 }
 
 /// Makes the row of each task, by their places. The only error is out of memory.
 fn rows_by(
     alloc: Global,
-    tasks: &[Text],
+    tasks: Vec<Text>,
     places: &[Places],
     first: &[TaskRow],
     second: &[TaskRow],
 ) -> Result<Vec<TaskRow>, AllocError>
-    requires { length places.now ≡ length tasks.now }
+    requires { length places.now ≡ length tasks.items }
     ensures { IfOk result (λ v.
-        v.items ≡ placed_rows (mark_by first.now second.now) [] tasks.now places.now) }
+        v.items ≡ placed_rows (mark_by first.now second.now) [] tasks.items places.now) }
 {
     let mut rows = Vec::with_capacity(alloc, tasks.len())?;
     let mut k = 0usize;
-    'rows: while k < tasks.len() {
-        let marks = marks_by(alloc, first, second, &places[..k], places[k])?;
-        let task = tasks[k].copy(alloc)?;
+    'rows: for task in tasks {
+        let marks = marks_of(alloc, first, second, &places[..k], places[k])?;
         rows.push(TaskRow { task, marks })?;
         k += 1;
     }
@@ -157,15 +148,15 @@ fn rows_by(
 /// memory.
 pub(crate) fn merge_task_rows(
     alloc: Global,
-    tasks: &[Text],
+    tasks: Vec<Text>,
     first: &[TaskRow],
     second: &[TaskRow],
 ) -> Result<Vec<TaskRow>, AllocError>
     ensures { IfOk result (λ v. (places : List Places) × (Rises (slice_cmp nat_cmp) (map (λ r. r.0) first.now)
         → Rises (slice_cmp nat_cmp) (map (λ r. r.0) second.now)
-        → AllZip (ArePlaces (map (λ r. r.0) first.now) (map (λ r. r.0) second.now)) tasks.now places)
-        × (v.items ≡ placed_rows (mark_by first.now second.now) [] tasks.now places)) }
+        → AllZip (ArePlaces (map (λ r. r.0) first.now) (map (λ r. r.0) second.now)) tasks.items places)
+        × (v.items ≡ placed_rows (mark_by first.now second.now) [] tasks.items places)) }
 {
-    let places = places_in(alloc, tasks, first, second)?;
+    let places = places_in(alloc, &tasks, first, second)?;
     Ok(rows_by(alloc, tasks, &places, first, second)?)
 }

@@ -13,14 +13,20 @@ IsPlaceIn xs x None = Contains xs x → ⊥
 abbrev pub ArePlaces : {X : Type 0} → List X → List X → X → Places → Type 0
 ArePlaces xs ys x p = IsPlaceIn xs x p.left × IsPlaceIn ys x p.right
 
+-- the marks of the row at a place; none where it has no place
+abbrev pub marks_at : {X : Type 0} → List (X × List ℕ) → Option ℕ → List ℕ
+marks_at rows None = []
+marks_at {X} rows (Some k) = option_map_or (λ (r : X × List ℕ). r.1) (slice_get rows k) []
+
+-- the mark of a row with the element at a place before it; `.` where it has no place
+abbrev pub mark_in : List ℕ → Option ℕ → ℕ
+mark_in marks None = 46
+mark_in marks (Some i) = option_map_or (λ (m : ℕ). m) (slice_get marks i) 46
+
 -- the mark of the elements at two places of rows, the first of which is the lower; `.` where one
 -- has no place
 abbrev pub mark_of : {X : Type 0} → List (X × List ℕ) → Option ℕ → Option ℕ → ℕ
-mark_of rows None k = 46
-mark_of rows (Some i) None = 46
-mark_of {X} rows (Some i) (Some k) =
-    option_map_or (λ (r : X × List ℕ). option_map_or (λ (m : ℕ). m) (slice_get r.1 i) 46)
-    (slice_get rows k) 46
+mark_of rows lower upper = mark_in (marks_at rows upper) lower
 
 -- the mark that says what either says
 abbrev pub joined_mark : ℕ → ℕ → ℕ

@@ -1,5 +1,4 @@
-use Rattle.std.proofs.Common.{◌≡◌, ◌<◌, ◌+◌, ◌-◌, length, map, subst, sym, ap, ◌∙◌, arith, inl, inr}
-use Rattle.digest_facts.specs.Digests.{TellsApart}
+use Rattle.std.proofs.Common.{◌+◌, map, subst, sym, ◌∙◌, arith}
 use Rattle.digest_merging.proofs.DifferentLemmas.{CountsFirst, counted_sorted, counts_none, less_by_index, not_less_by_index, step_more, step_same, step_start}
 use Rattle.digest_merging.proofs.different.count_different.Goals as goal
 use Rattle.digest_merging.proofs.different.count_different.Goals.{then-k-eq0, then-k-eq0-via-then-k-eq0, then-k-eq0-via-else-k-eq0+then-eq, else-k-eq0+else-eq}

@@ -1,4 +1,4 @@
-use Rattle.std.proofs.Common.{◌≡◌, ◌^◌, ◌<◌, ◌≤◌, ℕ, List, Bool, Option, None, Some, true, false, arith}
+use Rattle.std.proofs.Common.{◌^◌, ◌<◌, ◌≤◌, arith}
 use Rattle.digest_facts.proofs.MergeLemmas.{name_apart, text_apart}
 use Rattle.digest_merging.specs.inner.AllTables.{all_counts}
 use Rattle.digest_merging.proofs.AllLemmas.{counted_none, counted_some, names_counted, same_list, small_no_limit, tasks_counted, too_many_names, too_many_tasks, too_many_traces, traces_counted}

@@ -51,8 +51,8 @@ returns-clause-merge c s t hs ht =
     let names = names_from u v s t hs ht _ _ (c.deref.ensures.value ∙ names_of c.first.view_is) (c.deref-2.ensures.value ∙ names_of c.second.view_is) c.in_ok-names.names.items c.in_ok-names.ensures in
     let tasks = tasks_from u v s t hs ht _ _ (c.deref-3.ensures.value ∙ tasks_of c.first.view_is) (c.deref-4.ensures.value ∙ tasks_of c.second.view_is) c.in_ok-tasks.tasks.items c.in_ok-tasks.ensures in
     let days = days_from u v s t hs ht _ _ (c.deref-5.ensures.value ∙ days_of c.first.view_is) (c.deref-6.ensures.value ∙ days_of c.second.view_is) c.in_ok-days.days.items c.in_ok-days.ensures in
-    let task_rows = task_rows_from u v s t hs ht _ _ (c.deref-8.ensures.value ∙ tasks_of c.first.view_is) (c.deref-9.ensures.value ∙ tasks_of c.second.view_is) c.deref-7.result.now c.in_ok-tasks-2.tasks.items (c.deref-7.ensures.value ∙ tasks) c.in_ok-tasks-2.ensures in
-    let name_rows = name_rows_from u v s t hs ht _ _ (c.deref-11.ensures.value ∙ names_of c.first.view_is) (c.deref-12.ensures.value ∙ names_of c.second.view_is) c.deref-10.result.now c.in_ok-names-2.names.items (c.deref-10.ensures.value ∙ names) c.in_ok-names-2.ensures in
+    let task_rows = task_rows_from u v s t hs ht _ _ (c.deref-7.ensures.value ∙ tasks_of c.first.view_is) (c.deref-8.ensures.value ∙ tasks_of c.second.view_is) c.in_ok-tasks.tasks.items c.in_ok-tasks-2.tasks.items tasks c.in_ok-tasks-2.ensures in
+    let name_rows = name_rows_from u v s t hs ht _ _ (c.deref-9.ensures.value ∙ names_of c.first.view_is) (c.deref-10.ensures.value ∙ names_of c.second.view_is) c.in_ok-names.names.items c.in_ok-names-2.names.items names c.in_ok-names-2.ensures in
     let sum : c.in-Some.traces ≡ u.traces + v.traces = omega (arith, c.in-Some.ensures, traces_of c.first.view_is, traces_of c.second.view_is) in
     let small : u.traces + v.traces < 2 ^ 64 = omega (arith, c.in-Some.ensures, traces_of c.first.view_is, traces_of c.second.view_is) in (
       merged_table u v s t hs ht c.in-Some.traces c.in_ok-days.days.items c.in_ok-tasks-2.tasks.items c.in_ok-names-2.names.items sum days task_rows name_rows,

@@ -1,13 +1,12 @@
-use Rattle.std.proofs.Common.{◌≡◌, ◌-◌, ◌++◌, ◌≤◌, [], drop, length, take}
+use Rattle.std.proofs.Common.{◌≡◌, ◌+◌, ◌++◌, [], drop, length, take}
+use Rattle.std.specs.Vec.Iter.{into_iter_items, into_iter_len}
 use Rattle.digest_merging.specs.inner.MergedRows.{mark_by, placed_rows}
 use Rattle.digest_merging.proofs.name_merging.rows_by.Given as goal
 
 -- the rows so far, and those that are left
 abbrev pub invariant-rows : goal.invariant-rows
 invariant-rows l = record {
-  within : l.k ≤ length l.names;
-  so_far : l.rows.items ++ placed_rows (mark_by l.first l.second) (take l.k l.places) (drop l.k l.names) (drop l.k l.places) ≡ placed_rows (mark_by l.first l.second) [] l.names l.places;
+  left : l.k + into_iter_len l.name-iterator ≡ length l.places;
+  counted : into_iter_len l.name-iterator ≡ length (into_iter_items l.name-iterator);
+  so_far : l.rows.items ++ placed_rows (mark_by l.first l.second) (take l.k l.places) (into_iter_items l.name-iterator) (drop l.k l.places) ≡ placed_rows (mark_by l.first l.second) [] l.fn.names.items l.places;
 }
-
-abbrev pub decreases-rows : goal.decreases-rows
-decreases-rows l = length l.names - l.k
