@@ -41,7 +41,7 @@ row_text boxes row = row_start ++ label_at boxes row.first ++ second_start
 -- how many pairs of boxes are behind the first 12; nothing where none is
 unfoldable pub count_text : ℕ → List ℕ
 count_text count = parts_text
-    (Fixed (codes "<p class=\"note\">Further pairs that overlap, whose shorter ones last less: ")
+    (Fixed (codes "<p class=\"note\">Further overlaps, whose shorter ones last no longer: ")
     ∷ Number count ∷ Fixed (codes ".</p>") ∷ [])
 
 abbrev pub more_text : ℕ → List ℕ

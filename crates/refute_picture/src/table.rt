@@ -126,9 +126,7 @@ fn push_count(bytes: &mut Vec<u8>, count: usize) -> Result<(), AllocError>
     push_pieces(
         bytes,
         &[
-            Piece::Fixed(
-                "<p class=\"note\">Further pairs that overlap, whose shorter ones last less: ",
-            ),
+            Piece::Fixed("<p class=\"note\">Further overlaps, whose shorter ones last no longer: "),
             Piece::Number(count as u128),
             Piece::Fixed(".</p>"),
         ],

@@ -89,7 +89,7 @@ row_text least full row = row_start ++ label_text row.name ++ picture_start
 
 -- how many names are behind the first 24; nothing where none is
 unfoldable pub count_text : (more : ℕ) → List ℕ
-count_text more = parts_text (Fixed (codes "<p class=\"note\">Further segments, which have less: ")
+count_text more = parts_text (Fixed (codes "<p class=\"note\">Further segments, which have no more: ")
     ∷ Number more ∷ Fixed (codes ".</p>") ∷ [])
 
 abbrev pub more_text : (more : ℕ) → List ℕ

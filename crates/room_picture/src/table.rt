@@ -186,7 +186,7 @@ fn push_count(bytes: &mut Vec<u8>, more: usize) -> Result<(), AllocError>
     push_pieces(
         bytes,
         &[
-            Piece::Fixed("<p class=\"note\">Further segments, which have less: "),
+            Piece::Fixed("<p class=\"note\">Further segments, which have no more: "),
             Piece::Number(more as u128),
             Piece::Fixed(".</p>"),
         ],

@@ -132,7 +132,7 @@ difference_text p =
 -- how many names are behind the first 16; nothing where none is
 unfoldable pub count_text : ℕ → List ℕ
 count_text count = parts_text
-    (Fixed (codes "<p class=\"note\">Further segments on critical paths, which differ less: ")
+    (Fixed (codes "<p class=\"note\">Further segments on critical paths, which differ no more: ")
     ∷ Number count ∷ Fixed (codes ".</p>") ∷ [])
 
 abbrev pub more_text : ℕ → List ℕ

@@ -151,7 +151,7 @@ fn push_count(bytes: &mut Vec<u8>, count: usize) -> Result<(), AllocError>
         bytes,
         &[
             Piece::Fixed(
-                "<p class=\"note\">Further segments on critical paths, which differ less: ",
+                "<p class=\"note\">Further segments on critical paths, which differ no more: ",
             ),
             Piece::Number(count as u128),
             Piece::Fixed(".</p>"),
