@@ -1,11 +1,14 @@
 -- The report, from its tables.
-use Rattle.std.proofs.Common.{◌≡◌, ◌↔◌, ℕ, suc, zero, ◌<◌, ◌≤◌, ◌^◌, Bool, true, false, cond, eqb, List, [], ◌∷◌, ◌++◌, map, length, All, Contains, arith, refl, ap, ◌∙◌, subst, ⊎_elim}
+use Rattle.std.proofs.Common.{◌≡◌, ◌↔◌, ℕ, suc, zero, ◌<◌, ◌≤◌, ◌^◌, Bool, true, false, cond, eqb, List, [], ◌∷◌, ◌++◌, map, length, All, Contains, arith, refl, ap, sym, ◌∙◌, subst, ⊎_elim}
 use Rattle.std.specs.Borrow.{Bor}
 use Rattle.std.specs.Prelude.{filter, sum}
 use Rattle.std.proofs.lemmas.Bool.{cases_lt, eqb-true, eqb-false}
 use Rattle.std.proofs.lemmas.List.{get_or_past, length-map}
 use Rattle.std.proofs.lemmas.List.Elements.{All-nil, All-cons, All-append, All-head, All-tail, Contains-append_cases, Contains-append_right}
+use Rattle.day_partitions.specs.Books.{all_traces}
+use Rattle.kept_books.specs.KeptBooks.{IsKeptBook, KeptState, traces_in}
 use Rattle.refute_tests.specs.Clearing.{HaveNamesBelow}
+use Rattle.trace_paths.proofs.BookLemmas.{All-unmap, all_in_days}
 use Rattle.trace_types.specs.declared.named_trace.NamedTrace.{NamedTrace}
 use Rattle.trace_types.specs.NamedSegments.{number_of_name}
 use Rattle.trace_types.specs.Parts.{by_number, segments_of}
@@ -93,3 +96,14 @@ durations_tell names segments durations t below n = (
     name_below [] all (k, lt, e) = absurd (omega arith)
     name_below (s ∷ xs) all (zero, lt, e) = let l = All-head (λ (x : Seg). x.name < names) s xs all in let same : s.name ≡ n = e in omega arith
     name_below (s ∷ xs) all (suc k, lt, e) = name_below xs (All-tail (λ (x : Seg). x.name < names) s xs all) (k, omega arith, e)
+
+-- the traces of a book, as they are lent: their names are those of the book, and they are few
+pub names_in_book : (k : KeptState) (ts : List (Bor NamedTrace)) → IsKeptBook k → map (λ (t : Bor NamedTrace). t.now) ts ≡ traces_in k → All (λ (t : Bor NamedTrace). HaveNamesBelow (length k.known.names) t.now) ts
+names_in_book k ts kept are =
+    All-unmap (HaveNamesBelow (length k.known.names)) (λ (t : Bor NamedTrace). t.now) ts
+    (subst (All (HaveNamesBelow (length k.known.names))) (sym are) (subst (λ (n : ℕ). All (HaveNamesBelow n) (all_traces k.book.days)) kept.names (all_in_days (HaveNamesBelow k.book.names) k.book.days kept.book.named)))
+
+pub few_in_book : (k : KeptState) (ts : List (Bor NamedTrace)) → IsKeptBook k → map (λ (t : Bor NamedTrace). t.now) ts ≡ traces_in k → length ts < 2 ^ 32
+few_in_book k ts kept are =
+    let most = kept.book.counted in
+    omega (arith, most, ap length are, length-map ts (λ (t : Bor NamedTrace). t.now))

@@ -11,6 +11,6 @@ mod segment_row_list;
 mod tables;
 
 pub use full_report::FullReport;
-pub use reporting::report;
+pub use reporting::{report, report_over};
 pub use segment_row::SegmentRow;
 pub use segment_row_list::SegmentRowList;

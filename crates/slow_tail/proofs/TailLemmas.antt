@@ -1,15 +1,21 @@
 -- The report, from its tables and marks.
-use Rattle.std.proofs.Common.{◌≡◌, ℕ, ◌<◌, Bool, cond, eqb, List, length, get_or, slice_get, Some, true, All, Contains, Ordering, arith, sym, ◌∙◌, subst}
+use Rattle.std.proofs.Common.{◌≡◌, ℕ, ◌<◌, ◌^◌, Bool, cond, eqb, List, map, length, get_or, slice_get, Some, true, All, Contains, Ordering, arith, ap, sym, ◌∙◌, subst}
+use Rattle.std.specs.Borrow.{Bor}
 use Rattle.std.specs.Prelude.{sum}
 use Rattle.std.proofs.lemmas.List.{length-map}
 use Rattle.std.proofs.lemmas.List.Elements.{Contains-get_or}
 use Rattle.std.proofs.lemmas.Option.{slice_get_within}
+use Rattle.day_partitions.specs.Books.{all_traces}
+use Rattle.kept_books.specs.KeptBooks.{IsKeptBook, KeptState, traces_in}
+use Rattle.refute_tests.specs.Clearing.{HaveNamesBelow}
 use Rattle.trace_types.specs.declared.named_segment.NamedSegment.{NamedSegment}
+use Rattle.trace_types.specs.declared.named_trace.NamedTrace.{NamedTrace}
 use Rattle.trace_types.specs.Listing.{ListsExactly}
 use Rattle.trace_types.specs.Parts.{Parts, by_number}
 use Rattle.trace_paths.specs.NumberedPaths.{IsNamedPath}
 use Rattle.trace_rules.specs.Durations.{has_name, durations_of}
 use Rattle.trace_paths.specs.Tables.{IsTableOf}
+use Rattle.trace_paths.proofs.BookLemmas.{All-unmap, all_in_days}
 use Rattle.trace_paths.proofs.PathTimeLemmas.{joined}
 use Rattle.slow_tail.specs.declared.tail_row.TailRow.{TailRow}
 use Rattle.slow_tail.specs.inner.TableRows.{IsTailRowFrom}
@@ -52,3 +58,14 @@ adds_up {A} {S} p same name latencies paths many = record {
   counts = sums_add_up (λ (path : List S). cond (has_name p same name path) 1 0) (slow_marks latencies) paths (length-marks latencies ∙ sym many);
   times = sums_add_up (λ (path : List S). sum (durations_of p same name path)) (slow_marks latencies) paths (length-marks latencies ∙ sym many);
 }
+
+-- the traces of a book, as they are lent: their names are those of the book, and they are few
+pub names_in_book : (k : KeptState) (ts : List (Bor NamedTrace)) → IsKeptBook k → map (λ (t : Bor NamedTrace). t.now) ts ≡ traces_in k → All (λ (t : Bor NamedTrace). HaveNamesBelow (length k.known.names) t.now) ts
+names_in_book k ts kept are =
+    All-unmap (HaveNamesBelow (length k.known.names)) (λ (t : Bor NamedTrace). t.now) ts
+    (subst (All (HaveNamesBelow (length k.known.names))) (sym are) (subst (λ (n : ℕ). All (HaveNamesBelow n) (all_traces k.book.days)) kept.names (all_in_days (HaveNamesBelow k.book.names) k.book.days kept.book.named)))
+
+pub few_in_book : (k : KeptState) (ts : List (Bor NamedTrace)) → IsKeptBook k → map (λ (t : Bor NamedTrace). t.now) ts ≡ traces_in k → length ts < 2 ^ 32
+few_in_book k ts kept are =
+    let most = kept.book.counted in
+    omega (arith, most, ap length are, length-map ts (λ (t : Bor NamedTrace). t.now))

@@ -16,4 +16,4 @@ mod tailing;
 pub use slow_report::SlowReport;
 pub use tail_row::TailRow;
 pub use tail_row_list::TailRowList;
-pub use tailing::tail;
+pub use tailing::{tail, tail_over};

@@ -1,0 +1,2 @@
+pub mod GainRows
+pub mod inner
