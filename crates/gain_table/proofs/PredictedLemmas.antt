@@ -1,12 +1,12 @@
 -- What a name gains in one trace is the difference of the lengths before and after the change of this
 -- name alone.
-use Rattle.std.proofs.Common.{◌≡◌, ◌≢◌, ◌⊎◌, ℕ, zero, suc, ◌+◌, ◌*◌, ◌/◌, ◌<◌, ◌≤◌, Bool, cond, eqb, List, [], ◌∷◌, length, get_or, set, slice_get, Some, arith, refl, sym, ap, ◌∙◌, subst, ⊎_elim, inl, inr}
-use Rattle.std.proofs.lemmas.Bool.{cases_eq, cases_lt, eq-eqb, ne_eqb}
+use Rattle.std.proofs.Common.{◌≡◌, ◌≢◌, ℕ, ◌+◌, ◌*◌, ◌/◌, ◌<◌, ◌≤◌, Bool, cond, List, [], ◌∷◌, length, get_or, set, slice_get, Some, arith, refl, sym, ap, ◌∙◌, subst, ⊎_elim}
+use Rattle.std.proofs.lemmas.Bool.{cases_eq, eq-eqb, ne_eqb}
 use Rattle.std.proofs.lemmas.List.{get_or-set_same, get_or-set_other, length-set}
 use Rattle.std.proofs.lemmas.Option.{slice_get_within}
 use Rattle.model_meet.specs.ModelStates.{ModelState}
 use Rattle.model_meet.specs.RelationBits.{KeepsExclusion}
-use Rattle.path_gains.specs.Gains.{IsGain, IsLoss}
+use Rattle.path_gains.specs.Gains.{IsLoss}
 use Rattle.path_gains.specs.declared.gain.Gain.{Gain}
 use Rattle.trace_figures.specs.Measured.{IsMeasured}
 use Rattle.trace_figures.specs.declared.trace_figures.TraceFigures.{TraceFigures}
@@ -15,7 +15,7 @@ use Rattle.trace_types.specs.declared.named_segment.NamedSegment.{NamedSegment}
 use Rattle.trace_types.specs.declared.named_trace.NamedTrace.{NamedTrace}
 use Rattle.weighted_dag.specs.Chains.{IsChain, IsLongestLength, chain_length}
 use Rattle.weighted_dag.specs.Graphs.{Graph, order_of, weight_of}
-use Rattle.what_if.specs.Forecasts.{AreChanged, changed_time}
+use Rattle.what_if.specs.Forecasts.{changed_time}
 use Rattle.what_if.specs.declared.change.Change.{Change}
 use Rattle.gain_table.specs.GainRows.{IsPredicted, takes_half, takes_none}
 use Rattle.gain_table.specs.inner.Growing.{HasName, IsGainOf, gain_at, nothing}

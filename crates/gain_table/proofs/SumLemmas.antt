@@ -1,13 +1,11 @@
 -- The rows over one more trace.
 use Rattle.std.proofs.Common.{◌≡◌, ℕ, zero, suc, ◌+◌, ◌*◌, ◌^◌, ◌<◌, ◌≤◌, List, [], ◌∷◌, ◌++◌, length, get_or, take, drop, arith, refl, sym, ap, ◌∙◌, subst}
 use Rattle.std.proofs.Math.Seq.{take-append_seam}
-use Rattle.std.specs.Prelude.{sum_by}
 use Rattle.std.specs.List.{AllZip}
 use Rattle.std.proofs.lemmas.List.{get_or_default}
 use Rattle.std.proofs.lemmas.List.Sums.{sum_by-append, sum_by-cons}
 use Rattle.model_meet.specs.ModelStates.{ModelState}
 use Rattle.model_meet.specs.RelationBits.{KeepsExclusion}
-use Rattle.path_gains.specs.declared.gain.Gain.{Gain}
 use Rattle.trace_figures.specs.Measured.{IsMeasured}
 use Rattle.trace_figures.specs.declared.trace_figures.TraceFigures.{TraceFigures}
 use Rattle.trace_rules.specs.declared.forecast.Forecast.{Forecast}
@@ -15,8 +13,7 @@ use Rattle.trace_types.specs.declared.named_trace.NamedTrace.{NamedTrace}
 use Rattle.what_if.specs.declared.change.Change.{Change}
 use Rattle.gain_table.specs.GainRows.{AreGainRows, IsGainOver, IsGainRow, IsPredicted, takes_half, takes_none}
 use Rattle.gain_table.specs.declared.gain_row.GainRow.{GainRow}
-use Rattle.gain_table.specs.inner.Growing.{HaveGrown, IsGainOf, empty_row, raised_row, row_at}
-use Rattle.gain_table.proofs.GrowingLemmas.{same_row}
+use Rattle.gain_table.specs.inner.Growing.{HaveGrown, empty_row, row_at}
 use Rattle.gain_table.proofs.PredictedLemmas.{losing, predicted_half, predicted_none}
 
 zip_push : {A B : Type 0} (R : A → B → Type 0) (xs : List A) (ys : List B) (x : A) (y : B) → AllZip R xs ys → R x y → AllZip R (xs ++ x ∷ []) (ys ++ y ∷ [])

@@ -1,15 +1,11 @@
-use Rattle.std.proofs.Common.{◌≡◌, ◌<◌, ◌^◌, ℕ, List, length, get_or, set, Some, slice_get, arith, refl, sym, ap, ◌∙◌, subst}
+use Rattle.std.proofs.Common.{◌≡◌, ◌<◌, ℕ, List, length, get_or, set, Some, slice_get, arith, refl, sym, ap, ◌∙◌, subst}
 use Rattle.std.proofs.lemmas.List.{get_or_default}
 use Rattle.std.proofs.lemmas.List.Elements.{Contains-get_or}
 use Rattle.std.proofs.lemmas.Option.{get_or_from_slice_get, slice_get-get_or}
 use Rattle.path_gains.specs.declared.gain.Gain.{Gain}
-use Rattle.trace_figures.specs.Measured.{IsMeasured}
-use Rattle.trace_rules.specs.TraceGraphs.{HasVertices}
-use Rattle.trace_types.specs.Parts.{by_number}
 use Rattle.trace_types.specs.declared.named_segment.NamedSegment.{NamedSegment}
 use Rattle.weighted_dag.specs.Graphs.{Graph, order_of, weight_of}
-use Rattle.gain_table.specs.declared.gain_row.GainRow.{GainRow}
-use Rattle.gain_table.specs.inner.Growing.{HasName, HasRoom, IsShort, gain_at, nothing, raised_row, row_at}
+use Rattle.gain_table.specs.inner.Growing.{HasName, IsShort, gain_at, nothing, raised_row, row_at}
 use Rattle.gain_table.proofs.GrowingLemmas.{grown_more, grown_none, has_room}
 use Rattle.gain_table.proofs.adding.add_gains.Goals as goal
 use Rattle.gain_table.proofs.adding.add_gains.Goals.{After-lasts_a_word}

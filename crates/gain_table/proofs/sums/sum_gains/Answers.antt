@@ -1,7 +1,5 @@
-use Rattle.std.proofs.Common.{◌≡◌, ◌<◌, ◌+◌, ◌*◌, ◌^◌, ◌≤◌, ◌++◌, ◌∷◌, [], ℕ, List, length, map, take, drop, get_or, arith, sym, ap, ◌∙◌, subst, rules}
+use Rattle.std.proofs.Common.{◌≡◌, ◌<◌, ◌+◌, ◌++◌, ◌∷◌, [], List, length, map, take, arith, sym, ap, ◌∙◌, subst, rules}
 use Rattle.std.specs.Borrow.{Bor}
-use Rattle.std.specs.List.{AllZip}
-use Rattle.std.proofs.Math.Seq.{take-append_seam}
 use Rattle.std.proofs.lemmas.List.{map-append, take_all, take_more}
 use Rattle.std.proofs.lemmas.Slice.Zip.{AllZip-long}
 use Rattle.model_meet.specs.ModelStates.{ModelState}
@@ -11,8 +9,8 @@ use Rattle.trace_figures.specs.declared.trace_figures.TraceFigures.{TraceFigures
 use Rattle.trace_types.specs.declared.named_trace.NamedTrace.{NamedTrace}
 use Rattle.gain_table.specs.GainRows.{AreGainRows}
 use Rattle.gain_table.specs.declared.gain_row.GainRow.{GainRow}
-use Rattle.gain_table.specs.inner.Growing.{HaveGrown, raised_row, row_at}
-use Rattle.gain_table.proofs.SumLemmas.{lent_at, more_half, more_none, rows_more, rows_none, written}
+use Rattle.gain_table.specs.inner.Growing.{HaveGrown}
+use Rattle.gain_table.proofs.SumLemmas.{lent_at, more_half, more_none, rows_more, written}
 use Rattle.gain_table.proofs.sums.sum_gains.Goals as goal
 
 -- the figures of a lent trace
